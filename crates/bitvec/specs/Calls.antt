@@ -1,0 +1,68 @@
+-- What the bit calls answer and leave.
+use mathlib.Core.Bool.{Bool, true, false, cond, _&&_}
+use mathlib.Core.List.{List}
+use Prim.Native.Nat.{ℕ, _+_, _-_, _*_, _/_}
+use lib.ListN.{length}
+use lib.Dec.{eqb, ltb, leb}
+use Rattle.words.specs.Refusals.{refusalNumber}
+use Rattle.bitvec.specs.Bits.{bitAt, setBit, fill}
+use Rattle.bitvec.specs.declared.Answer.{Answer}
+use Rattle.bitvec.specs.declared.Answer.the-variants.{Done, Refused}
+
+-- an answer by this paper's numbers: the refusal's, 0 for none; the bit that was read; the length
+pub record Bits : Type 0 where
+  pub no : ℕ
+  pub bit : Bool
+  pub len : ℕ
+
+-- a refusal has no bit, and the length as it was given
+abbrev pub paper : ℕ → Answer → Bits
+paper given (Done b v) = record { no = 0; bit = b; len = v .len }
+paper given (Refused y) = record { no = refusalNumber y; bit = false; len = given }
+
+abbrev pub done : Bool → ℕ → Bits
+done b len = record { no = 0; bit = b; len = len }
+
+abbrev pub badBit : ℕ → Bits
+badBit given = record { no = 10; bit = false; len = given }
+
+-- refusal 10: "length above bytes × 8; bit at or past the length"
+unfoldable pub allowed : ℕ → ℕ → ℕ → Bool
+allowed n len i = leb len (n * 8) && ltb i len
+
+unfoldable pub getRule : List ℕ → ℕ → ℕ → Bits
+getRule s len i = cond (allowed (length s) len i) (done (bitAt s i) len) (badBit len)
+
+unfoldable pub setRule : List ℕ → ℕ → ℕ → Bits
+setRule s len i = cond (allowed (length s) len i) (done false len) (badBit len)
+
+unfoldable pub setBytes : List ℕ → ℕ → ℕ → Bool → List ℕ
+setBytes s len i v = cond (allowed (length s) len i) (setBit s i v) s
+
+-- "push with no byte left"
+unfoldable pub pushRule : List ℕ → ℕ → Bits
+pushRule s len = cond (ltb len (length s * 8)) (done false (len + 1)) (badBit len)
+
+unfoldable pub pushBytes : List ℕ → ℕ → Bool → List ℕ
+pushBytes s len v = cond (ltb len (length s * 8)) (setBit s len v) s
+
+-- "pop .. of nothing"
+unfoldable pub popRule : List ℕ → ℕ → Bits
+popRule s len = cond (leb len (length s * 8) && ltb 0 len) (done (bitAt s (len - 1)) (len - 1)) (badBit len)
+
+unfoldable pub swapRemoveRule : List ℕ → ℕ → ℕ → Bits
+swapRemoveRule s len i = cond (allowed (length s) len i) (done (bitAt s i) (len - 1)) (badBit len)
+
+unfoldable pub swapRemoveBytes : List ℕ → ℕ → ℕ → List ℕ
+swapRemoveBytes s len i =
+    cond (allowed (length s) len i) (cond (eqb (i + 1) len) s (setBit s i (bitAt s (len - 1)))) s
+
+-- "`from_elem` fills each byte it needs and no other"
+unfoldable pub bytesFor : ℕ → ℕ
+bytesFor len = (len + 7) / 8
+
+unfoldable pub fromElemRule : List ℕ → ℕ → Bits
+fromElemRule s len = cond (leb len (length s * 8)) (done false len) (badBit 0)
+
+unfoldable pub fromElemBytes : List ℕ → ℕ → Bool → List ℕ
+fromElemBytes s len v = cond (leb len (length s * 8)) (fill (bytesFor len) (cond v 255 0) s) s

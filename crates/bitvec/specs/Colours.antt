@@ -1,0 +1,17 @@
+-- "Colours: .. 1 is red."
+use mathlib.Core.Bool.{Bool, false}
+use mathlib.Core.List.{List}
+use Prim.Native.Nat.{ℕ}
+use Rattle.words.specs.Ix.{linkOf, onLink}
+use Rattle.bitvec.specs.Bits.{bitAt, setBit}
+
+abbrev pub red : List ℕ → ℕ → Bool
+red C s = bitAt C s
+
+-- the colour bytes with slot s made red or black
+abbrev pub dye : List ℕ → ℕ → Bool → List ℕ
+dye C s v = setBit C s v
+
+-- a link leads to a red slot
+abbrev pub redAt : ℕ → List ℕ → ℕ → Bool
+redAt n C k = onLink (linkOf n k) (λ s. red C s) false

@@ -1,0 +1,46 @@
+// The colours of the nodes: a bit for each slot, 1 is red.
+use words::ix::Link;
+ghost use mathlib.Core.Path.{_≡_};
+ghost use mathlib.Core.Bool.{true, false, not};
+ghost use Prim.Native.Nat.{_*_, _≤_, _<_};
+ghost use lib.ListN.{length};
+ghost use Rattle.bitvec.specs.Colours.{red, redAt, dye};
+
+pub fn is_red(colours: &[u8], ix: u64) -> bool
+    requires { ⌜ ix < length (now colours) * 8 ⌝ }
+    ensures { λ r. ⌜ r ≡ red (now (colours .entry)) ix ⌝ }
+{
+    crate::bit_at(colours, ix as usize)
+}
+
+pub fn is_black(colours: &[u8], ix: u64) -> bool
+    requires { ⌜ ix < length (now colours) * 8 ⌝ }
+    ensures { λ r. ⌜ r ≡ not (red (now (colours .entry)) ix) ⌝ }
+{
+    !is_red(colours, ix)
+}
+
+// A link leads to a black slot or to none.
+pub fn is_black_or_nil(colours: &[u8], count: u64, word: u64) -> bool
+    requires { ⌜ count ≤ length (now colours) * 8 ⌝ }
+    ensures { λ r. ⌜ r ≡ not (redAt count (now (colours .entry)) word) ⌝ }
+{
+    let Link::Slot(ix) = Link::new(word, count) else {
+        return true;
+    };
+    is_black(colours, ix)
+}
+
+pub fn set_red(colours: &mut [u8], ix: u64)
+    requires { ⌜ ix < length (now colours) * 8 ⌝ }
+    ensures { λ _. ⌜ now (colours .exit) ≡ dye (now (colours .entry)) ix true ⌝ }
+{
+    crate::put_bit(colours, ix as usize, true);
+}
+
+pub fn set_black(colours: &mut [u8], ix: u64)
+    requires { ⌜ ix < length (now colours) * 8 ⌝ }
+    ensures { λ _. ⌜ now (colours .exit) ≡ dye (now (colours .entry)) ix false ⌝ }
+{
+    crate::put_bit(colours, ix as usize, false);
+}

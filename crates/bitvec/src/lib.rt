@@ -1,0 +1,178 @@
+// A vector of bits in lent bytes: a port of src/bitvec.rs. Bit i is bit i mod 8 of byte i div 8. The vector is its
+// length, which goes in by value; a call that changes it hands the new one back.
+pub mod colours;
+
+use words::refusal::Refusal;
+ghost use mathlib.Core.Path.{_≡_};
+ghost use Prim.Native.Nat.{_+_, _*_, _/_, _%_, _^_, _≤_, _<_};
+ghost use lib.ListN.{length};
+ghost use lib.Dec.{leb};
+ghost use Rattle.bitvec.specs.Bits.{bit, put, bitAt, setBit, fill};
+ghost use Rattle.bitvec.specs.Calls.{allowed, bytesFor, paper, getRule, setRule, setBytes, pushRule, pushBytes, popRule, swapRemoveRule, swapRemoveBytes, fromElemRule, fromElemBytes};
+
+pub struct BitVec {
+    pub len: usize,
+}
+
+// What a call answers: the bit that it read, false where it reads none, and the vector after it; or the refusal.
+pub enum Answer {
+    Done(bool, BitVec),
+    Refused(Refusal),
+}
+
+// The weight of bit j of a byte.
+fn weight(j: usize) -> u8
+    requires { ⌜ j < 8 ⌝ }
+    ensures { λ r. ⌜ r ≡ 2 ^ j ⌝ }
+{
+    1 << j
+}
+
+// Bit j of a byte.
+fn bit_of(b: u8, j: usize) -> bool
+    requires { ⌜ j < 8 ⌝ }
+    ensures { λ r. ⌜ r ≡ bit b j ⌝ }
+{
+    b / weight(j) % 2 == 1
+}
+
+// The byte b with v in bit j: what is above the bit, the bit, what is below it.
+fn with_bit(b: u8, j: usize, v: bool) -> u8
+    requires { ⌜ j < 8 ⌝ }
+    ensures { λ r. ⌜ r ≡ put b j v ⌝ }
+{
+    let w = weight(j);
+    let one: u8 = if v { 1 } else { 0 };
+    (b / w / 2 * 2 + one) * w + b % w
+}
+
+// Bit i, which the bytes have.
+pub fn bit_at(bytes: &[u8], i: usize) -> bool
+    requires { ⌜ i / 8 < length (now bytes) ⌝ }
+    ensures { λ r. ⌜ r ≡ bitAt (now (bytes .entry)) i ⌝ }
+{
+    let at = i / 8;
+    bit_of(bytes[at], i % 8)
+}
+
+// Writes bit i, which the bytes have, and no other.
+pub fn put_bit(bytes: &mut [u8], i: usize, v: bool)
+    requires { ⌜ i / 8 < length (now bytes) ⌝ }
+    ensures { λ _. ⌜ now (bytes .exit) ≡ setBit (now (bytes .entry)) i v ⌝ }
+{
+    let at = i / 8;
+    bytes[at] = with_bit(bytes[at], i % 8, v);
+}
+
+// How many bytes so many bits take.
+fn get_byte_len(bit_len: usize) -> usize
+    ensures { λ r. ⌜ r ≡ bytesFor «bit_len» ⌝ }
+{
+    if bit_len % 8 > 0 {
+        bit_len / 8 + 1
+    } else {
+        bit_len / 8
+    }
+}
+
+// Whether n bytes hold len bits; len may be any number.
+fn holds(n: usize, len: usize) -> bool
+    ensures { λ r. ⌜ r ≡ leb len (n * 8) ⌝ }
+{
+    get_byte_len(len) <= n
+}
+
+// Whether bit i of len bits in n bytes can be asked for.
+fn has_bit(n: usize, len: usize, i: usize) -> bool
+    ensures { λ r. ⌜ r ≡ allowed n len i ⌝ }
+{
+    holds(n, len) & (i < len)
+}
+
+// Writes x to each of the first n bytes.
+fn fill_bytes(bytes: &mut [u8], n: usize, x: u8)
+    requires { ⌜ n ≤ length (now bytes) ⌝ }
+    ensures { λ _. ⌜ now (bytes .exit) ≡ fill n x (now (bytes .entry)) ⌝ }
+{
+    let mut j = 0;
+    while j < n {
+        bytes[j] = x;
+        j += 1;
+    }
+}
+
+impl BitVec {
+    // A vector of len bits, each of them elem. Only the bytes that they take are written.
+    pub fn from_elem(bytes: &mut [u8], len: usize, elem: bool) -> Answer
+        ensures { λ r. ⌜ (paper 0 r ≡ fromElemRule (now (bytes .entry)) len) × (now (bytes .exit) ≡ fromElemBytes (now (bytes .entry)) len elem) ⌝ }
+    {
+        if !holds(bytes.len(), len) {
+            return Answer::Refused(Refusal::BadBit);
+        }
+        let x: u8 = if elem { 255 } else { 0 };
+        fill_bytes(bytes, get_byte_len(len), x);
+        Answer::Done(false, BitVec { len })
+    }
+
+    pub fn get(self, bytes: &[u8], i: usize) -> Answer
+        ensures { λ r. ⌜ paper (self .len) r ≡ getRule (now (bytes .entry)) (self .len) i ⌝ }
+    {
+        if has_bit(bytes.len(), self.len, i) {
+            Answer::Done(bit_at(bytes, i), self)
+        } else {
+            Answer::Refused(Refusal::BadBit)
+        }
+    }
+
+    pub fn set(self, bytes: &mut [u8], i: usize, value: bool) -> Answer
+        ensures { λ r. ⌜ (paper (self .len) r ≡ setRule (now (bytes .entry)) (self .len) i) × (now (bytes .exit) ≡ setBytes (now (bytes .entry)) (self .len) i value) ⌝ }
+    {
+        if has_bit(bytes.len(), self.len, i) {
+            put_bit(bytes, i, value);
+            Answer::Done(false, self)
+        } else {
+            Answer::Refused(Refusal::BadBit)
+        }
+    }
+
+    // The new bit is written; the others of its byte stay.
+    pub fn push(self, bytes: &mut [u8], value: bool) -> Answer
+        ensures { λ r. ⌜ (paper (self .len) r ≡ pushRule (now (bytes .entry)) (self .len)) × (now (bytes .exit) ≡ pushBytes (now (bytes .entry)) (self .len) value) ⌝ }
+    {
+        let len = self.len;
+        if len / 8 < bytes.len() {
+            put_bit(bytes, len, value);
+            Answer::Done(false, BitVec { len: len + 1 })
+        } else {
+            Answer::Refused(Refusal::BadBit)
+        }
+    }
+
+    // The last bit; no byte is written.
+    pub fn pop(self, bytes: &[u8]) -> Answer
+        ensures { λ r. ⌜ paper (self .len) r ≡ popRule (now (bytes .entry)) (self .len) ⌝ }
+    {
+        let len = self.len;
+        if holds(bytes.len(), len) & (0 < len) {
+            Answer::Done(bit_at(bytes, len - 1), BitVec { len: len - 1 })
+        } else {
+            Answer::Refused(Refusal::BadBit)
+        }
+    }
+
+    // Bit i; the last bit takes its place.
+    pub fn swap_remove(self, bytes: &mut [u8], i: usize) -> Answer
+        ensures { λ r. ⌜ (paper (self .len) r ≡ swapRemoveRule (now (bytes .entry)) (self .len) i) × (now (bytes .exit) ≡ swapRemoveBytes (now (bytes .entry)) (self .len) i) ⌝ }
+    {
+        let len = self.len;
+        if !has_bit(bytes.len(), len, i) {
+            return Answer::Refused(Refusal::BadBit);
+        }
+        let old_val = bit_at(bytes, i);
+        let last = bit_at(bytes, len - 1);
+        if i + 1 != len {
+            put_bit(bytes, i, last);
+        }
+        Answer::Done(old_val, BitVec { len: len - 1 })
+    }
+}

@@ -1,0 +1,17 @@
+use Rattle.words.specs.Nodes.{putNode}
+use borrow.Author.Needs.{needs}
+use Rattle.words.proofs.node.put_node.Statement.{statement}
+use Rattle.words.proofs.node.put_node.Tie as tie
+
+pub put-node-spec : {M : Type 1} → statement M
+unfolding putNode
+put-node-spec =
+    tie.close
+    (tie.spec
+    (λ c κs. search needs)
+    (λ c κs. search needs)
+    (λ c κs. search needs)
+    (λ c κs. search needs)
+    (λ c κs. search needs)
+    (λ c. search needs)
+    (λ c. cc))

@@ -1,0 +1,27 @@
+-- Links: a slot, or none.
+use mathlib.Core.Bool.{Bool, cond}
+use Prim.Native.Nat.{ℕ}
+use lib.Dec.{leb}
+use Rattle.words.specs.declared.ix.Link.{Link}
+use Rattle.words.specs.declared.ix.Link.the-variants.{Slot, Nil}
+
+-- "The undefined link U is 4294967295."
+abbrev pub U : ℕ
+U = 4294967295
+
+-- a link word leads to no slot of a store of n entries: it is not below the count
+abbrev pub gone : ℕ → ℕ → Bool
+gone n k = leb n k
+
+-- the link of a word, and the word of a link
+abbrev pub linkOf : ℕ → ℕ → Link
+linkOf n k = cond (gone n k) Nil (Slot k)
+
+abbrev pub linkWord : Link → ℕ
+linkWord (Slot k) = k
+linkWord Nil = U
+
+-- by cases on a link: f of its slot, or z
+abbrev pub onLink : {A : Type 0} → Link → (ℕ → A) → A → A
+onLink (Slot k) f z = f k
+onLink Nil f z = z

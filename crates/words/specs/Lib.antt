@@ -1,0 +1,4 @@
+pub mod Ix
+pub mod Refusals
+pub mod Intervals
+pub mod Nodes

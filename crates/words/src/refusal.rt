@@ -1,0 +1,37 @@
+// Why a call was refused.
+ghost use mathlib.Core.Path.{_≡_};
+ghost use Rattle.words.specs.Refusals.{refusalNumber};
+
+// The ten refusals, in the order of their numbers.
+pub enum Refusal {
+    NoRoom,
+    Broken,
+    NoSuch,
+    BadRange,
+    BadInterval,
+    NotSorted,
+    BadCursor,
+    BadList,
+    ShortOutput,
+    BadBit,
+}
+
+impl Refusal {
+    // The refusal's number, from 1; 0 stands for none.
+    pub fn number(self) -> u64
+        ensures { λ r. ⌜ r ≡ refusalNumber self ⌝ }
+    {
+        match self {
+            Refusal::NoRoom => 1,
+            Refusal::Broken => 2,
+            Refusal::NoSuch => 3,
+            Refusal::BadRange => 4,
+            Refusal::BadInterval => 5,
+            Refusal::NotSorted => 6,
+            Refusal::BadCursor => 7,
+            Refusal::BadList => 8,
+            Refusal::ShortOutput => 9,
+            Refusal::BadBit => 10,
+        }
+    }
+}
