@@ -39,23 +39,29 @@ setRule s len i = cond (allowed (length s) len i) (done false len) (badBit len)
 unfoldable pub setBytes : List ℕ → ℕ → ℕ → Bool → List ℕ
 setBytes s len i v = cond (allowed (length s) len i) (setBit s i v) s
 
--- "push with no byte left"
+-- "push with no byte left"; and the length is a 64-bit number, so one of 2^64 - 1 has no next
+unfoldable pub roomy : ℕ → ℕ → Bool
+roomy n len = ltb len (n * 8) && ltb len 18446744073709551615
+
 unfoldable pub pushRule : List ℕ → ℕ → Bits
-pushRule s len = cond (ltb len (length s * 8)) (done false (len + 1)) (badBit len)
+pushRule s len = cond (roomy (length s) len) (done false (len + 1)) (badBit len)
 
 unfoldable pub pushBytes : List ℕ → ℕ → Bool → List ℕ
-pushBytes s len v = cond (ltb len (length s * 8)) (setBit s len v) s
+pushBytes s len v = cond (roomy (length s) len) (setBit s len v) s
 
--- "pop .. of nothing"
+-- "pop .. of nothing": there is no bit 0
 unfoldable pub popRule : List ℕ → ℕ → Bits
-popRule s len = cond (leb len (length s * 8) && ltb 0 len) (done (bitAt s (len - 1)) (len - 1)) (badBit len)
+popRule s len = cond (allowed (length s) len 0) (done (bitAt s (len - 1)) (len - 1)) (badBit len)
 
 unfoldable pub swapRemoveRule : List ℕ → ℕ → ℕ → Bits
 swapRemoveRule s len i = cond (allowed (length s) len i) (done (bitAt s i) (len - 1)) (badBit len)
 
+-- the last bit takes the place of bit i
+unfoldable pub gapClosed : List ℕ → ℕ → ℕ → List ℕ
+gapClosed s len i = cond (eqb (i + 1) len) s (setBit s i (bitAt s (len - 1)))
+
 unfoldable pub swapRemoveBytes : List ℕ → ℕ → ℕ → List ℕ
-swapRemoveBytes s len i =
-    cond (allowed (length s) len i) (cond (eqb (i + 1) len) s (setBit s i (bitAt s (len - 1)))) s
+swapRemoveBytes s len i = cond (allowed (length s) len i) (gapClosed s len i) s
 
 -- "`from_elem` fills each byte it needs and no other"
 unfoldable pub bytesFor : ℕ → ℕ

@@ -4,11 +4,12 @@ pub mod colours;
 
 use words::refusal::Refusal;
 ghost use mathlib.Core.Path.{_≡_};
+ghost use mathlib.Core.Bool.{cond};
 ghost use Prim.Native.Nat.{_+_, _*_, _/_, _%_, _^_, _≤_, _<_};
 ghost use lib.ListN.{length};
 ghost use lib.Dec.{leb};
 ghost use Rattle.bitvec.specs.Bits.{bit, put, bitAt, setBit, fill};
-ghost use Rattle.bitvec.specs.Calls.{allowed, bytesFor, paper, getRule, setRule, setBytes, pushRule, pushBytes, popRule, swapRemoveRule, swapRemoveBytes, fromElemRule, fromElemBytes};
+ghost use Rattle.bitvec.specs.Calls.{allowed, roomy, bytesFor, paper, getRule, setRule, setBytes, pushRule, pushBytes, popRule, swapRemoveRule, gapClosed, swapRemoveBytes, fromElemRule, fromElemBytes};
 
 pub struct BitVec {
     pub len: usize,
@@ -36,14 +37,19 @@ fn bit_of(b: u8, j: usize) -> bool
     b / weight(j) % 2 == 1
 }
 
+fn number_of(v: bool) -> u8
+    ensures { λ r. ⌜ (r ≡ cond v 1 0) × (r < 2) ⌝ }
+{
+    if v { 1 } else { 0 }
+}
+
 // The byte b with v in bit j: what is above the bit, the bit, what is below it.
 fn with_bit(b: u8, j: usize, v: bool) -> u8
     requires { ⌜ j < 8 ⌝ }
     ensures { λ r. ⌜ r ≡ put b j v ⌝ }
 {
     let w = weight(j);
-    let one: u8 = if v { 1 } else { 0 };
-    (b / w / 2 * 2 + one) * w + b % w
+    (b / w / 2 * 2 + number_of(v)) * w + b % w
 }
 
 // Bit i, which the bytes have.
@@ -89,6 +95,20 @@ fn has_bit(n: usize, len: usize, i: usize) -> bool
     holds(n, len) & (i < len)
 }
 
+// Whether n bytes have a bit after len bits. A length of 2^64 - 1 has no next one, in however many bytes.
+fn has_room(n: usize, len: usize) -> bool
+    ensures { λ r. ⌜ r ≡ roomy n len ⌝ }
+{
+    (len / 8 < n) & (len < 18446744073709551615)
+}
+
+// The byte whose eight bits are v.
+fn byte_of(v: bool) -> u8
+    ensures { λ r. ⌜ r ≡ cond v 255 0 ⌝ }
+{
+    if v { 255 } else { 0 }
+}
+
 // Writes x to each of the first n bytes.
 fn fill_bytes(bytes: &mut [u8], n: usize, x: u8)
     requires { ⌜ n ≤ length (now bytes) ⌝ }
@@ -101,17 +121,28 @@ fn fill_bytes(bytes: &mut [u8], n: usize, x: u8)
     }
 }
 
+// The last of len bits takes the place of bit i, unless it is that bit.
+fn close_gap(bytes: &mut [u8], len: usize, i: usize)
+    requires { ⌜ (len ≤ length (now bytes) * 8) × (i < len) ⌝ }
+    ensures { λ _. ⌜ now (bytes .exit) ≡ gapClosed (now (bytes .entry)) len i ⌝ }
+{
+    if i + 1 != len {
+        let last = bit_at(bytes, len - 1);
+        put_bit(bytes, i, last);
+    }
+}
+
 impl BitVec {
     // A vector of len bits, each of them elem. Only the bytes that they take are written.
     pub fn from_elem(bytes: &mut [u8], len: usize, elem: bool) -> Answer
         ensures { λ r. ⌜ (paper 0 r ≡ fromElemRule (now (bytes .entry)) len) × (now (bytes .exit) ≡ fromElemBytes (now (bytes .entry)) len elem) ⌝ }
     {
-        if !holds(bytes.len(), len) {
-            return Answer::Refused(Refusal::BadBit);
+        if holds(bytes.len(), len) {
+            fill_bytes(bytes, get_byte_len(len), byte_of(elem));
+            Answer::Done(false, BitVec { len })
+        } else {
+            Answer::Refused(Refusal::BadBit)
         }
-        let x: u8 = if elem { 255 } else { 0 };
-        fill_bytes(bytes, get_byte_len(len), x);
-        Answer::Done(false, BitVec { len })
     }
 
     pub fn get(self, bytes: &[u8], i: usize) -> Answer
@@ -140,7 +171,7 @@ impl BitVec {
         ensures { λ r. ⌜ (paper (self .len) r ≡ pushRule (now (bytes .entry)) (self .len)) × (now (bytes .exit) ≡ pushBytes (now (bytes .entry)) (self .len) value) ⌝ }
     {
         let len = self.len;
-        if len / 8 < bytes.len() {
+        if has_room(bytes.len(), len) {
             put_bit(bytes, len, value);
             Answer::Done(false, BitVec { len: len + 1 })
         } else {
@@ -153,7 +184,7 @@ impl BitVec {
         ensures { λ r. ⌜ paper (self .len) r ≡ popRule (now (bytes .entry)) (self .len) ⌝ }
     {
         let len = self.len;
-        if holds(bytes.len(), len) & (0 < len) {
+        if has_bit(bytes.len(), len, 0) {
             Answer::Done(bit_at(bytes, len - 1), BitVec { len: len - 1 })
         } else {
             Answer::Refused(Refusal::BadBit)
@@ -165,14 +196,12 @@ impl BitVec {
         ensures { λ r. ⌜ (paper (self .len) r ≡ swapRemoveRule (now (bytes .entry)) (self .len) i) × (now (bytes .exit) ≡ swapRemoveBytes (now (bytes .entry)) (self .len) i) ⌝ }
     {
         let len = self.len;
-        if !has_bit(bytes.len(), len, i) {
-            return Answer::Refused(Refusal::BadBit);
+        if has_bit(bytes.len(), len, i) {
+            let old_val = bit_at(bytes, i);
+            close_gap(bytes, len, i);
+            Answer::Done(old_val, BitVec { len: len - 1 })
+        } else {
+            Answer::Refused(Refusal::BadBit)
         }
-        let old_val = bit_at(bytes, i);
-        let last = bit_at(bytes, len - 1);
-        if i + 1 != len {
-            put_bit(bytes, i, last);
-        }
-        Answer::Done(old_val, BitVec { len: len - 1 })
     }
 }

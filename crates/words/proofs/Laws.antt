@@ -37,3 +37,6 @@ slot-room n k s len l e q h = omega (arith, slot-live n k s l e q)
 
 pub extended-by : (r d h x : Interval) → h ≡ x → r ≡ extended d h → r ≡ extended d x
 extended-by r d h x e q = q ∙ ap (λ (i : Interval). extended d i) e
+
+pub slot-below : (n k s len : ℕ) (l : Link) → l ≡ linkOf n k → l ≡ Slot s → n ≤ len → s < len
+slot-below n k s len l e q h = omega (arith, slot-live n k s l e q)
