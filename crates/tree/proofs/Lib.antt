@@ -1,0 +1,10 @@
+pub mod Cases
+pub mod Slots
+pub mod Frames
+pub mod Orders
+pub mod Sizes
+pub mod Once
+pub mod Balance
+pub mod Hulls
+pub mod Views
+pub mod Checked

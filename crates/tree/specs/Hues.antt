@@ -1,0 +1,32 @@
+-- The colours of a tree. K says of each slot whether it is red.
+use mathlib.Core.Path.{_≡_}
+use mathlib.Core.Bool.{Bool, true, false}
+use Prim.Native.Nat.{ℕ, _+_}
+use Rattle.tree.specs.Tree.{Tree, leaf, node}
+
+-- what a node counts among the blacks: 0 if it is red, 1 if it is black
+abbrev pub dark : Bool → ℕ
+dark true = 0
+dark false = 1
+
+-- the root is there, and it is red
+abbrev pub rootRed : (ℕ → Bool) → Tree → Bool
+rootRed K leaf = false
+rootRed K (node l s r) = K s
+
+-- the blacks on the way down to the left
+abbrev pub blacks : (ℕ → Bool) → Tree → ℕ
+blacks K leaf = 0
+blacks K (node l s r) = dark (K s) + blacks K l
+
+-- At the node s: if it is red, neither child is; both ways down pass equally many blacks; L and R hold of its two subtrees.
+pub record Hue (K : ℕ → Bool) (l : Tree) (s : ℕ) (r : Tree) (L R : Type 0) : Type 0 where
+  pub calm : K s ≡ true → (rootRed K l ≡ false) × (rootRed K r ≡ false)
+  pub even : blacks K l ≡ blacks K r
+  pub left : L
+  pub right : R
+
+-- "no red node has a red child; every way down to U passes equally many blacks"
+abbrev pub Hues : (ℕ → Bool) → Tree → Type 0
+Hues K leaf = Unit {0}
+Hues K (node l s r) = Hue K l s r (Hues K l) (Hues K r)

@@ -1,0 +1,7 @@
+pub mod Tree
+pub mod Zipper
+pub mod Order
+pub mod Hulls
+pub mod Hues
+pub mod Passes
+pub mod View

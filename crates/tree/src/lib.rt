@@ -1,0 +1,1 @@
+// Theory alone: what a store's tree is, and its laws.
