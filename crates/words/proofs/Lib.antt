@@ -1,3 +1,4 @@
 pub mod Laws
 pub mod Nodes
 pub mod Refusals
+pub mod Tests

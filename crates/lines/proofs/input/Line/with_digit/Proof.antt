@@ -1,0 +1,19 @@
+use Rattle.lines.proofs.Laws.{too-great, too-great-sum, one-more}
+use borrow.Author.Needs.{needs}
+use Rattle.lines.proofs.input.Line.with_digit.Statement.{statement}
+use Rattle.lines.proofs.input.Line.with_digit.Tie as tie
+
+pub with-digit-spec : {M : Type 1} → statement M
+with-digit-spec =
+    tie.close
+    (tie.spec
+    (λ c κs. search needs)
+    (λ c. search (too-great, too-great-sum, one-more))
+    (λ c. search needs)
+    (λ c. search needs)
+    (λ c κs. search needs)
+    (λ c. search (too-great, too-great-sum, one-more))
+    (λ c. search needs)
+    (λ c. search needs)
+    (λ c κs. search needs)
+    (λ c. search (too-great, too-great-sum, one-more)))

@@ -1,0 +1,43 @@
+-- A line of a name and numbers, byte by byte.
+use mathlib.Core.Bool.{Bool, true, false, cond}
+use mathlib.Core.List.{List}
+use Prim.Native.Nat.{ℕ, _+_, _-_, _*_}
+use lib.ListN.{length, set}
+use lib.Dec.{eqb, ltb, leb}
+use Rattle.lines.specs.declared.input.Line.{Line}
+use Rattle.lines.specs.declared.input.Part.{Part}
+use Rattle.lines.specs.declared.input.Part.the-variants.{Start, Name, Number, Gap, Wrong}
+use Rattle.lines.specs.declared.input.Digit.{Digit}
+use Rattle.lines.specs.declared.input.Digit.the-variants.{Is, Not}
+
+abbrev pub startOf : Line
+startOf = record { part = Start; name = 0; count = 0; value = 0 }
+
+-- the digits are the bytes 48 to 57
+unfoldable pub digitOf : ℕ → Digit
+digitOf b = cond (ltb b 48) Not (cond (ltb 57 b) Not (Is (b - 48)))
+
+abbrev pub lineAt : Line → Part → ℕ → Line
+lineAt l p v = record { part = p; name = l .name; count = l .count; value = v }
+
+-- one more digit; a number has at most 64 bits
+unfoldable pub withDigit : Line → ℕ → Line
+withDigit l d = cond (ltb (l .value * 10 + d) 18446744073709551616) (lineAt l Number (l .value * 10 + d)) (lineAt l Wrong 0)
+
+-- one more byte of the name; after a space a number may begin
+unfoldable pub withLetter : Line → ℕ → ℕ → Line
+withLetter l b room =
+    cond (leb room (l .name)) (lineAt l Wrong 0)
+    (cond (eqb b 32)
+    (record { part = Start; name = l .name + 1; count = l .count; value = 0 })
+    (record { part = Name; name = l .name + 1; count = l .count; value = 0 }))
+
+abbrev pub nameAfter : Line → ℕ → List ℕ → List ℕ
+nameAfter l b s = set s (l .name) b
+
+-- the number is complete
+unfoldable pub closed : Line → ℕ → Line
+closed l room = cond (leb room (l .count)) (lineAt l Wrong 0) (record { part = Gap; name = l .name; count = l .count + 1; value = 0 })
+
+abbrev pub numbersAfter : Line → List ℕ → List ℕ
+numbersAfter l s = set s (l .count) (l .value)

@@ -1,0 +1,188 @@
+// A line read byte by byte: a name, then numbers, each after one space. The name is all before the first number, its
+// spaces included; it is empty where the line begins with a number.
+ghost use mathlib.Core.Path.{_≡_};
+ghost use Prim.Native.Nat.{_<_};
+ghost use lib.ListN.{length};
+ghost use Rattle.lines.specs.Input.{startOf, digitOf, lineAt, withDigit, withLetter, nameAfter, closed, numbersAfter};
+
+const SPACE: u8 = 32;
+
+// What the next byte may be. Start: a number may begin, or the name goes on. A line that went wrong stays so.
+pub enum Part {
+    Start,
+    Name,
+    Number,
+    Gap,
+    Wrong,
+}
+
+// A line so far: the length of its name, how many numbers are complete, and the number that is being read.
+pub struct Line {
+    pub part: Part,
+    pub name: usize,
+    pub count: usize,
+    pub value: u64,
+}
+
+pub enum Digit {
+    Is(u64),
+    Not,
+}
+
+fn wide(b: u8) -> u64
+    ensures { λ r. ⌜ r ≡ b ⌝ }
+{
+    b as u64
+}
+
+pub fn digit_of(b: u8) -> Digit
+    ensures { λ r. ⌜ r ≡ digitOf b ⌝ }
+{
+    if b < 48 {
+        return Digit::Not;
+    }
+    if 57 < b {
+        return Digit::Not;
+    }
+    Digit::Is(wide(b) - 48)
+}
+
+impl Line {
+    pub fn new() -> Line
+        ensures { λ r. ⌜ r ≡ startOf ⌝ }
+    {
+        Line {
+            part: Part::Start,
+            name: 0,
+            count: 0,
+            value: 0,
+        }
+    }
+
+    fn at(self, part: Part, value: u64) -> Line
+        ensures { λ r. ⌜ r ≡ lineAt self part value ⌝ }
+    {
+        Line {
+            part,
+            name: self.name,
+            count: self.count,
+            value,
+        }
+    }
+
+    // One more digit of the number; a number above 2^64 - 1 makes the line wrong.
+    fn with_digit(self, d: u64) -> Line
+        ensures { λ r. ⌜ r ≡ withDigit self d ⌝ }
+    {
+        let value = self.value;
+        if 1844674407370955161 < value {
+            return self.at(Part::Wrong, 0);
+        }
+        if 18446744073709551615 - value * 10 < d {
+            return self.at(Part::Wrong, 0);
+        }
+        self.at(Part::Number, value * 10 + d)
+    }
+
+    // One more byte of the name, for which there has to be room.
+    fn with_letter(self, b: u8, name: &mut [u8]) -> Line
+        ensures { λ r. ⌜ (r ≡ withLetter self b (length (now (name .entry)))) × (now (name .exit) ≡ nameAfter self b (now (name .entry))) ⌝ }
+    {
+        let n = self.name;
+        if name.len() <= n {
+            return self.at(Part::Wrong, 0);
+        }
+        name[n] = b;
+        if b == SPACE {
+            return Line {
+                part: Part::Start,
+                name: n + 1,
+                count: self.count,
+                value: 0,
+            };
+        }
+        Line {
+            part: Part::Name,
+            name: n + 1,
+            count: self.count,
+            value: 0,
+        }
+    }
+
+    // The number is complete, and there has to be room for it.
+    fn close(self, numbers: &mut [u64]) -> Line
+        ensures { λ r. ⌜ (r ≡ closed self (length (now (numbers .entry)))) × (now (numbers .exit) ≡ numbersAfter self (now (numbers .entry))) ⌝ }
+    {
+        let n = self.count;
+        if numbers.len() <= n {
+            return self.at(Part::Wrong, 0);
+        }
+        numbers[n] = self.value;
+        Line {
+            part: Part::Gap,
+            name: self.name,
+            count: n + 1,
+            value: 0,
+        }
+    }
+
+    fn in_start(self, b: u8, name: &mut [u8]) -> Line {
+        match digit_of(b) {
+            Digit::Is(d) => self.at(Part::Number, d),
+            Digit::Not => self.with_letter(b, name),
+        }
+    }
+
+    // A digit inside a word is no number.
+    fn in_name(self, b: u8, name: &mut [u8]) -> Line {
+        match digit_of(b) {
+            Digit::Is(_) => self.at(Part::Wrong, 0),
+            Digit::Not => self.with_letter(b, name),
+        }
+    }
+
+    fn in_number(self, b: u8, numbers: &mut [u64]) -> Line {
+        match digit_of(b) {
+            Digit::Is(d) => self.with_digit(d),
+            Digit::Not => if b == SPACE {
+                self.close(numbers)
+            } else {
+                self.at(Part::Wrong, 0)
+            },
+        }
+    }
+
+    fn in_gap(self, b: u8) -> Line {
+        match digit_of(b) {
+            Digit::Is(d) => self.at(Part::Number, d),
+            Digit::Not => self.at(Part::Wrong, 0),
+        }
+    }
+
+    // The line with one more byte, which is no line end. What does not fit into the slices makes the line wrong.
+    pub fn byte(self, b: u8, name: &mut [u8], numbers: &mut [u64]) -> Line {
+        let part = self.part;
+        match part {
+            Part::Start => self.in_start(b, name),
+            Part::Name => self.in_name(b, name),
+            Part::Number => self.in_number(b, numbers),
+            Part::Gap => self.in_gap(b),
+            Part::Wrong => self,
+        }
+    }
+
+    // The line at its end: a last number is complete, a space after one is wrong.
+    pub fn end(self, numbers: &mut [u64]) -> Line {
+        let part = self.part;
+        match part {
+            Part::Number => self.close(numbers),
+            Part::Gap => self.at(Part::Wrong, 0),
+            _ => self,
+        }
+    }
+
+    pub fn is_wrong(self) -> bool {
+        let part = self.part;
+        if let Part::Wrong = part { true } else { false }
+    }
+}
