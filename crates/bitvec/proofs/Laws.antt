@@ -10,7 +10,8 @@ use lib.ListN.{length, getD, set}
 use lib.Pow.{pow-pos, shl-exact}
 use lib.Dec.{eqb, ltb, leb}
 use borrow.Author.Tests.{eqb-true, eqb-false, ltb-true, ltb-false, leb-true, leb-false, le-leb, lt-leb, lt-ltb, le-ltb, eq-eqb, ne-eqb}
-use Rattle.words.specs.Ix.{onLink}
+use Rattle.words.proofs.Laws.{linked, unlinked}
+use Rattle.words.specs.Ix.{linkOf, onLink}
 use Rattle.words.specs.declared.ix.Link.{Link}
 use Rattle.words.specs.declared.ix.Link.the-variants.{Slot, Nil}
 use Rattle.bitvec.specs.Bits.{bit, put, bitAt, setBit, fill}
@@ -155,8 +156,8 @@ pub fill-is : (s t : List ℕ) (b len x y : ℕ) → t ≡ fill b x s → b ≡ 
 fill-is s t b len x y e q f = rw (← q, ← f) e
 
 -- a link to no red slot
-pub black-slot : (r : Bool) (l m : Link) (k : ℕ) (f : ℕ → Bool) (z : Bool) → l ≡ m → l ≡ Slot k → r ≡ not (f k) → r ≡ not (onLink m f z)
-black-slot r l m k f z e q h = rw (sym e ∙ q) h
+pub black-slot : (r b : Bool) (n w k : ℕ) (l : Link) (f : ℕ → Bool) → l ≡ linkOf n w → l ≡ Slot k → b ≡ f k → r ≡ not b → r ≡ not (onLink n w f false)
+black-slot r b n w k l f e q h p = p ∙ ap not (linked b n w k l f false e q h)
 
-pub no-slot-black : (l m : Link) (f : ℕ → Bool) → l ≡ m → l ≡ Nil → true ≡ not (onLink m f false)
-no-slot-black l m f e q = rw (sym e ∙ q)
+pub no-slot-black : (n w : ℕ) (l : Link) (f : ℕ → Bool) → l ≡ linkOf n w → l ≡ Nil → true ≡ not (onLink n w f false)
+no-slot-black n w l f e q = ap not (unlinked false n w l f false e q refl)

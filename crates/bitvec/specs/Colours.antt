@@ -2,7 +2,7 @@
 use mathlib.Core.Bool.{Bool, false}
 use mathlib.Core.List.{List}
 use Prim.Native.Nat.{ℕ}
-use Rattle.words.specs.Ix.{linkOf, onLink}
+use Rattle.words.specs.Ix.{onLink}
 use Rattle.bitvec.specs.Bits.{bitAt, setBit}
 
 abbrev pub red : List ℕ → ℕ → Bool
@@ -14,4 +14,4 @@ dye C s v = setBit C s v
 
 -- a link leads to a red slot
 abbrev pub redAt : ℕ → List ℕ → ℕ → Bool
-redAt n C k = onLink (linkOf n k) (λ s. red C s) false
+redAt n C k = onLink n k (λ s. red C s) false

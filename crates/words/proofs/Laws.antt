@@ -5,7 +5,7 @@ use Prim.Native.Nat.{ℕ, _+_, _*_, _<_, _≤_}
 use native.Mathlib.Omega.{arith}
 use lib.Dec.{leb}
 use borrow.Author.Tests.{le-leb, lt-leb, leb-false}
-use Rattle.words.specs.Ix.{linkOf, onLink}
+use Rattle.words.specs.Ix.{gone, linkOf, onLink}
 use Rattle.words.specs.Intervals.{extended}
 use Rattle.words.specs.declared.interval.Interval.{Interval}
 use Rattle.words.specs.declared.ix.Link.{Link}
@@ -18,19 +18,31 @@ there n k r x y h e = rw (lt-leb n k h) e
 pub missing : {A : Type 0} (n k : ℕ) (r x y : A) → n ≤ k → r ≡ x → r ≡ cond (leb n k) x y
 missing n k r x y h e = rw (le-leb n k h) e
 
--- a link that was taken apart
-pub linked : {A : Type 0} (r : A) (l m : Link) (k : ℕ) (f : ℕ → A) (z : A) → l ≡ m → l ≡ Slot k → r ≡ f k → r ≡ onLink m f z
-linked r l m k f z e q h = rw (sym e ∙ q) h
-
-pub unlinked : {A : Type 0} (r : A) (l m : Link) (f : ℕ → A) (z : A) → l ≡ m → l ≡ Nil → r ≡ z → r ≡ onLink m f z
-unlinked r l m f z e q h = rw (sym e ∙ q) h
-
-pub slot-live : (n k s : ℕ) (l : Link) → l ≡ linkOf n k → l ≡ Slot s → s < n
-slot-live n k s l e q = go (leb n k) refl (sym q ∙ e)
+-- a link that was taken apart: its slot is the word, and below the count
+slot-cases : {X : Type 0} (n w k : ℕ) (l : Link) → l ≡ linkOf n w → l ≡ Slot k → (k ≡ w → w < n → X) → X
+slot-cases {X = X} n w k l e q f = go (leb n w) refl (sym q ∙ e)
   where
-    go : (t : Bool) → leb n k ≡ t → Slot s ≡ cond t Nil (Slot k) → s < n
-    go true p f = let z : _≡_ {A = ℕ} 0 1 = cc in absurd (omega arith)
-    go false p f = let z : s ≡ k = cc in omega (arith, leb-false n k p)
+    go : (t : Bool) → leb n w ≡ t → Slot k ≡ cond t Nil (Slot w) → X
+    go true p z = let y : _≡_ {A = ℕ} 0 1 = cc in absurd (omega arith)
+    go false p z = f (cc) (leb-false n w p)
+
+nil-gone : (n w : ℕ) (l : Link) → l ≡ linkOf n w → l ≡ Nil → gone n w ≡ true
+nil-gone n w l e q = go (gone n w) (sym q ∙ e)
+  where
+    go : (t : Bool) → Nil ≡ cond t Nil (Slot w) → t ≡ true
+    go true z = refl
+    go false z = let y : _≡_ {A = ℕ} 0 1 = cc in absurd (omega arith)
+
+pub linked : {A : Type 0} (r : A) (n w k : ℕ) (l : Link) (f : ℕ → A) (z : A) → l ≡ linkOf n w → l ≡ Slot k → r ≡ f k → r ≡ onLink n w f z
+unfolding onLink
+linked r n w k l f z e q h = slot-cases n w k l e q (λ s b. rw (lt-leb n w b, ← s) h)
+
+pub unlinked : {A : Type 0} (r : A) (n w : ℕ) (l : Link) (f : ℕ → A) (z : A) → l ≡ linkOf n w → l ≡ Nil → r ≡ z → r ≡ onLink n w f z
+unfolding onLink
+unlinked r n w l f z e q h = rw (nil-gone n w l e q) h
+
+pub slot-live : (n w k : ℕ) (l : Link) → l ≡ linkOf n w → l ≡ Slot k → k < n
+slot-live n w k l e q = slot-cases n w k l e q (λ s b. omega arith)
 
 pub slot-room : (n k s len : ℕ) (l : Link) → l ≡ linkOf n k → l ≡ Slot s → n * 8 ≤ len → s * 8 + 8 ≤ len
 slot-room n k s len l e q h = omega (arith, slot-live n k s l e q)

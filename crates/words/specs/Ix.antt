@@ -21,7 +21,6 @@ abbrev pub linkWord : Link → ℕ
 linkWord (Slot k) = k
 linkWord Nil = U
 
--- by cases on a link: f of its slot, or z
-abbrev pub onLink : {A : Type 0} → Link → (ℕ → A) → A → A
-onLink (Slot k) f z = f k
-onLink Nil f z = z
+-- by cases on a link word: f of its slot, or z where it leads to none
+unfoldable pub onLink : {A : Type 0} → ℕ → ℕ → (ℕ → A) → A → A
+onLink n k f z = cond (gone n k) z (f k)

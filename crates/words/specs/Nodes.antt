@@ -3,7 +3,7 @@ use mathlib.Core.Bool.{Bool, true, false}
 use mathlib.Core.List.{List}
 use Prim.Native.Nat.{ℕ, _+_, _*_, _/_, min}
 use lib.ListN.{getD, set}
-use Rattle.words.specs.Ix.{linkOf, onLink}
+use Rattle.words.specs.Ix.{onLink}
 use Rattle.words.specs.Intervals.{extended}
 use Rattle.words.specs.declared.interval.Interval.{Interval}
 use Rattle.words.specs.declared.node.Entry.{Entry}
@@ -77,7 +77,7 @@ swap W i j = putEntry (putEntry W i (entry W j)) j (entry W i)
 
 -- an interval, extended by the hull of the slot behind a link
 unfoldable pub joined : ℕ → List ℕ → ℕ → Interval → Interval
-joined n W k d = onLink (linkOf n k) (λ s. extended d (hull W s)) d
+joined n W k d = onLink n k (λ s. extended d (hull W s)) d
 
 -- the hull from the slot's own interval and its children's hulls
 unfoldable pub hullOf : ℕ → List ℕ → ℕ → Interval
