@@ -1,0 +1,4 @@
+pub mod Links
+pub mod Repair
+pub mod Pairs
+pub mod Remove

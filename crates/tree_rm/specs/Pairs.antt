@@ -1,0 +1,50 @@
+-- "up to three pairs (old slot, new slot), by rising old slot, of entries whose slot differs after all exchanges; unused pairs are (U, U)"
+use mathlib.Core.Bool.{cond, _||_}
+use Prim.Native.Nat.{ℕ}
+use lib.Dec.{eqb, ltb}
+use Rattle.words.specs.Ix.{U, gone, onLink}
+use Rattle.tree_rm.specs.declared.pairs.Pair.{Pair}
+use Rattle.tree_rm.specs.declared.pairs.Pairs.{Pairs}
+
+abbrev pub none : Pair
+none = record { old = U; new = U }
+
+-- a, and b where a is c
+unfoldable pub instead : ℕ → ℕ → ℕ → ℕ
+instead c b a = cond (eqb a c) b a
+
+-- the slot that is emptied: the child's where there is one
+unfoldable pub emptied : ℕ → ℕ → ℕ → ℕ
+emptied n x y = onLink n y (λ s. s) x
+
+-- where the entry of slot a is at the end: x's went to s, then y's to x, then the last slot's, z, to the emptied one
+unfoldable pub home : ℕ → ℕ → ℕ → ℕ → ℕ → ℕ → ℕ
+home n z s x y a = instead z (emptied n x y) (instead y x (instead x s a))
+
+-- the pair of two slots, unless they are one
+unfoldable pub named : ℕ → ℕ → Pair
+named a b = cond (eqb a b) none (record { old = a; new = b })
+
+-- of two pairs the one with the lower, and with the higher, old slot
+unfoldable pub lower : Pair → Pair → Pair
+lower p q = cond (ltb (q .old) (p .old)) q p
+
+unfoldable pub upper : Pair → Pair → Pair
+upper p q = cond (ltb (q .old) (p .old)) p q
+
+-- by rising old slot
+unfoldable pub sorted : Pair → Pair → Pair → Pairs
+sorted p q o =
+    let a : Pair = lower p q in
+    let b : Pair = upper p q in
+    let c : Pair = upper b o in
+    let d : Pair = lower b o in
+    record { first = lower a d; second = upper a d; third = c }
+
+-- the slots whose entries may have moved: x, y, and the last one z where it is none of the others
+unfoldable pub moved : ℕ → ℕ → ℕ → ℕ → ℕ → Pairs
+moved n z s x y =
+    sorted
+    (cond (eqb x s) none (named x (home n z s x y x)))
+    (cond (gone n y) none (named y (home n z s x y y)))
+    (cond (eqb z s || eqb z x || eqb z y) none (named z (home n z s x y z)))

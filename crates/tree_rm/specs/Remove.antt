@@ -1,0 +1,112 @@
+-- The removal of one entry, step by step as document 01's 'Removal' says it.
+use mathlib.Core.Bool.{true, false, cond, _||_}
+use mathlib.Core.List.{List}
+use Prim.Native.Nat.{ℕ, zero, suc, _-_, min}
+use lib.Dec.{eqb}
+use Rattle.words.specs.Ix.{U, gone, onLink}
+use Rattle.words.specs.Nodes.{value, kid, par, hull, entry, putNode, swap}
+use Rattle.bitvec.specs.Colours.{red, redAt, dye}
+use Rattle.tree_rm.specs.Links.{adopt, removeChild, redirect, fixUp}
+use Rattle.tree_rm.specs.Repair.{Next, done, again, repair}
+use Rattle.tree_rm.specs.Pairs.{instead, emptied, moved}
+use Rattle.tree_rm.specs.declared.pairs.Pairs.{Pairs}
+
+-- the leftmost slot from the slot k down, `height` links at the most
+unfoldable pub leftmost : ℕ → ℕ → List ℕ → ℕ → ℕ
+leftmost n zero W k = k
+leftmost n (suc height) W k = onLink n (kid W true k) (λ s. leftmost n height W s) k
+
+-- "The slot to vacate is the given one if its right link is U, else the leftmost of its right subtree"
+unfoldable pub vacated : ℕ → List ℕ → ℕ → ℕ
+vacated n W s = cond (gone n (kid W false s)) s (leftmost n 32 W (kid W false s))
+
+-- and by the other reading of the doubled test
+unfoldable pub vacated′ : ℕ → List ℕ → ℕ → ℕ
+vacated′ n W s = cond (gone n (kid W true s) || gone n (kid W false s)) s (leftmost n 32 W (kid W false s))
+
+-- "the two then exchange interval and value"
+unfoldable pub exchanged : List ℕ → ℕ → ℕ → List ℕ
+exchanged W s x = cond (eqb x s) W (swap W s x)
+
+-- "The least of the two links is its child."
+unfoldable pub child : List ℕ → ℕ → ℕ
+child W x = min (kid W true x) (kid W false x)
+
+-- node words, colour bytes and root
+pub record Store : Type 0 where
+  pub words : List ℕ
+  pub colours : List ℕ
+  pub root : ℕ
+
+abbrev pub store : List ℕ → List ℕ → ℕ → Store
+store W C r = record { words = W; colours = C; root = r }
+
+abbrev pub ending : Next → Store
+ending (done W C r) = store W C r
+ending (again W C r ix) = store W C r
+
+-- `restructure_rm`: "A red slot, or one with a red child, needs no repair", before the slot x with the child y is vacated
+unfoldable pub restructure : ℕ → List ℕ → List ℕ → ℕ → ℕ → ℕ → Store
+restructure n W C r x y =
+    let repaired : Store = ending (repair n 36 W C r x) in
+    cond (red C x) (store W C r) (cond (redAt n C y) (store W (dye C y true) r) repaired)
+
+-- "A child gives its interval and value to its parent and is vacated instead."
+unfoldable pub handed : ℕ → List ℕ → ℕ → ℕ → List ℕ
+handed n W x y = onLink n y (λ s. swap W x s) W
+
+-- the link word of what is above the emptied slot
+unfoldable pub above : ℕ → List ℕ → ℕ → ℕ → ℕ
+above n W x y = onLink n y (λ s. x) (par W x)
+
+-- the slot v is cut off from g, and "hulls are worked out afresh from the vacated slot's parent up to the root"
+unfoldable pub cutWords : ℕ → List ℕ → ℕ → ℕ → List ℕ
+cutWords n W g v = onLink n g (λ s. fixUp n 32 (removeChild W s v) s) W
+
+unfoldable pub cutRoot : ℕ → ℕ → ℕ → ℕ
+cutRoot n r g = onLink n g (λ s. r) U
+
+-- "the highest slot moves into the vacated one with parent, children, root and colour relinked": the words of slot z go to slot v, and what
+-- leads to z leads to v
+unfoldable pub copied : List ℕ → ℕ → ℕ → List ℕ
+copied W z v = putNode W v (entry W z) (hull W z) (kid W true z) (kid W false z) (par W z)
+
+unfoldable pub relinked : ℕ → List ℕ → ℕ → ℕ → List ℕ
+relinked n W z v = redirect n (adopt n (adopt n (copied W z v) (kid W true z) v) (kid W false z) v) (par W z) z v
+
+-- "The old last slot's eight words become 0."
+unfoldable pub cleared : List ℕ → ℕ → List ℕ
+cleared W z = putNode W z (record { start = 0; end = 0; value = 0 }) (record { start = 0; end = 0 }) 0 0 0
+
+-- `swap_remove`: the last slot z moves into the vacated slot v. "Its colour bit keeps what the repair left in it."
+unfoldable pub swapRemove : ℕ → List ℕ → List ℕ → ℕ → ℕ → ℕ → Store
+swapRemove n W C r z v =
+    cond (eqb v z) (store (cleared W z) C r) (store (cleared (relinked n W z v) z) (dye C v (red C z)) (instead z v r))
+
+-- "The answer: removed value, new map, and up to three pairs"
+pub record Removal : Type 0 where
+  pub store : Store
+  pub value : ℕ
+  pub pairs : Pairs
+
+-- the slot x, with the child y, is vacated in a store that is made ready for it, for the entry of slot s
+unfoldable pub finish : Store → ℕ → ℕ → ℕ → ℕ → Removal
+finish t n s x y =
+    let v : ℕ = emptied n x y in
+    let g : ℕ = above n (t .words) x y in
+    let W : List ℕ = cutWords n (handed n (t .words) x y) g v in
+    record { store = swapRemove n W (t .colours) (cutRoot n (t .root) g) (n - 1) v; value = value W v; pairs = moved n (n - 1) s x y }
+
+-- the entry of slot s is removed, and the slot x vacated
+unfoldable pub removeFrom : List ℕ → List ℕ → ℕ → ℕ → ℕ → ℕ → Removal
+removeFrom W C n r s x =
+    let X : List ℕ = exchanged W s x in
+    finish (restructure n X C r x (child X x)) n s x (child X x)
+
+-- `remove_at`
+unfoldable pub removeRule : List ℕ → List ℕ → ℕ → ℕ → ℕ → Removal
+removeRule W C n r s = removeFrom W C n r s (vacated n W s)
+
+-- and by the other reading of the doubled test
+unfoldable pub removeRule′ : List ℕ → List ℕ → ℕ → ℕ → ℕ → Removal
+removeRule′ W C n r s = removeFrom W C n r s (vacated′ n W s)
