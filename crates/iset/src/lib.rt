@@ -1,7 +1,12 @@
-// The interval map of loaded code: its public calls.
+// The interval map of loaded code: its public calls. Each takes any numbers and any lent slices, tests everything
+// itself, and gives the first refusal in document 01's order, with nothing lent changed.
+use audit::audit;
 use words::ix::U;
+use words::node::capacity;
+use words::refusal::Refusal;
 ghost use mathlib.Core.Path.{_≡_};
 ghost use Rattle.iset.specs.Maps.{emptyMap};
+ghost use Rattle.iset.specs.Check.{checkNumber, checkRule};
 
 // A map: how many entries it holds, in slots 0 .. count - 1, and the slot of its root, U where there is none. Its nodes
 // and colours stand in the slices that are lent beside it.
@@ -10,11 +15,32 @@ pub struct Map {
     pub root: u64,
 }
 
+// What the check answers.
+pub enum Checked {
+    Sound,
+    Refused(Refusal),
+}
+
 impl Map {
     // The map of no entries.
     pub fn new() -> Map
         ensures { λ r. ⌜ r ≡ emptyMap ⌝ }
     {
         Map { count: 0, root: U }
+    }
+
+    // The store check: NoRoom where the count is above what the slices hold, else Broken where the store does not pass.
+    pub fn check(self, nodes: &[u64], colours: &[u8]) -> Checked
+        ensures { λ r. ⌜ checkNumber r ≡ checkRule self (now (nodes .entry)) (now (colours .entry)) ⌝ }
+    {
+        let count = self.count;
+        if capacity(nodes.len(), colours.len()) < count {
+            return Checked::Refused(Refusal::NoRoom);
+        }
+        if audit(nodes, colours, count, self.root) {
+            Checked::Sound
+        } else {
+            Checked::Refused(Refusal::Broken)
+        }
     }
 }

@@ -1,0 +1,7 @@
+pub mod Laws
+pub mod Tests
+pub mod Ends
+pub mod Fits
+pub mod Decides
+pub mod Linear
+pub mod Examples

@@ -1,0 +1,88 @@
+-- The check's rule: what one pass over the links finds, from the leaves up. proofs/Decides shows that it says yes exactly
+-- to the stores that pass.
+use mathlib.Core.Bool.{Bool, true, false, cond, not, _&&_, _||_}
+use mathlib.Core.List.{List}
+use Prim.Native.Nat.{ℕ, zero, suc, _+_}
+use lib.Dec.{eqb, ltb}
+use Rattle.words.specs.Ix.{U}
+use Rattle.words.specs.Intervals.{proper, le, eq, extended}
+use Rattle.words.specs.Nodes.{kid, par, interval, hull}
+use Rattle.words.specs.declared.interval.Interval.{Interval}
+use Rattle.bitvec.specs.Colours.{red}
+use Rattle.tree.specs.Hues.{dark}
+use Rattle.audit.specs.declared.Node.{Node}
+use Rattle.audit.specs.declared.Found.{Found}
+
+-- what the check reads of a slot
+abbrev pub nodeAt : List ℕ → List ℕ → ℕ → Node
+nodeAt W C s =
+    record {
+      interval = interval W s;
+      hull = hull W s;
+      left = kid W true s;
+      right = kid W false s;
+      parent = par W s;
+      red = red C s;
+    }
+
+-- a subtree without nodes: right, or broken. The interval above it stands for its first, its last and its hull.
+abbrev pub noNodes : Bool → Interval → Found
+noNodes b d = record { ok = b; size = 0; blacks = 0; red = false; first = d; last = d; hull = d }
+
+-- "child and parent links agree"; and the links differ unless they are undefined, so that no slot is reached twice
+abbrev pub tied : Node → ℕ → Bool
+tied x p = eqb (x .parent) p && (not (eqb (x .left) (x .right)) || eqb (x .left) U)
+
+-- "start < end; entries in tree order never fall": with the last interval of the left subtree and the first of the right
+abbrev pub ordered : Interval → Interval → Interval → Bool
+ordered own last first = proper own && le last own && le own first
+
+-- the hull, from the node's own interval and the hulls of its children
+abbrev pub hulled : Node → Interval → Interval → Bool
+hulled x l r = eq (x .hull) (extended (extended (x .interval) l) r)
+
+-- "no red node has a red child; every way down to U passes equally many blacks"
+abbrev pub coloured : Node → Found → Found → Bool
+coloured x l r = eqb (l .blacks) (r .blacks) && (not (x .red) || not (l .red || r .red))
+
+-- a node is right where its subtrees are
+abbrev pub suits : Node → Found → Found → Bool
+suits x l r = ordered (x .interval) (l .last) (r .first) && hulled x (l .hull) (r .hull) && coloured x l r
+
+abbrev pub fits : Node → Found → Found → Bool
+fits x l r = l .ok && r .ok && suits x l r
+
+-- what is found of a node, with what was found of its subtrees
+abbrev pub combined : Node → Found → Found → Found
+combined x l r =
+    cond (fits x l r)
+    (record {
+      ok = true;
+      size = l .size + r .size + 1;
+      blacks = dark (x .red) + l .blacks;
+      red = x .red;
+      first = l .first;
+      last = r .last;
+      hull = x .hull;
+    })
+    (noNodes false (x .interval))
+
+-- the slot k, below p, is entered
+abbrev pub enters : List ℕ → List ℕ → ℕ → ℕ → ℕ → Bool
+enters W C n p k = ltb k n && tied (nodeAt W C k) p
+
+-- the subtree at the link k, below the slot p whose interval is d, with fewer than `height` nodes on its ways down
+unfoldable pub survey : List ℕ → List ℕ → ℕ → ℕ → ℕ → Interval → ℕ → Found
+survey W C n zero p d k = noNodes false d
+survey W C n (suc height) p d k =
+    let l : Found = survey W C n height k (interval W k) (kid W true k) in
+    let r : Found = survey W C n height k (interval W k) (kid W false k) in
+    cond (eqb k U) (noNodes true d) (cond (enters W C n p k) (combined (nodeAt W C k) l r) (noNodes false d))
+
+-- what is found below the root, in a store of n entries
+abbrev pub isWhole : ℕ → Found → Bool
+isWhole n a = a .ok && eqb (a .size) n && not (a .red)
+
+-- the whole store: no tree that passes is higher than 32, and the root's parent is U
+unfoldable pub wholeOf : List ℕ → List ℕ → ℕ → ℕ → Bool
+wholeOf W C n r = isWhole n (survey W C n 33 U (record { start = 0; end = 0 }) r)

@@ -1,0 +1,185 @@
+// The store check: one pass over the links, on any words.
+//
+// It is linear in the count, on every input. Before the pass goes on below a slot, the slot's parent link must name the
+// slot that the pass came from, and its two links must differ unless both are U. So no slot is entered twice, and two
+// links are followed for each slot entered. Without the first test a damaged store could lead two slots to one, without
+// the second one slot twice to another, and each level would double the calls, up to 2^32 of them: the remaining height,
+// which falls from 33, would do no more than end it.
+use bitvec::colours::is_red;
+use words::interval::Interval;
+use words::ix::U;
+use words::node::child_of;
+use words::node::hull_at;
+use words::node::interval_of;
+use words::node::parent_of;
+ghost use mathlib.Core.Path.{_≡_};
+ghost use mathlib.Core.Bool.{true, false};
+ghost use Prim.Native.Nat.{_+_, _*_, _≤_, _<_};
+ghost use lib.ListN.{length};
+ghost use Rattle.tree.specs.Hues.{dark};
+ghost use Rattle.audit.specs.Survey.{nodeAt, noNodes, tied, ordered, hulled, coloured, fits, combined, survey, wholeOf};
+
+// What the check reads of a slot.
+pub struct Node {
+    pub interval: Interval,
+    pub hull: Interval,
+    pub left: u64,
+    pub right: u64,
+    pub parent: u64,
+    pub red: bool,
+}
+
+// What the check finds of a subtree: whether it is right, its nodes, the blacks on its way down to the left, whether its
+// root is red, its first and its last interval, the hull of its root.
+pub struct Found {
+    pub ok: bool,
+    pub size: u64,
+    pub blacks: u64,
+    pub red: bool,
+    pub first: Interval,
+    pub last: Interval,
+    pub hull: Interval,
+}
+
+fn node_at(nodes: &[u64], colours: &[u8], slot: u64) -> Node
+    requires { ⌜ (slot * 8 + 8 ≤ length (now nodes)) × (slot < length (now colours) * 8) ⌝ }
+    ensures { λ r. ⌜ r ≡ nodeAt (now (nodes .entry)) (now (colours .entry)) slot ⌝ }
+{
+    Node {
+        interval: interval_of(nodes, slot),
+        hull: hull_at(nodes, slot),
+        left: child_of(nodes, slot, true),
+        right: child_of(nodes, slot, false),
+        parent: parent_of(nodes, slot),
+        red: is_red(colours, slot),
+    }
+}
+
+// A subtree without nodes. The interval above it stands for its first, its last and its hull: it is in order with itself
+// and extends no hull, so that the node above needs no case for a missing child.
+fn no_nodes(ok: bool, above: Interval) -> Found
+    ensures { λ r. ⌜ r ≡ noNodes ok above ⌝ }
+{
+    Found {
+        ok,
+        size: 0,
+        blacks: 0,
+        red: false,
+        first: above,
+        last: above,
+        hull: above,
+    }
+}
+
+// A slot knows its parent, and its links differ unless they are undefined.
+fn is_tied(x: Node, parent: u64) -> bool
+    ensures { λ r. ⌜ r ≡ tied x parent ⌝ }
+{
+    (x.parent == parent) & ((x.left != x.right) | (x.left == U))
+}
+
+// An interval is proper, and in order with the last one before it and the first one after it.
+fn is_ordered(own: Interval, last: Interval, first: Interval) -> bool
+    ensures { λ r. ⌜ r ≡ ordered own last first ⌝ }
+{
+    own.is_proper() & last.le(own) & own.le(first)
+}
+
+// A node's hull is that of its interval and its children's hulls.
+fn is_hulled(x: Node, left: Interval, right: Interval) -> bool
+    ensures { λ r. ⌜ r ≡ hulled x left right ⌝ }
+{
+    let hull = x.hull;
+    let own = x.interval;
+    hull.eq(own.extend(left).extend(right))
+}
+
+// A red node has no red child, and both ways down pass equally many blacks.
+fn is_coloured(x: Node, l: Found, r: Found) -> bool
+    ensures { λ a. ⌜ a ≡ coloured x l r ⌝ }
+{
+    (l.blacks == r.blacks) & (!x.red | !(l.red | r.red))
+}
+
+// Whether a node is right, with what was found of its subtrees.
+fn is_fit(x: Node, l: Found, r: Found) -> bool
+    ensures { λ a. ⌜ a ≡ fits x l r ⌝ }
+{
+    let order = is_ordered(x.interval, l.last, r.first);
+    let hull = is_hulled(x, l.hull, r.hull);
+    l.ok & r.ok & (order & hull & is_coloured(x, l, r))
+}
+
+// What a node adds to the blacks above it.
+fn shade(red: bool) -> u64
+    ensures { λ r. ⌜ (r ≡ dark red) × (r ≤ 1) ⌝ }
+{
+    if red { 0 } else { 1 }
+}
+
+// What is found of a node, with what was found of its subtrees.
+fn combine(x: Node, l: Found, r: Found) -> Found
+    requires { ⌜ (l .size + r .size + 1 < 18446744073709551616) × (l .blacks + 1 < 18446744073709551616) ⌝ }
+    ensures { λ a. ⌜ a ≡ combined x l r ⌝ }
+{
+    if is_fit(x, l, r) {
+        let first = l.first;
+        let last = r.last;
+        let hull = x.hull;
+        Found {
+            ok: true,
+            size: l.size + r.size + 1,
+            blacks: shade(x.red) + l.blacks,
+            red: x.red,
+            first,
+            last,
+            hull,
+        }
+    } else {
+        no_nodes(false, x.interval)
+    }
+}
+
+// The subtree at a link below the slot `parent`, whose interval is `above`, with fewer than `height` nodes on its ways down.
+fn walk(
+    nodes: &[u64],
+    colours: &[u8],
+    count: u64,
+    link: u64,
+    parent: u64,
+    above: Interval,
+    height: u64,
+) -> Found
+    requires { ⌜ (count * 8 ≤ length (now nodes)) × (count ≤ length (now colours) * 8) × (height ≤ 33) ⌝ }
+    ensures { λ r. ⌜ r ≡ survey (now (nodes .entry)) (now (colours .entry)) count height parent above link ⌝ }
+{
+    if height == 0 {
+        return no_nodes(false, above);
+    }
+    if link == U {
+        return no_nodes(true, above);
+    }
+    if count <= link {
+        return no_nodes(false, above);
+    }
+    let x = node_at(nodes, colours, link);
+    if is_tied(x, parent) {
+        let own = x.interval;
+        let l = walk(nodes, colours, count, x.left, link, own, height - 1);
+        let r = walk(nodes, colours, count, x.right, link, own, height - 1);
+        combine(x, l, r)
+    } else {
+        no_nodes(false, above)
+    }
+}
+
+// Whether a store passes. No tree that passes is higher than 32. The root has no slot above it, so any interval stands
+// for that one's.
+pub fn audit(nodes: &[u64], colours: &[u8], count: u64, root: u64) -> bool
+    requires { ⌜ (count * 8 ≤ length (now nodes)) × (count ≤ length (now colours) * 8) ⌝ }
+    ensures { λ r. ⌜ r ≡ wholeOf (now (nodes .entry)) (now (colours .entry)) count root ⌝ }
+{
+    let none = Interval { start: 0, end: 0 };
+    let found = walk(nodes, colours, count, root, U, none, 33);
+    found.ok & (found.size == count) & !found.red
+}

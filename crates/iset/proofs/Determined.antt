@@ -1,0 +1,30 @@
+-- Any two answers, and any two contents of each lent slice at exit, that a promise allows are equal.
+use mathlib.Core.Path.{_≡_, refl, sym, ap, _∙_}
+use mathlib.Core.Bool.{cond}
+use Prim.Native.Nat.{ℕ}
+use native.Mathlib.Omega.{arith}
+use lib.Dec.{eqb}
+use borrow.Author.Tests.{ne-eqb}
+use contract.Lifetimes.{Lfts}
+use borrow.Fn.Kinds as K
+use denote.Triple.Clauses.{AtExit}
+use Rattle.words.specs.Refusals.{refusalNumber}
+use Rattle.words.proofs.Refusals.{refusalAt, at-number, number-pos}
+use Rattle.iset.specs.Check.{checkNumber}
+use Rattle.iset.specs.declared.Checked.{Checked}
+use Rattle.iset.specs.declared.Checked.the-variants.{Sound, Refused}
+use Rattle.iset.proofs.Map.check.Reads as check-reads
+use Rattle.iset.proofs.Map.check.Kinds as check-kinds
+
+-- the check's number says which answer it is
+abbrev checkedAt : ℕ → Checked
+checkedAt k = cond (eqb k 0) Sound (Refused (refusalAt k))
+
+checked-back : (r : Checked) → checkedAt (checkNumber r) ≡ r
+checked-back Sound = refl
+checked-back (Refused y) = rw (ne-eqb (refusalNumber y) 0 (omega (arith, number-pos y)), at-number y)
+
+pub check-determined :
+    (κs : Lfts 2) (a : K.Dens κs check-kinds.ps) (r r′ : K.resT check-kinds.r κs .Denot) (s s′ : AtExit (K.endedOf 2 check-kinds.ps check-kinds.r) κs)
+    → check-reads.Post κs a r s → check-reads.Post κs a r′ s′ → r ≡ r′
+check-determined κs a r r′ s s′ p q = sym (checked-back r) ∙ ap checkedAt (p ∙ sym q) ∙ checked-back r′

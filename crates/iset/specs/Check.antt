@@ -1,0 +1,21 @@
+-- "the check by itself 1, 2"
+use mathlib.Core.Bool.{cond}
+use mathlib.Core.List.{List}
+use Prim.Native.Nat.{ℕ}
+use lib.ListN.{length}
+use lib.Dec.{ltb}
+use Rattle.words.specs.Nodes.{room}
+use Rattle.words.specs.Refusals.{refusalNumber}
+use Rattle.audit.specs.Survey.{wholeOf}
+use Rattle.iset.specs.declared.Map.{Map}
+use Rattle.iset.specs.declared.Checked.{Checked}
+use Rattle.iset.specs.declared.Checked.the-variants.{Sound, Refused}
+
+-- the refusal's number, 0 for none
+abbrev pub checkNumber : Checked → ℕ
+checkNumber Sound = 0
+checkNumber (Refused y) = refusalNumber y
+
+-- 1: "count .. above capacity"; 2: "the check fails"
+unfoldable pub checkRule : Map → List ℕ → List ℕ → ℕ
+checkRule m W C = cond (ltb (room (length W) (length C)) (m .count)) 1 (cond (wholeOf W C (m .count) (m .root)) 0 2)
