@@ -8,11 +8,18 @@ use borrow.Author.Tests.{ne-eqb}
 use contract.Lifetimes.{Lfts}
 use borrow.Fn.Kinds as K
 use denote.Triple.Clauses.{AtExit}
+use denote.Ref.{now}
 use Rattle.words.specs.Refusals.{refusalNumber}
 use Rattle.words.proofs.Refusals.{refusalAt, at-number, number-pos}
 use Rattle.iset.specs.Check.{checkNumber}
 use Rattle.iset.specs.declared.Checked.{Checked}
 use Rattle.iset.specs.declared.Checked.the-variants.{Sound, Refused}
+use Rattle.iset.specs.Build.{BuildAnswer, buildPaper}
+use Rattle.iset.specs.declared.build.Built.{Built}
+use Rattle.iset.specs.declared.build.Built.the-variants.{Done}
+use Rattle.iset.specs.declared.build.Built.the-variants as built
+use Rattle.iset.proofs.Map.build.Reads as build-reads
+use Rattle.iset.proofs.Map.build.Kinds as build-kinds
 use Rattle.iset.proofs.Map.check.Reads as check-reads
 use Rattle.iset.proofs.Map.check.Kinds as check-kinds
 
@@ -28,3 +35,16 @@ pub check-determined :
     (κs : Lfts 2) (a : K.Dens κs check-kinds.ps) (r r′ : K.resT check-kinds.r κs .Denot) (s s′ : AtExit (K.endedOf 2 check-kinds.ps check-kinds.r) κs)
     → check-reads.Post κs a r s → check-reads.Post κs a r′ s′ → r ≡ r′
 check-determined κs a r r′ s s′ p q = sym (checked-back r) ∙ ap checkedAt (p ∙ sym q) ∙ checked-back r′
+
+-- and so do a build's
+abbrev builtAt : BuildAnswer → Built
+builtAt x = cond (eqb (x .no) 0) (Done (record { count = x .count; root = x .root })) (built.Refused (refusalAt (x .no)))
+
+built-back : (r : Built) → builtAt (buildPaper r) ≡ r
+built-back (Done m) = refl
+built-back (built.Refused y) = rw (ne-eqb (refusalNumber y) 0 (omega (arith, number-pos y)), at-number y)
+
+pub build-determined :
+    (κs : Lfts 3) (a : K.Dens κs build-kinds.ps) (r r′ : K.resT build-kinds.r κs .Denot) (s s′ : AtExit (K.endedOf 3 build-kinds.ps build-kinds.r) κs)
+    → build-reads.Post κs a r s → build-reads.Post κs a r′ s′ → (r ≡ r′) × (now (s .0) ≡ now (s′ .0)) × (now (s .1 .0) ≡ now (s′ .1 .0))
+build-determined κs a r r′ s s′ p q = (sym (built-back r) ∙ ap builtAt (p .0 ∙ sym (q .0)) ∙ built-back r′, p .1 ∙ sym (q .1), p .2 ∙ sym (q .2))

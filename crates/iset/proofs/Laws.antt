@@ -1,10 +1,22 @@
 -- What the public calls' tests say of their rules, in the form that `search` takes.
-use mathlib.Core.Path.{_≡_}
-use mathlib.Core.Bool.{cond}
-use Prim.Native.Nat.{ℕ, _<_, _≤_}
-use lib.Dec.{ltb}
-use borrow.Author.Tests.{lt-ltb, le-ltb}
+use mathlib.Core.Path.{_≡_, refl, sym, ap, _∙_}
+use mathlib.Core.Bool.{Bool, true, false, cond}
+use mathlib.Core.List.{List}
+use Prim.Native.Nat.{ℕ, _*_, _/_, _%_, _<_, _≤_}
+use native.Mathlib.Omega.{arith}
+use lib.ListN.{length}
+use lib.Dec.{eqb, ltb}
+use borrow.Author.Tests.{lt-ltb, le-ltb, ltb-false, eq-eqb, ne-eqb}
+use Rattle.words.specs.Ix.{U}
 use Rattle.words.specs.Nodes.{room}
+use Rattle.words.specs.Refusals.{refusalNumber}
+use Rattle.words.specs.declared.refusal.Refusal.{Refusal}
+use Rattle.words.proofs.Refusals.{number-pos}
+use Rattle.builder.specs.Input.{allProper, sorted}
+use Rattle.iset.specs.Check.{checkNumber}
+use Rattle.iset.specs.Build.{buildNumber, BuildAnswer}
+use Rattle.iset.specs.declared.Checked.{Checked}
+use Rattle.iset.specs.declared.Checked.the-variants.{Sound, Refused}
 
 -- a count that the slices hold
 module _ (n words bytes c : ℕ) (e : c ≡ room words bytes) where
@@ -13,3 +25,42 @@ module _ (n words bytes c : ℕ) (e : c ≡ room words bytes) where
 
   pub in-room : {A : Type 0} (r x y : A) → n ≤ c → r ≡ y → r ≡ cond (ltb (room words bytes) n) x y
   in-room r x y h q = rw (← e, le-ltb c n h) q
+
+-- a call that its tests let through, and one that they refuse
+module _ {A : Type 0} (k : ℕ) (t : Checked) (e : checkNumber t ≡ k) (r x y : A) where
+  pub let-through : t ≡ Sound → r ≡ x → r ≡ cond (eqb k 0) x y
+  let-through q h = rw (eq-eqb k 0 (sym e ∙ ap checkNumber q)) h
+
+  pub turned-away : (z : Refusal) → t ≡ Refused z → r ≡ y → r ≡ cond (eqb k 0) x y
+  turned-away z q h = rw (ne-eqb k 0 (λ f. let g : refusalNumber z ≡ 0 = sym (ap checkNumber q) ∙ e ∙ f in omega (arith, number-pos z))) h
+
+-- what a build's tests leave: lists of triples that the slices hold
+module _ (words bytes : ℕ) (S : List ℕ) (t : Checked) (e : checkNumber t ≡ buildNumber words bytes S) (q : t ≡ Sound) where
+  built-room : length S / 3 ≤ room words bytes
+  unfolding buildNumber
+  built-room = go (eqb (length S % 3) 0) (ltb (room words bytes) (length S / 3)) refl (sym e ∙ ap checkNumber q)
+    where
+      go : (a b : Bool) → ltb (room words bytes) (length S / 3) ≡ b
+          → _≡_ {A = ℕ} (cond a (cond b 1 (cond (allProper S) (cond (sorted S) 0 6) 5)) 8) 0 → length S / 3 ≤ room words bytes
+      go true true p z = absurd (omega arith)
+      go true false p z = ltb-false (room words bytes) (length S / 3) p
+      go false b p z = absurd (omega arith)
+
+  pub built-few : length S / 3 ≤ 65535
+  built-few = omega (arith, built-room)
+
+  pub built-list : length S / 3 * 3 ≤ length S
+  built-list = omega arith
+
+  pub built-words : length S / 3 * 8 ≤ words
+  built-words = omega (arith, built-room)
+
+  pub built-bytes : length S / 3 ≤ bytes * 8
+  built-bytes = omega (arith, built-room)
+
+pub refused-build : (k : ℕ) (t : Checked) (z : Refusal) → checkNumber t ≡ k → t ≡ Refused z
+    → _≡_ {A = BuildAnswer} (record { no = refusalNumber z; count = 0; root = U }) (record { no = k; count = 0; root = U })
+refused-build k t z e q = let f : refusalNumber z ≡ k = sym (ap checkNumber q) ∙ e in λ i. record { no = f i; count = 0; root = U }
+
+pub done-build : (n r s : ℕ) → r ≡ s → _≡_ {A = BuildAnswer} (record { no = 0; count = n; root = r }) (record { no = 0; count = n; root = s })
+done-build n r s e = λ i. record { no = 0; count = n; root = e i }

@@ -1,3 +1,4 @@
 pub mod Laws
-pub mod Check
+pub mod Checks
+pub mod Builds
 pub mod Determined

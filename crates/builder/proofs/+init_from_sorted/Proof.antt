@@ -1,0 +1,84 @@
+use native.Mathlib.Omega.{arith}
+use lib.ListN.{length-take}
+use Prim.Native.Nat.{ℕ, _-_, _<_}
+use borrow.Fn.Kinds.{In}
+use borrow.Fn.PlainCycle.{Measures, is, falls, and}
+use Rattle.builder.proofs.Parts.{span-pos, span-left, span-right, span-triples, span-back, hull-empty, words-empty, colours-empty, hull-whole, words-whole, colours-whole}
+use Rattle.builder.proofs.init_from_sorted.Reads as init
+use Rattle.builder.proofs.init_from_sorted.Kinds as init-kinds
+use Rattle.builder.proofs.+init_from_sorted.Lts-init_from_sorted as init-lts
+use Rattle.bitvec.proofs.put_bit.Reads as put-bit-reads
+use Rattle.builder.proofs.list.interval_at.Reads as interval-at-reads
+use Rattle.builder.proofs.put_root.Reads as put-root-reads
+use Rattle.words.proofs.interval.Interval.extend.Reads as extend-reads
+use Rattle.builder.proofs.+init_from_sorted.{statement}
+use Rattle.builder.proofs.+init_from_sorted.Tie.{close}
+
+-- the slots of the span
+abbrev μ-init : Measures 3 init-kinds.ps ℕ
+μ-init κs a = a .1 .1 .1 .1 .0 - a .1 .1 .1 .0
+
+abbrev init-at : ℕ → In 3 init-kinds.ps
+init-at t = and 3 init-kinds.ps (is 3 init-kinds.ps μ-init t) init.Pre
+
+abbrev init-below : ℕ → In 3 init-kinds.ps
+init-below t = and 3 init-kinds.ps (falls 3 init-kinds.ps _<_ μ-init t) init.Pre
+
+pub +init-from-sorted-spec : {M : Type 1} → statement M
++init-from-sorted-spec = close μ-init λ t. init-lts.spec (
+  interval-at-reads.Asked,
+  interval-at-reads.Learnt,
+  put-bit-reads.Asked,
+  put-bit-reads.Learnt,
+  init-below t,
+  init.Post,
+  put-root-reads.Asked,
+  put-root-reads.Learnt,
+  extend-reads.Asked,
+  extend-reads.Learnt,
+)
+    (init-at t)
+    init.Post
+    (λ c. (search hull-empty, search words-empty, search colours-empty))
+    (λ c. omega arith)
+    (λ c. omega arith)
+    (λ c κs. omega arith)
+    (λ c κs. omega arith)
+    (λ c. omega arith)
+    (λ c. omega arith)
+    (λ c. simp length-take (omega arith))
+    (λ c. search span-pos)
+    (λ c κs. (omega arith, search span-left))
+    (λ c. omega arith)
+    (λ c. omega arith)
+    (λ c. omega arith)
+    (λ c. omega arith)
+    (λ c. omega arith)
+    (λ c. omega arith)
+    (λ c. omega arith)
+    (λ c. search span-pos)
+    (λ c κs. (omega arith, search span-right))
+    (λ c κs.
+    let right = c .before .before .before .before .before in
+    let left = right .before .before .before .before .before .before .before in
+    let begin = left .before .before .before .before .before .before .before .before in
+    let span = begin .before .before .before .before .pre .1 in (
+      span-triples _ _ _ _ _ _ span (begin .if1 .left),
+      span-back _ _ _ _ _ _ span (begin .if1 .left) (left .init-from-sorted .last .1 .0) (right .init-from-sorted2 .last .1 .0) (left .init-from-sorted .kept .1 .0) (right .init-from-sorted2 .kept .1 .0),
+      begin .if1 .left,
+    ))
+    (λ c κs. tt)
+    (λ c. omega arith)
+    (λ c. omega arith)
+    (λ c.
+    let root = c .before .before .before in
+    let right = root .before .before .before .before .before .before in
+    let left = right .before .before .before .before .before .before .before in
+    let bit = left .before .before .before .before .before in
+    let begin = bit .before .before .before in
+    let span = begin .before .before .before .before .pre .1 in
+    let own = bit .before .before .interval-at .ensures in (
+      hull-whole _ _ _ _ _ _ span (begin .if1 .left) _ _ _ _ _ own (left .init-from-sorted .ensures .0) (right .init-from-sorted2 .ensures .0) (c .extend .ensures),
+      words-whole _ _ _ _ _ _ span (begin .if1 .left) _ _ _ _ _ _ _ own (left .init-from-sorted .ensures .0) (left .init-from-sorted .ensures .1) (right .init-from-sorted2 .ensures .0) (right .init-from-sorted2 .ensures .1) (left .init-from-sorted .kept .1 .0) (right .init-from-sorted2 .kept .1 .0) (root .put-root .ensures),
+      colours-whole _ _ _ _ _ _ span (begin .if1 .left) _ _ _ (bit .put-bit .ensures) (left .init-from-sorted .ensures .2) (right .init-from-sorted2 .ensures .2),
+    ))

@@ -1,0 +1,5 @@
+pub mod Spans
+pub mod Levels
+pub mod Parts
+pub mod Tests
+pub mod Cases

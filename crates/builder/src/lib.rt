@@ -1,0 +1,135 @@
+// Builds the store of a map from a sorted list, by recursion over its spans. A span of slots is built in the part of the
+// node words that is its own; the colours, bits among others, are lent whole.
+pub mod list;
+
+use crate::list::entry_at;
+use crate::list::interval_at;
+use bitvec::put_bit;
+use words::interval::Interval;
+use words::ix::U;
+use words::node::put_node;
+ghost use mathlib.Core.Path.{_≡_};
+ghost use Prim.Native.Nat.{_+_, _*_, _-_, _/_, _≤_, _<_};
+ghost use lib.ListN.{length};
+ghost use Rattle.words.specs.Nodes.{putNode};
+ghost use Rattle.builder.specs.Input.{entryOf};
+ghost use Rattle.builder.specs.Build.{center, rootOf, spanHull, spanWords, painted, log, levels, buildWords, buildColours, buildRoot, Span};
+
+// How many words a slot has: where the node words can be cut between two slots.
+const NODE_WORDS: usize = 8;
+
+// The greatest D such that 2^D <= m, for m below 2^(g + 1).
+fn log_of(g: u64, m: usize) -> u64
+    requires { ⌜ g < 65 ⌝ }
+    ensures { λ r. ⌜ (r ≡ log g m) × (r ≤ g) ⌝ }
+{
+    if g == 0 {
+        return 0;
+    }
+    if m <= 1 {
+        return 0;
+    }
+    log_of(g - 1, m / 2) + 1
+}
+
+// The levels of a map of n entries: those that it fills, and a last one, which is red.
+fn max_depth(n: usize) -> u64
+    requires { ⌜ n ≤ 65535 ⌝ }
+    ensures { λ r. ⌜ (r ≡ levels n) × (r < 18) ⌝ }
+{
+    log_of(16, n + 1) + 1
+}
+
+// The link to the root of the slots [start, end).
+fn root_of(start: usize, end: usize) -> u64
+    ensures { λ r. ⌜ r ≡ rootOf start end ⌝ }
+{
+    if start < end {
+        (start + (end - start) / 2) as u64
+    } else {
+        U
+    }
+}
+
+// Writes the root of the slots [start, end), in their part of the node words.
+fn put_root(list: &[u64], nodes: &mut [u64], start: usize, end: usize, parent: u64, hull: Interval)
+    requires { ⌜ (end * 3 ≤ length (now list)) × (length (now nodes) ≡ (end - start) * 8) × (start < end) ⌝ }
+    ensures { λ _. ⌜ now (nodes .exit)
+        ≡ putNode (now (nodes .entry)) ((end - start) / 2) (entryOf (now (list .entry)) (center start end)) hull
+        (rootOf start (center start end)) (rootOf (center start end + 1) end) parent ⌝ }
+{
+    let half = (end - start) / 2;
+    let center = start + half;
+    let entry = entry_at(list, center);
+    let left = root_of(start, center);
+    let right = root_of(center + 1, end);
+    put_node(nodes, half as u64, entry, hull, left, right, parent);
+}
+
+// Initializes the slots [start, end), whose words are `nodes`, below `parent`. rev_depth: inverse depth (the top call has a
+// high one, the lowest level has 1, and is red). The answer is d, extended by the intervals of these slots.
+fn init_from_sorted(
+    list: &[u64],
+    nodes: &mut [u64],
+    colours: &mut [u8],
+    start: usize,
+    end: usize,
+    rev_depth: u64,
+    parent: u64,
+    d: Interval,
+) -> Interval
+    requires { ⌜ Span (now list) (now nodes) (now colours) start end «rev_depth» ⌝ }
+    ensures { λ r. ⌜ (r ≡ spanHull (now (list .entry)) «rev_depth» start end d)
+        × (now (nodes .exit) ≡ spanWords (now (list .entry)) «rev_depth» start end parent)
+        × (now (colours .exit) ≡ painted «rev_depth» (now (colours .entry)) start end) ⌝ }
+{
+    if end <= start {
+        return d;
+    }
+    let half = (end - start) / 2;
+    let center = start + half;
+    let own = interval_at(list, center);
+    put_bit(colours, center, rev_depth == 1);
+    let left = init_from_sorted(
+        list,
+        &mut nodes[..half * NODE_WORDS],
+        colours,
+        start,
+        center,
+        rev_depth - 1,
+        center as u64,
+        own,
+    );
+    let hull = init_from_sorted(
+        list,
+        &mut nodes[(half + 1) * NODE_WORDS..],
+        colours,
+        center + 1,
+        end,
+        rev_depth - 1,
+        center as u64,
+        left,
+    );
+    put_root(list, nodes, start, end, parent, hull);
+    d.extend(hull)
+}
+
+// Builds the store of the first n triples of the list; the answer is its root. Slots and colour bits from n up stay.
+pub fn from_sorted(list: &[u64], nodes: &mut [u64], colours: &mut [u8], n: usize) -> u64
+    requires { ⌜ (n ≤ 65535) × (n * 3 ≤ length (now list)) × (n * 8 ≤ length (now nodes)) × (n ≤ length (now colours) * 8) ⌝ }
+    ensures { λ r. ⌜ (r ≡ buildRoot n) × (now (nodes .exit) ≡ buildWords (now (list .entry)) n (now (nodes .entry)))
+        × (now (colours .exit) ≡ buildColours n (now (colours .entry))) ⌝ }
+{
+    let none = Interval { start: 0, end: 0 };
+    init_from_sorted(
+        list,
+        &mut nodes[..n * NODE_WORDS],
+        colours,
+        0,
+        n,
+        max_depth(n),
+        U,
+        none,
+    );
+    root_of(0, n)
+}

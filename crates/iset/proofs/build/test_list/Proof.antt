@@ -1,0 +1,21 @@
+use Rattle.words.proofs.Tests.{equal, unequal}
+use Rattle.bitvec.proofs.Laws.{picked, passed}
+use Rattle.iset.specs.Build.{buildNumber}
+use Rattle.iset.proofs.Laws.{over-room, in-room}
+use borrow.Author.Needs.{needs}
+use Rattle.iset.proofs.build.test_list.Statement.{statement}
+use Rattle.iset.proofs.build.test_list.Tie as tie
+
+pub test-list-spec : {M : Type 1} → statement M
+unfolding buildNumber
+test-list-spec =
+    tie.close
+    (tie.spec
+    (λ c. search unequal)
+    (λ c κs. search needs)
+    (λ c. search (equal, over-room))
+    (λ c κs. search needs)
+    (λ c κs. search needs)
+    (λ c. search (equal, in-room, picked))
+    (λ c. search (equal, in-room, picked, passed))
+    (λ c. search (equal, in-room, passed)))

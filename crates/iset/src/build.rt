@@ -1,0 +1,61 @@
+// Building a map from a list of triples start, end, value.
+use crate::Checked;
+use crate::Map;
+use builder::from_sorted;
+use builder::list::all_proper;
+use builder::list::sorted;
+use words::node::capacity;
+use words::refusal::Refusal;
+ghost use mathlib.Core.Path.{_≡_};
+ghost use lib.ListN.{length};
+ghost use Rattle.iset.specs.Check.{checkNumber};
+ghost use Rattle.iset.specs.Build.{buildNumber, buildPaper, buildRule, buildNodes, buildColour};
+
+// What a build answers.
+pub enum Built {
+    Done(Map),
+    Refused(Refusal),
+}
+
+// The first refusal of a list that is to be built into so many words and bytes. Each test looks at the whole list.
+fn test_list(list: &[u64], words: usize, bytes: usize) -> Checked
+    ensures { λ r. ⌜ checkNumber r ≡ buildNumber words bytes (now (list .entry)) ⌝ }
+{
+    let len = list.len();
+    if len % 3 != 0 {
+        return Checked::Refused(Refusal::BadList);
+    }
+    if capacity(words, bytes) < (len / 3) as u64 {
+        return Checked::Refused(Refusal::NoRoom);
+    }
+    if all_proper(list) {
+        if sorted(list) {
+            Checked::Sound
+        } else {
+            Checked::Refused(Refusal::NotSorted)
+        }
+    } else {
+        Checked::Refused(Refusal::BadInterval)
+    }
+}
+
+impl Map {
+    // The map of the entries of a list, entry k in slot k. Slots and colour bits past them stay as they are.
+    pub fn build(nodes: &mut [u64], colours: &mut [u8], list: &[u64]) -> Built
+        ensures { λ r. ⌜ (buildPaper r ≡ buildRule (now (nodes .entry)) (now (colours .entry)) (now (list .entry)))
+            × (now (nodes .exit) ≡ buildNodes (now (nodes .entry)) (now (colours .entry)) (now (list .entry)))
+            × (now (colours .exit) ≡ buildColour (now (nodes .entry)) (now (colours .entry)) (now (list .entry))) ⌝ }
+    {
+        match test_list(list, nodes.len(), colours.len()) {
+            Checked::Refused(why) => Built::Refused(why),
+            Checked::Sound => {
+                let n = list.len() / 3;
+                let root = from_sorted(list, nodes, colours, n);
+                Built::Done(Map {
+                    count: n as u64,
+                    root,
+                })
+            }
+        }
+    }
+}
