@@ -75,13 +75,6 @@ fill-next j x s t e q h = rw (e, add-one) (fill-more j x s (omega arith))
 pub fill-end : (j n x : ℕ) (s t : List ℕ) → t ≡ fill j x s → j ≤ n → n ≤ j → t ≡ fill n x s
 fill-end j n x s t e h k = let q : j ≡ n = omega arith in rw q at e
 
--- a test that was passed, or not
-pub picked : {A : Type 0} (b d : Bool) (r x y : A) → b ≡ d → b ≡ true → r ≡ x → r ≡ cond d x y
-picked b d r x y e t q = rw (sym e ∙ t) q
-
-pub passed : {A : Type 0} (b d : Bool) (r x y : A) → b ≡ d → b ≡ false → r ≡ y → r ≡ cond d x y
-passed b d r x y e t q = rw (sym e ∙ t) q
-
 -- what is allowed is there
 pub allowed-in : (n len i : ℕ) (b : Bool) → b ≡ allowed n len i → b ≡ true → (len ≤ n * 8) × (i < len)
 unfolding allowed

@@ -15,7 +15,7 @@ use Rattle.words.specs.declared.interval.Interval.{Interval}
 use Rattle.words.specs.declared.node.Entry.{Entry}
 use Rattle.bitvec.specs.Colours.{dye}
 use Rattle.builder.specs.Input.{intervalOf, entryOf}
-use Rattle.builder.specs.Build.{center, rootOf, spanHull, rootHull, nodeWords, spanWords, painted, levels, buildWords, buildColours, buildRoot, Span}
+use Rattle.builder.specs.Build.{center, rootOf, spanHull, rootHull, nodeWords, spanWords, painted, levels, buildWords, buildColours, buildRoot, Lent}
 use Rattle.builder.proofs.Spans.{few-left, few-right, hull-none, hull-some, words-none, words-some, painted-none, painted-some}
 use Rattle.builder.proofs.Levels.{levels-few}
 
@@ -66,7 +66,8 @@ module _ (w : List ℕ) (m : ℕ) (x y : List ℕ) (room : (m + 1) * 8 ≤ lengt
   length-back = ap length back-is ∙ simp length-append (omega (arith, length-front-part, length-y))
 
   -- slot m, written last, stands between the two parts
-  put-between : (e : Entry) (h : Interval) (left right up : ℕ) → putNode (back-both w m x y) m e h left right up ≡ x ++ (nodeWords e h left right up ++ y)
+  put-between : (e : Entry) (h : Interval) (left right up : ℕ)
+      → putNode (back-both w m x y) m e h left right up ≡ x ++ (nodeWords e h left right up ++ y)
   put-between e h left right up =
       let F : List ℕ = take ((m + 1) * 8) (back w m x) in
       let t : take (m * 8) (F ++ y) ≡ x =
@@ -84,13 +85,13 @@ lowest : (g : ℕ) → eqb (suc g) 1 ≡ eqb g 0
 lowest zero = refl
 lowest (suc g) = rw (ne-eqb (suc (suc g)) 1 (omega arith), ne-eqb (suc g) 0 (omega arith))
 
--- half a span, and its words below the root
+-- how many slots are left of a span's root
 abbrev half : ℕ → ℕ → ℕ
 half a b = (b - a) / 2
 
 -- A span with a root has a level; its halves are spans of one level less. The bytes D, and then E, are those of C with some bits
 -- written; the words of the left half come back as x, those of the right one as y.
-module _ (S w C : List ℕ) (a b f : ℕ) (span : Span S w C a b f) (some : a < b) where
+module _ (S w C : List ℕ) (a b f : ℕ) (span : Lent S w C a b f) (some : a < b) where
   -- what holds for each number of levels but none
   deep : (P : ℕ → Type 0) → ((g : ℕ) → b - a < 2 ^ suc g → P (suc g)) → P f
   deep P h = go f (span .few)
@@ -105,25 +106,23 @@ module _ (S w C : List ℕ) (a b f : ℕ) (span : Span S w C a b f) (some : a < 
   pub span-triples : b * 3 ≤ length S
   span-triples = span .triples
 
-  pub span-left : (D : List ℕ) → length D ≡ length C → Span S (take (half a b * 8) w) D a (center a b) (f - 1)
+  pub span-left : (D : List ℕ) → length D ≡ length C → Lent S (take (half a b * 8) w) D a (center a b) (f - 1)
   span-left D k =
       record {
         triples = omega (arith, span .triples);
         words = simp length-take (omega (arith, span .words));
         bits = omega (arith, span .bits);
         few = deep (λ f. center a b - a < 2 ^ (f - 1)) (λ g few. rw (sub-one (suc g)) (few-left a b g few some));
-        links = omega (arith, span .links);
       }
 
   pub span-right : (x D E : List ℕ) → length x ≡ length (take (half a b * 8) w) → length D ≡ length C → length E ≡ length D
-      → Span S (rest (back w (half a b) x) ((half a b + 1) * 8)) E (center a b + 1) b (f - 1)
+      → Lent S (rest (back w (half a b) x) ((half a b + 1) * 8)) E (center a b + 1) b (f - 1)
   span-right x D E k j i =
       record {
         triples = span .triples;
         words = length-rest (back w (half a b) x) ((half a b + 1) * 8) ∙ omega (arith, span .words, length-front w x (half a b * 8) k);
         bits = omega (arith, span .bits);
         few = deep (λ f. b - (center a b + 1) < 2 ^ (f - 1)) (λ g few. rw (sub-one (suc g)) (few-right a b g few some));
-        links = span .links;
       }
 
   room : (half a b + 1) * 8 ≤ length w
@@ -180,9 +179,8 @@ module _ (S w C : List ℕ) (a b f : ℕ) (span : Span S w C a b f) (some : a < 
       el ex eh ey
 
 -- an empty span
-module _ (S w C : List ℕ) (a b f : ℕ) (h : b ≤ a) where
-  pub words-empty : (p : ℕ) → Span S w C a b f → w ≡ spanWords S f a b p
-  words-empty p span = empty w (omega (arith, span .words)) ∙ sym (words-none S f a b p h)
+pub words-empty : (S w C : List ℕ) (a b f p : ℕ) → Lent S w C a b f → b ≤ a → w ≡ spanWords S f a b p
+words-empty S w C a b f p span h = empty w (omega (arith, span .words)) ∙ sym (words-none S f a b p h)
 
 pub hull-empty : (S : List ℕ) (a b f : ℕ) (d : Interval) → b ≤ a → d ≡ spanHull S f a b d
 hull-empty S a b f d h = sym (hull-none S f a b d h)
@@ -192,14 +190,14 @@ colours-empty C a b f h = sym (painted-none f C a b h)
 
 -- the whole list
 module _ (n f : ℕ) (e : f ≡ levels n) where
-  pub span-all : (S W C : List ℕ) → n ≤ 65535 → n * 3 ≤ length S → n * 8 ≤ length W → n ≤ length C * 8 → Span S (take (n * 8) W) C 0 n f
+  pub span-all : (S W C : List ℕ) → n ≤ 65535 → n * 3 ≤ length S → n * 8 ≤ length W → n ≤ length C * 8
+      → Lent S (take (n * 8) W) C 0 n f
   span-all S W C few triples room bits =
       record {
         triples = triples;
         words = simp length-take (omega arith);
         bits = bits;
         few = rw e (omega (arith, levels-few n few));
-        links = omega arith;
       }
 
   pub words-all : (S W x : List ℕ) → x ≡ spanWords S f 0 n U → x ++ drop (n * 8) W ≡ buildWords S n W

@@ -74,11 +74,10 @@ buildColours n C = painted (levels n) C 0 n
 unfoldable pub buildRoot : ℕ → ℕ
 buildRoot n = rootOf 0 n
 
--- What a span is built in: its triples, the words w of its nodes and no others, bytes with its colour bits; few enough for f levels,
--- and for a link.
-pub record Span (S w C : List ℕ) (a b f : ℕ) : Type 0 where
+-- What is lent for the span [a, b): its triples, the words w of its nodes and no others, bytes with its colour bits. Its nodes are
+-- few enough for f levels.
+pub record Lent (S w C : List ℕ) (a b f : ℕ) : Type 0 where
   pub triples : b * 3 ≤ length S
   pub words : length w ≡ (b - a) * 8
   pub bits : b ≤ length C * 8
   pub few : b - a < 2 ^ f
-  pub links : b < U

@@ -7,16 +7,14 @@ use crate::list::interval_at;
 use bitvec::put_bit;
 use words::interval::Interval;
 use words::ix::U;
+use words::node::NODE_WORDS;
 use words::node::put_node;
 ghost use mathlib.Core.Path.{_≡_};
 ghost use Prim.Native.Nat.{_+_, _*_, _-_, _/_, _≤_, _<_};
 ghost use lib.ListN.{length};
 ghost use Rattle.words.specs.Nodes.{putNode};
 ghost use Rattle.builder.specs.Input.{entryOf};
-ghost use Rattle.builder.specs.Build.{center, rootOf, spanHull, spanWords, painted, log, levels, buildWords, buildColours, buildRoot, Span};
-
-// How many words a slot has: where the node words can be cut between two slots.
-const NODE_WORDS: usize = 8;
+ghost use Rattle.builder.specs.Build.{center, rootOf, spanHull, spanWords, painted, log, levels, buildWords, buildColours, buildRoot, Lent};
 
 // The greatest D such that 2^D <= m, for m below 2^(g + 1).
 fn log_of(g: u64, m: usize) -> u64
@@ -78,7 +76,7 @@ fn init_from_sorted(
     parent: u64,
     d: Interval,
 ) -> Interval
-    requires { ⌜ Span (now list) (now nodes) (now colours) start end «rev_depth» ⌝ }
+    requires { ⌜ Lent (now list) (now nodes) (now colours) start end «rev_depth» ⌝ }
     ensures { λ r. ⌜ (r ≡ spanHull (now (list .entry)) «rev_depth» start end d)
         × (now (nodes .exit) ≡ spanWords (now (list .entry)) «rev_depth» start end parent)
         × (now (colours .exit) ≡ painted «rev_depth» (now (colours .entry)) start end) ⌝ }

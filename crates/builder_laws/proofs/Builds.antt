@@ -65,7 +65,8 @@ unfolding buildWords buildColours
 nothing-written S W C = (rw (words-none S (levels 0) 0 0 U (omega arith)) refl, painted-none (levels 0) C 0 0 (omega arith))
 
 -- the entries of the slots in order never fall
-rising : (W S : List ℕ) (n : ℕ) → Input S n → ((s : ℕ) → s < n → interval W s ≡ intervalOf S s) → (m a : ℕ) → a + m ≤ n → RisingAt W (range a m)
+rising : (W S : List ℕ) (n : ℕ) → Input S n → ((s : ℕ) → s < n → interval W s ≡ intervalOf S s)
+    → (m a : ℕ) → a + m ≤ n → RisingAt W (range a m)
 rising W S n i h zero a q = tt
 rising W S n i h (suc zero) a q = (tt, tt)
 rising W S n i h (suc (suc m)) a q =
@@ -87,7 +88,7 @@ build-passes S W C n few room bits input =
             once = λ s h. once-span f n s (levels-few n few) h;
             proper = λ s h.
                 omega (arith, input .proper s h, ap (λ (e : Entry). e .start) (holds s h), ap (λ (e : Entry). e .end) (holds s h));
-            rising = rw order (rising X S n input (λ s h. ap (λ (e : Entry). record { start = e .start; end = e .end }) (holds s h)) n 0 (omega arith));
+            rising = rw order (rising X S n input intervals n 0 (omega arith));
             hulls = good .hulls;
             top = top;
             hues = dyed .hues;
@@ -126,6 +127,9 @@ build-passes S W C n few room bits input =
 
     holds : (s : ℕ) → s < n → entry X s ≡ entryOf S s
     holds s h = good .entries s (omega arith) h
+
+    intervals : (s : ℕ) → s < n → interval X s ≡ intervalOf S s
+    intervals s h = ap (λ (e : Entry). record { start = e .start; end = e .end }) (holds s h)
 
     dyed : Dyed (red (painted f C 0 n)) f t
     dyed = dyed-span (red (painted f C 0 n)) f 0 n C small (omega (arith, levels-full n few)) bits (λ s x y. refl)

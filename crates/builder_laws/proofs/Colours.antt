@@ -46,7 +46,8 @@ painted-out (suc f) C a b s h =
 abbrev Agree : (ℕ → Bool) → List ℕ → ℕ → ℕ → Type 0
 Agree K C a b = (s : ℕ) → a ≤ s → s < b → K s ≡ red C s
 
-module _ (K : ℕ → Bool) (f : ℕ) (C : List ℕ) (a b : ℕ) (e : a < b) (room : b ≤ length C * 8) (h : Agree K (painted (suc f) C a b) a b) where
+module _ (K : ℕ → Bool) (f : ℕ) (C : List ℕ) (a b : ℕ) (e : a < b) (room : b ≤ length C * 8)
+    (h : Agree K (painted (suc f) C a b) a b) where
   -- the colours with the root's written, and then those of the left half
   C₁ : List ℕ
   C₁ = dye C (center a b) (eqb f 0)
@@ -122,7 +123,8 @@ dyed-some K f s l r k x y =
       depths = λ D d q. (k ∙ last-level f D d q, x .depths D (suc d) (omega arith), y .depths D (suc d) (omega arith));
     }
   where
-    calm : (f : ℕ) → K s ≡ eqb f 0 → Dyed K f l → Dyed K f r → K s ≡ true → (rootRed K l ≡ false) × (rootRed K r ≡ false)
+    calm : (f : ℕ) → K s ≡ eqb f 0 → Dyed K f l → Dyed K f r → K s ≡ true
+        → (rootRed K l ≡ false) × (rootRed K r ≡ false)
     calm zero k x y q = (x .top (omega arith), y .top (omega arith))
     calm (suc f) k x y q = absurd (true≢false (sym q ∙ k ∙ ne-eqb (suc f) 0 (omega arith)))
 
@@ -142,10 +144,12 @@ dyed-span K f a b C few full room h =
     (λ f a b h C full room k. dyed-none K f (omega arith)) some f a b few C full room h
   where
     some : (f a b : ℕ) (l r : Tree) → b - a < 2 ^ suc f → a < b
-        → ((C : List ℕ) → 2 ^ f ≤ 2 * (center a b - a + 1) → center a b ≤ length C * 8 → Agree K (painted f C a (center a b)) a (center a b) → Dyed K f l)
+        → ((C : List ℕ) → 2 ^ f ≤ 2 * (center a b - a + 1) → center a b ≤ length C * 8
+        → Agree K (painted f C a (center a b)) a (center a b) → Dyed K f l)
         → ((C : List ℕ) → 2 ^ f ≤ 2 * (b - (center a b + 1) + 1) → b ≤ length C * 8
         → Agree K (painted f C (center a b + 1) b) (center a b + 1) b → Dyed K f r)
-        → (C : List ℕ) → 2 ^ suc f ≤ 2 * (b - a + 1) → b ≤ length C * 8 → Agree K (painted (suc f) C a b) a b → Dyed K (suc f) (node l (center a b) r)
+        → (C : List ℕ) → 2 ^ suc f ≤ 2 * (b - a + 1) → b ≤ length C * 8 → Agree K (painted (suc f) C a b) a b
+        → Dyed K (suc f) (node l (center a b) r)
     some f a b l r h e x y C full room k =
         dyed-some K f (center a b) l r (root-colour K f C a b e room k)
         (x (C₁ K f C a b e room k) (full-left f a b e full) (omega (arith, length-C₁ K f C a b e room k))

@@ -36,8 +36,11 @@ module _ (p : ℕ → Bool) where
 le-sound : (a b : Interval) → le a b ≡ true → NotAfter a b
 le-sound a b h = go (ltb (a .start) (b .start)) (eqb (a .start) (b .start)) refl refl h
   where
-    go : (t u : Bool) → ltb (a .start) (b .start) ≡ t → eqb (a .start) (b .start) ≡ u → t || (u && leb (a .end) (b .end)) ≡ true → NotAfter a b
-    go true u e i q = let z : a .start < b .start = ltb-true (a .start) (b .start) e in record { starts = omega arith; stops = λ x. absurd (omega arith) }
+    go : (t u : Bool) → ltb (a .start) (b .start) ≡ t → eqb (a .start) (b .start) ≡ u → t || (u && leb (a .end) (b .end)) ≡ true
+        → NotAfter a b
+    go true u e i q =
+        let z : a .start < b .start = ltb-true (a .start) (b .start) e in
+        record { starts = omega arith; stops = λ x. absurd (omega arith) }
     go false true e i q =
         let z : a .start ≡ b .start = eqb-true (a .start) (b .start) i in
         record { starts = omega arith; stops = λ x. leb-true (a .end) (b .end) q }

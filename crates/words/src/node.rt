@@ -7,6 +7,9 @@ ghost use Prim.Native.Nat.{_+_, _*_, _<_, _≤_};
 ghost use lib.ListN.{length};
 ghost use Rattle.words.specs.Nodes.{place, word, put, start, stop, value, lo, hi, kid, par, interval, hull, entry, putKid, putPar, putEntry, putHull, putNode, swap, joined, hullOf, fix, room};
 
+// How many words a node has: where the words of a store can be cut between two slots.
+pub const NODE_WORDS: usize = 8;
+
 // What a slot holds for its user: an interval and a value.
 pub struct Entry {
     pub start: u64,
@@ -18,7 +21,7 @@ pub struct Entry {
 pub fn capacity(words: usize, bytes: usize) -> u64
     ensures { λ r. ⌜ r ≡ room words bytes ⌝ }
 {
-    let nodes = (words / 8) as u64;
+    let nodes = (words / NODE_WORDS) as u64;
     if bytes < 8192 {
         return smaller(nodes, smaller((bytes * 8) as u64, 65535));
     }

@@ -62,10 +62,13 @@ pub +init-from-sorted-spec : {M : Type 1} → statement M
     let right = c .before .before .before .before .before in
     let left = right .before .before .before .before .before .before .before in
     let begin = left .before .before .before .before .before .before .before .before in
-    let span = begin .before .before .before .before .pre .1 in (
-      span-triples _ _ _ _ _ _ span (begin .if1 .left),
-      span-back _ _ _ _ _ _ span (begin .if1 .left) (left .init-from-sorted .last .1 .0) (right .init-from-sorted2 .last .1 .0) (left .init-from-sorted .kept .1 .0) (right .init-from-sorted2 .kept .1 .0),
-      begin .if1 .left,
+    let some = begin .if1 .left in
+    let span = begin .before .before .before .before .pre .1 in
+    let x = left .init-from-sorted in
+    let y = right .init-from-sorted2 in (
+      span-triples _ _ _ _ _ _ span some,
+      span-back _ _ _ _ _ _ span some (x .last .1 .0) (y .last .1 .0) (x .kept .1 .0) (y .kept .1 .0),
+      some,
     ))
     (λ c κs. tt)
     (λ c. omega arith)
@@ -76,9 +79,14 @@ pub +init-from-sorted-spec : {M : Type 1} → statement M
     let left = right .before .before .before .before .before .before .before in
     let bit = left .before .before .before .before .before in
     let begin = bit .before .before .before in
+    let some = begin .if1 .left in
     let span = begin .before .before .before .before .pre .1 in
-    let own = bit .before .before .interval-at .ensures in (
-      hull-whole _ _ _ _ _ _ span (begin .if1 .left) _ _ _ _ _ own (left .init-from-sorted .ensures .0) (right .init-from-sorted2 .ensures .0) (c .extend .ensures),
-      words-whole _ _ _ _ _ _ span (begin .if1 .left) _ _ _ _ _ _ _ own (left .init-from-sorted .ensures .0) (left .init-from-sorted .ensures .1) (right .init-from-sorted2 .ensures .0) (right .init-from-sorted2 .ensures .1) (left .init-from-sorted .kept .1 .0) (right .init-from-sorted2 .kept .1 .0) (root .put-root .ensures),
-      colours-whole _ _ _ _ _ _ span (begin .if1 .left) _ _ _ (bit .put-bit .ensures) (left .init-from-sorted .ensures .2) (right .init-from-sorted2 .ensures .2),
+    let own = bit .before .before .interval-at .ensures in
+    let x = left .init-from-sorted .ensures in
+    let y = right .init-from-sorted2 .ensures in
+    let kx = left .init-from-sorted .kept .1 .0 in
+    let ky = right .init-from-sorted2 .kept .1 .0 in (
+      hull-whole _ _ _ _ _ _ span some _ _ _ _ _ own (x .0) (y .0) (c .extend .ensures),
+      words-whole _ _ _ _ _ _ span some _ _ _ _ _ _ _ own (x .0) (x .1) (y .0) (y .1) kx ky (root .put-root .ensures),
+      colours-whole _ _ _ _ _ _ span some _ _ _ (bit .put-bit .ensures) (x .2) (y .2),
     ))

@@ -1,5 +1,6 @@
 use Rattle.bitvec.specs.Calls.{fromElemRule, fromElemBytes}
-use Rattle.bitvec.proofs.Laws.{picked, passed, bytes-fit, fill-is}
+use Rattle.words.proofs.Tests.{picked, passed}
+use Rattle.bitvec.proofs.Laws.{bytes-fit, fill-is}
 use borrow.Author.Needs.{needs}
 use Rattle.bitvec.proofs.BitVec.from_elem.Statement.{statement}
 use Rattle.bitvec.proofs.BitVec.from_elem.Tie as tie

@@ -1,5 +1,6 @@
 use Rattle.bitvec.specs.Calls.{getRule}
-use Rattle.bitvec.proofs.Laws.{inside, picked, passed, done-is}
+use Rattle.words.proofs.Tests.{picked, passed}
+use Rattle.bitvec.proofs.Laws.{inside, done-is}
 use borrow.Author.Needs.{needs}
 use Rattle.bitvec.proofs.BitVec.get.Statement.{statement}
 use Rattle.bitvec.proofs.BitVec.get.Tie as tie

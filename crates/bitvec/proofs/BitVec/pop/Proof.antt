@@ -1,5 +1,6 @@
 use Rattle.bitvec.specs.Calls.{popRule}
-use Rattle.bitvec.proofs.Laws.{inside-some, inside-last, picked, passed, done-is}
+use Rattle.words.proofs.Tests.{picked, passed}
+use Rattle.bitvec.proofs.Laws.{inside-some, inside-last, done-is}
 use borrow.Author.Needs.{needs}
 use Rattle.bitvec.proofs.BitVec.pop.Statement.{statement}
 use Rattle.bitvec.proofs.BitVec.pop.Tie as tie

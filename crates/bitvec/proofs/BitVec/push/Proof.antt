@@ -1,5 +1,6 @@
 use Rattle.bitvec.specs.Calls.{pushRule, pushBytes}
-use Rattle.bitvec.proofs.Laws.{room-byte, room-next, picked, passed}
+use Rattle.words.proofs.Tests.{picked, passed}
+use Rattle.bitvec.proofs.Laws.{room-byte, room-next}
 use borrow.Author.Needs.{needs}
 use Rattle.bitvec.proofs.BitVec.push.Statement.{statement}
 use Rattle.bitvec.proofs.BitVec.push.Tie as tie

@@ -1,5 +1,6 @@
 use Rattle.bitvec.specs.Calls.{setRule, setBytes}
-use Rattle.bitvec.proofs.Laws.{inside, picked, passed}
+use Rattle.words.proofs.Tests.{picked, passed}
+use Rattle.bitvec.proofs.Laws.{inside}
 use borrow.Author.Needs.{needs}
 use Rattle.bitvec.proofs.BitVec.set.Statement.{statement}
 use Rattle.bitvec.proofs.BitVec.set.Tie as tie

@@ -1,5 +1,6 @@
 use Rattle.bitvec.specs.Calls.{swapRemoveRule, swapRemoveBytes}
-use Rattle.bitvec.proofs.Laws.{inside, inside-len, inside-place, inside-some, picked, passed, done-is}
+use Rattle.words.proofs.Tests.{picked, passed}
+use Rattle.bitvec.proofs.Laws.{inside, inside-len, inside-place, inside-some, done-is}
 use borrow.Author.Needs.{needs}
 use Rattle.bitvec.proofs.BitVec.swap_remove.Statement.{statement}
 use Rattle.bitvec.proofs.BitVec.swap_remove.Tie as tie

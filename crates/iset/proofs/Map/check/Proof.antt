@@ -1,6 +1,6 @@
 use Rattle.iset.specs.Check.{checkRule}
 use Rattle.iset.proofs.Laws.{over-room, in-room}
-use Rattle.bitvec.proofs.Laws.{picked, passed}
+use Rattle.words.proofs.Tests.{picked, passed}
 use borrow.Author.Needs.{needs}
 use Rattle.iset.proofs.Map.check.Statement.{statement}
 use Rattle.iset.proofs.Map.check.Tie as tie

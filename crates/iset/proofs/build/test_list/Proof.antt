@@ -1,5 +1,4 @@
-use Rattle.words.proofs.Tests.{equal, unequal}
-use Rattle.bitvec.proofs.Laws.{picked, passed}
+use Rattle.words.proofs.Tests.{equal, passed, picked, unequal}
 use Rattle.iset.specs.Build.{buildNumber}
 use Rattle.iset.proofs.Laws.{over-room, in-room}
 use borrow.Author.Needs.{needs}
