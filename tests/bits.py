@@ -74,11 +74,16 @@ def edges(n, length):
     run("from_elem", from_elem, n, length, 1)
 
 
-for n, length in (0, 0), (1, 1), (1, 7), (1, 8), (2, 9), (3, 24):
-    places(n, length)
-for n, length in ((0, 0), (3, 0), (1, 1), (1, 7), (1, 8), (2, 9), (2, 16), (3, 24), (0, 1), (1, 9), (2, 17), (3, 25),
-                  (3, 2**64 - 1)):
-    edges(n, length)
-run("get", get, 1, 9, 0)
-run("get", get, 3, 2**64 - 1, 0)
-run("from_elem", from_elem, 3, 10, 1)
+def main():
+    for n, length in (0, 0), (1, 1), (1, 7), (1, 8), (2, 9), (3, 24):
+        places(n, length)
+    for n, length in ((0, 0), (3, 0), (1, 1), (1, 7), (1, 8), (2, 9), (2, 16), (3, 24), (0, 1), (1, 9), (2, 17), (3, 25),
+                      (3, 2**64 - 1)):
+        edges(n, length)
+    run("get", get, 1, 9, 0)
+    run("get", get, 3, 2**64 - 1, 0)
+    run("from_elem", from_elem, 3, 10, 1)
+
+
+if __name__ == "__main__":
+    main()

@@ -1,0 +1,33 @@
+// `check`: the check of the store by itself.
+use crate::arena;
+use crate::arena::NEW_COLOURS;
+use crate::arena::NEW_WORDS;
+use crate::copy;
+use crate::state::State;
+use lines::output;
+
+// The refusal's number, 0 for none.
+fn check_answer(_count: u64, _root: u64, _nodes: &[u64], _colours: &[u8]) -> u64 {
+    0
+}
+
+// The check of the copy.
+fn checked(s: State, words: &[u64], octets: &[u8]) -> u64 {
+    let w = arena::least(NEW_WORDS, words.len());
+    let c = arena::least(NEW_COLOURS, octets.len());
+    let nodes = arena::least(s.words, words.len() - w);
+    let colours = arena::least(s.colours, octets.len() - c);
+    check_answer(
+        s.count,
+        s.root,
+        &words[w..w + nodes],
+        &octets[c..c + colours],
+    )
+}
+
+pub fn check(s: State, words: &mut [u64], octets: &mut [u8], out: &mut [u8]) -> State {
+    copy::begin(s, words, octets);
+    let no = checked(s, words, octets);
+    let to = output::put_number(out, s.to, no);
+    copy::end(s, s.count, s.root, words, octets, out, to)
+}

@@ -1,0 +1,4 @@
+pub mod Bools
+pub mod Events
+pub mod Steps
+pub mod Drains

@@ -1,0 +1,46 @@
+-- "A drain steps until the end or its limit of hits, writing slots .. It answers the hits written, the sum entered and the next
+-- cursor. Places past the hits written stay."
+use mathlib.Core.Bool.{cond}
+use mathlib.Core.List.{List, [], _∷_, _++_}
+use Prim.Native.Nat.{ℕ, zero, suc, _+_}
+use lib.Dec.{eqb, ltb}
+use lib.ListN.{length, drop}
+use Rattle.iter.specs.Walk.{Rules, Answer, fuel, step, call}
+use Rattle.iter.specs.declared.Cursor.{Cursor}
+
+-- the slots of the hits, in order; the next cursor; the nodes entered
+pub record Drained : Type 0 where
+  pub slots : List ℕ
+  pub next : Cursor
+  pub entered : ℕ
+
+-- a hit before the rest of a drain
+abbrev pub more : ℕ → ℕ → Drained → Drained
+more s e d = record { slots = s ∷ d .slots; next = d .next; entered = e + d .entered }
+
+-- two drains, the second from the first one's next cursor
+abbrev pub joined : Drained → Drained → Drained
+joined d e = record { slots = d .slots ++ e .slots; next = e .next; entered = d .entered + e .entered }
+
+unfoldable pub drain : List ℕ → ℕ → Rules → ℕ → Cursor → Drained
+drain W n Q zero c = record { slots = []; next = c; entered = 0 }
+drain W n Q (suc limit) c =
+    let a : Answer = step W n Q c in
+    let d : Drained = more (a .slot) (a .entered) (drain W n Q limit (a .next)) in
+    cond (ltb (a .slot) n) d (record { slots = []; next = a .next; entered = a .entered })
+
+-- the nodes entered in the calls of a drain, in order
+unfoldable pub calls : List ℕ → ℕ → Rules → ℕ → Cursor → List ℕ
+calls W n Q zero c = []
+calls W n Q (suc limit) c =
+    let a : Answer = step W n Q c in
+    let r : List ℕ = calls W n Q limit (a .next) in
+    call W n Q (fuel n) c ++ cond (ltb (a .slot) n) r []
+
+-- "limit 0 means 64"
+abbrev pub limitOf : ℕ → ℕ
+limitOf limit = cond (eqb limit 0) 64 limit
+
+-- the output after a drain
+unfoldable pub filled : List ℕ → List ℕ → List ℕ
+filled slots out = slots ++ drop (length slots) out

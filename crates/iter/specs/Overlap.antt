@@ -1,0 +1,22 @@
+-- Overlap lookup: the entries that intersect a range.
+use mathlib.Core.Bool.{Bool, true, false}
+use mathlib.Core.List.{List}
+use Prim.Native.Nat.{ℕ}
+use Rattle.words.specs.Ix.{onLink}
+use Rattle.words.specs.Nodes.{lo, hi, kid, interval}
+use Rattle.words.specs.Intervals.{reached, admits, intersects}
+use Rattle.words.specs.declared.interval.Span.{Span}
+use Rattle.iter.specs.Walk.{Rules}
+
+-- the entry of slot s intersects the range
+unfoldable pub meets : List ℕ → Span → ℕ → Bool
+meets W q s = intersects q (interval W s)
+
+-- `should_go_left` at `true`: "if the child's hull end >= lo .. or lo is Unbounded"; and `should_go_right`: "if its hull start is
+-- <= hi, < hi, or hi is Unbounded, in that order of kinds"
+unfoldable pub shouldGo : List ℕ → ℕ → Span → Bool → ℕ → Bool
+shouldGo W n q true s = onLink n (kid W true s) (λ a. reached (q .lo) (hi W a)) false
+shouldGo W n q false s = onLink n (kid W false s) (λ a. admits (q .hi) (lo W a)) false
+
+abbrev pub overlap : List ℕ → ℕ → Span → Rules
+overlap W n q = record { go = shouldGo W n q; match = meets W q }

@@ -1,0 +1,96 @@
+-- "The walk is a function of its own, one mark or one link a move, with slot and stack by value; steps and drains loop over it."
+-- Overlap and exact lookup are two instances, by their rules.
+use mathlib.Core.Bool.{Bool, true, false, cond, _&&_}
+use mathlib.Core.List.{List, [], _∷_, _++_}
+use Prim.Native.Nat.{ℕ, zero, suc, _+_, _*_}
+use lib.Dec.{eqb, ltb}
+use Rattle.words.specs.Ix.{U}
+use Rattle.words.specs.Nodes.{kid, par}
+use Rattle.stack.specs.States.{top, marked, pushed}
+use Rattle.iter.specs.Cursors.{cursor, stackOf, ended, upTo}
+use Rattle.iter.specs.declared.Cursor.{Cursor}
+
+-- whether the walk goes to the child of a slot on a side (`true`: left), and whether a slot's entry is looked for
+pub record Rules : Type 0 where
+  pub go : Bool → ℕ → Bool
+  pub match : ℕ → Bool
+
+-- the state that the top level gets before the walk goes down on a side: 01 was left, 11 was right
+abbrev pub side : Bool → ℕ
+side true = 2
+side false = 3
+
+-- the walk goes down on a side b: the rules say so, and the stack takes one more level
+unfoldable pub deeper : Rules → Bool → Cursor → Bool
+deeper Q b c = ltb (c .levels) 32 && Q .go b (c .slot)
+
+-- the top level is marked v, and then: the walk stays; or it goes to the child on the side b, entered
+unfoldable pub mark : ℕ → Cursor → Cursor
+mark v c = cursor (c .slot) (marked v (stackOf c))
+
+unfoldable pub down : List ℕ → Bool → Cursor → Cursor
+down W b c = cursor (kid W b (c .slot)) (pushed (marked (side b) (stackOf c)))
+
+-- one move. 00: go left, or mark 01. 01: mark 10. 10: go right, or up. 11: up.
+unfoldable pub move : List ℕ → Rules → Cursor → Cursor
+move W Q c =
+    cond (eqb (top (stackOf c)) 0)
+    (cond (deeper Q true c) (down W true c) (mark 2 c))
+    (cond (eqb (top (stackOf c)) 2)
+    (mark 1 c)
+    (cond (eqb (top (stackOf c)) 1 && deeper Q false c) (down W false c) (upTo (par W (c .slot)) c)))
+
+-- "A live node is entered where the fresh cursor or a move puts it on top in state 00"
+unfoldable pub enters : ℕ → Cursor → Bool
+enters n c = ltb (c .slot) n && eqb (top (stackOf c)) 0
+
+-- a live node is on top in state 10, and its entry is looked for: it is a hit
+unfoldable pub hits : ℕ → Rules → Cursor → Bool
+hits n Q c = ltb (c .slot) n && (eqb (top (stackOf c)) 1 && Q .match (c .slot))
+
+-- "Each step answers a hit with its slot, or the end, with the next cursor and the nodes entered in this call"; U at the end
+pub record Answer : Type 0 where
+  pub slot : ℕ
+  pub next : Cursor
+  pub entered : ℕ
+
+abbrev pub ending : ℕ → Answer
+ending e = record { slot = U; next = ended; entered = e }
+
+abbrev pub hitting : Cursor → ℕ → Answer
+hitting c e = record { slot = c .slot; next = c; entered = e }
+
+-- what a state counts
+abbrev pub counts : ℕ → Cursor → ℕ
+counts n c = cond (enters n c) 1 0
+
+-- moves until a hit or the end, with e nodes entered so far
+unfoldable pub seek : List ℕ → ℕ → Rules → ℕ → ℕ → Cursor → Answer
+seek W n Q zero e c = ending e
+seek W n Q (suc fuel) e c =
+    let d : Cursor = move W Q c in
+    let r : Answer = seek W n Q fuel (e + counts n d) d in
+    cond (ltb (c .slot) n) (cond (hits n Q d) (hitting d e) r) (ending e)
+
+-- as many moves as a call may take; they suffice on every store that passes the check
+abbrev pub fuel : ℕ → ℕ
+fuel n = n * 4 + 1
+
+-- the step of a cursor: "the call on a fresh cursor counts its starting node, none where that is U"
+unfoldable pub step : List ℕ → ℕ → Rules → Cursor → Answer
+step W n Q c = seek W n Q (fuel n) (counts n c) c
+
+-- "demand 3's nodes are read off this list of states": those of a call, in order, the first state's own among them
+unfoldable pub call : List ℕ → ℕ → Rules → ℕ → Cursor → List ℕ
+call W n Q zero c = cond (enters n c) (c .slot ∷ []) []
+call W n Q (suc fuel) c =
+    let d : Cursor = move W Q c in
+    let r : List ℕ = call W n Q fuel d in
+    cond (enters n c) (c .slot ∷ []) [] ++ cond (ltb (c .slot) n) (cond (hits n Q d) [] r) []
+
+-- the state after some moves; the walk stays at its end
+unfoldable pub after : List ℕ → ℕ → Rules → ℕ → Cursor → Cursor
+after W n Q zero c = c
+after W n Q (suc m) c =
+    let d : Cursor = after W n Q m (move W Q c) in
+    cond (ltb (c .slot) n) d c

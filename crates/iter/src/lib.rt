@@ -1,0 +1,14 @@
+// Looking up: a port of src/iter.rs. A cursor is the place of a walk: the slot that it is at, and the stack.
+pub struct Cursor {
+    pub slot: u64,
+    pub levels: u64,
+    pub bits: u64,
+}
+
+// The forms of a cursor; one that has no form is `Bad`.
+pub enum Form {
+    Fresh,
+    Held,
+    Ended,
+    Bad,
+}

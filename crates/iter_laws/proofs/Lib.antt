@@ -1,0 +1,16 @@
+pub mod Script
+pub mod Ways
+pub mod Course
+pub mod Trees
+pub mod Walks
+pub mod Places
+pub mod Fresh
+pub mod Later
+pub mod Forms
+pub mod Bounds
+pub mod Within
+pub mod Overlaps
+pub mod Count
+pub mod OverlapRuns
+pub mod Exacts
+pub mod ExactRuns

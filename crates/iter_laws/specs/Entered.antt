@@ -1,0 +1,47 @@
+-- "Entered nodes": said of the tree, with no walk. The rule E tells whether the child a on the side b of an entered node s is entered.
+use mathlib.Core.Bool.{Bool, true, false, _&&_}
+use mathlib.Core.List.{List, [], _∷_, _++_}
+use Prim.Native.Nat.{ℕ}
+use lib.ListN.{length}
+use Rattle.words.specs.Nodes.{lo, hi, interval, hull}
+use Rattle.words.specs.Intervals.{reached, admits, touches, contains}
+use Rattle.words.specs.declared.interval.Interval.{Interval}
+use Rattle.words.specs.declared.interval.Span.{Span}
+use Rattle.tree.specs.Tree.{Tree, leaf, node, slots}
+use Rattle.tree.specs.Zipper.{Frame, frame}
+use Rattle.iter.specs.Exact.{sorted}
+use Rattle.iter.specs.Lists.{when, those}
+
+-- "the left child of an entered node if the child's hull end >= lo (Included and Excluded alike) or lo is Unbounded; the right child
+-- if its hull start is <= hi, < hi, or hi is Unbounded, in that order of kinds"
+abbrev pub overlapRule : List ℕ → Span → Bool → ℕ → ℕ → Bool
+overlapRule W q true s a = reached (q .lo) (hi W a)
+overlapRule W q false s a = admits (q .hi) (lo W a)
+
+-- "It goes left if query <= node and the left hull contains the query (hull start <= start, end <= hull end), right with >="
+abbrev pub exactRule : List ℕ → Interval → Bool → ℕ → ℕ → Bool
+exactRule W x b s a = sorted W x b s && contains (hull W a) x
+
+-- the subtree on the side b of an entered node s is gone into
+abbrev pub goes : (Bool → ℕ → ℕ → Bool) → Bool → ℕ → Tree → Bool
+goes E b s leaf = false
+goes E b s (node l a r) = E b s a
+
+-- the nodes entered in a tree, from its root on, in the order in which the walk enters them
+abbrev pub entered : (Bool → ℕ → ℕ → Bool) → Tree → List ℕ
+entered E leaf = []
+entered E (node l s r) = s ∷ (when (goes E true s l) (entered E l) ++ when (goes E false s r) (entered E r))
+
+-- "the two child rules run on with its slot and ancestors taken as entered": the nodes entered after a place, from its ancestors
+abbrev pub enteredLater : (Bool → ℕ → ℕ → Bool) → List Frame → List ℕ
+enteredLater E [] = []
+enteredLater E (frame true s far ∷ c) = when (goes E false s far) (entered E far) ++ enteredLater E c
+enteredLater E (frame false s far ∷ c) = enteredLater E c
+
+-- those entered after the held slot s, with the right subtree r
+abbrev pub enteredFrom : (Bool → ℕ → ℕ → Bool) → ℕ → Tree → List Frame → List ℕ
+enteredFrom E s r c = when (goes E false s r) (entered E r) ++ enteredLater E c
+
+-- how many entries of a tree "meet or touch" the range
+abbrev pub touching : List ℕ → Span → Tree → ℕ
+touching W q t = length (those (λ s. touches q (interval W s)) (slots t))

@@ -1,0 +1,61 @@
+-- What the stack calls answer.
+use mathlib.Core.Bool.{Bool, false, cond, _&&_}
+use Prim.Native.Nat.{ℕ, _+_, _%_}
+use lib.Dec.{eqb, ltb, leb}
+use Rattle.words.specs.Refusals.{refusalNumber}
+use Rattle.stack.specs.States.{top, marked, pushed, popped}
+use Rattle.stack.specs.declared.ActionStack.{ActionStack}
+use Rattle.stack.specs.declared.Answer.{Answer}
+use Rattle.stack.specs.declared.Answer.the-variants.{Done, Refused}
+
+-- an answer by this paper's numbers: the refusal's, 0 for none; what was tested; the stack
+pub record Told : Type 0 where
+  pub no : ℕ
+  pub yes : Bool
+  pub stack : ActionStack
+
+-- a refusal has the stack as it was given
+abbrev pub paper : ActionStack → Answer → Told
+paper given (Done b s) = record { no = 0; yes = b; stack = s }
+paper given (Refused y) = record { no = refusalNumber y; yes = false; stack = given }
+
+abbrev pub done : Bool → ActionStack → Told
+done b s = record { no = 0; yes = b; stack = s }
+
+abbrev pub badBit : ActionStack → Told
+badBit given = record { no = 10; yes = false; stack = given }
+
+-- refusal 10: "pop or state mark of nothing; .. a state test of nothing; any stack call on more than 32 levels"
+unfoldable pub some : ActionStack → Bool
+some s = leb 1 (s .levels) && leb (s .levels) 32
+
+-- a state test, by the states that it accepts; a state mark, by the state that it gives
+unfoldable pub testRule : (ℕ → Bool) → ActionStack → Told
+testRule accepts s = cond (some s) (done (accepts (top s)) s) (badBit s)
+
+unfoldable pub markRule : (ℕ → ℕ) → ActionStack → Told
+markRule gives s = cond (some s) (done false (marked (gives (top s)) s)) (badBit s)
+
+-- `can_go_left`: neither bit is set. `can_match`: the first is not. `can_go_right`: the last is not.
+abbrev pub justEntered : ℕ → Bool
+justEntered v = eqb v 0
+
+abbrev pub notReturned : ℕ → Bool
+notReturned v = eqb (v % 2) 0
+
+abbrev pub notRight : ℕ → Bool
+notRight v = ltb v 2
+
+-- `go_left` sets the last bit and keeps the first; `make_match` gives 10 and `go_right` 11 from every state
+abbrev pub wentLeft : ℕ → ℕ
+wentLeft v = v % 2 + 2
+
+-- "push .. on a stack of 32 levels"
+unfoldable pub pushRule : ActionStack → Told
+pushRule s = cond (leb 32 (s .levels)) (badBit s) (done false (pushed s))
+
+unfoldable pub popRule : ActionStack → Told
+popRule s = cond (some s) (done false (popped s)) (badBit s)
+
+unfoldable pub isEmptyRule : ActionStack → Told
+isEmptyRule s = cond (leb (s .levels) 32) (done (eqb (s .levels) 0) s) (badBit s)

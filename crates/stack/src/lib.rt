@@ -1,0 +1,195 @@
+// The stack of a walk: a port of `ActionStack` in src/iter.rs. Each level has a state of two bits, and level j uses the bits 2j and
+// 2j + 1 of one number. The stack goes in by value; a call that changes it hands the new one back.
+use words::refusal::Refusal;
+ghost use mathlib.Core.Path.{_≡_};
+ghost use Prim.Native.Nat.{_*_, _^_, _≤_, _<_};
+ghost use Rattle.stack.specs.States.{stateAt, putState, start, top, marked, pushed, popped};
+ghost use Rattle.stack.specs.Calls.{some, paper, testRule, markRule, pushRule, popRule, isEmptyRule, justEntered, notReturned, notRight, wentLeft};
+
+pub struct ActionStack {
+    pub levels: u64,
+    pub bits: u64,
+}
+
+// What a call answers: what it tested, false where it tests nothing, and the stack after it; or the refusal.
+pub enum Answer {
+    Done(bool, ActionStack),
+    Refused(Refusal),
+}
+
+// The weight of the first bit of a level.
+fn weight(level: u64) -> u64
+    requires { ⌜ level < 32 ⌝ }
+    ensures { λ r. ⌜ r ≡ 4 ^ level ⌝ }
+{
+    1 << (2 * level)
+}
+
+// The state of a level.
+pub fn state_at(bits: u64, level: u64) -> u64
+    requires { ⌜ level < 32 ⌝ }
+    ensures { λ r. ⌜ r ≡ stateAt bits level ⌝ }
+{
+    bits / weight(level) % 4
+}
+
+// The bits with another state at a level: what is above it, the state, what is below it.
+pub fn put_state(bits: u64, level: u64, state: u64) -> u64
+    requires { ⌜ (level < 32) × (state < 4) ⌝ }
+    ensures { λ r. ⌜ r ≡ putState bits level state ⌝ }
+{
+    let w = weight(level);
+    (bits / w / 4 * 4 + state) * w + bits % w
+}
+
+impl ActionStack {
+    // One level, just entered.
+    pub fn new() -> ActionStack
+        ensures { λ r. ⌜ r ≡ start ⌝ }
+    {
+        ActionStack { levels: 1, bits: 0 }
+    }
+
+    // Whether there is a top level, and no more than 32 of them.
+    fn has_top(self) -> bool
+        ensures { λ r. ⌜ r ≡ some self ⌝ }
+    {
+        (1 <= self.levels) & (self.levels <= 32)
+    }
+
+    // The state of the top level.
+    pub fn top(self) -> u64
+        requires { ⌜ (1 ≤ self .levels) × (self .levels ≤ 32) ⌝ }
+        ensures { λ r. ⌜ r ≡ top self ⌝ }
+    {
+        state_at(self.bits, self.levels - 1)
+    }
+
+    // The top level gets another state.
+    pub fn mark(self, state: u64) -> ActionStack
+        requires { ⌜ (1 ≤ self .levels) × (self .levels ≤ 32) × (state < 4) ⌝ }
+        ensures { λ r. ⌜ r ≡ marked state self ⌝ }
+    {
+        let levels = self.levels;
+        ActionStack {
+            levels,
+            bits: put_state(self.bits, levels - 1, state),
+        }
+    }
+
+    // A level is added, just entered.
+    pub fn deepen(self) -> ActionStack
+        requires { ⌜ self .levels < 32 ⌝ }
+        ensures { λ r. ⌜ r ≡ pushed self ⌝ }
+    {
+        let levels = self.levels;
+        ActionStack {
+            levels: levels + 1,
+            bits: put_state(self.bits, levels, 0),
+        }
+    }
+
+    // The top level is cleared and taken away.
+    pub fn shorten(self) -> ActionStack
+        requires { ⌜ (1 ≤ self .levels) × (self .levels ≤ 32) ⌝ }
+        ensures { λ r. ⌜ r ≡ popped self ⌝ }
+    {
+        let levels = self.levels;
+        ActionStack {
+            levels: levels - 1,
+            bits: put_state(self.bits, levels - 1, 0),
+        }
+    }
+
+    pub fn push(self) -> Answer
+        ensures { λ r. ⌜ paper self r ≡ pushRule self ⌝ }
+    {
+        if self.levels < 32 {
+            Answer::Done(false, self.deepen())
+        } else {
+            Answer::Refused(Refusal::BadBit)
+        }
+    }
+
+    pub fn can_go_left(self) -> Answer
+        ensures { λ r. ⌜ paper self r ≡ testRule justEntered self ⌝ }
+    {
+        if self.has_top() {
+            Answer::Done(self.top() == 0, self)
+        } else {
+            Answer::Refused(Refusal::BadBit)
+        }
+    }
+
+    // Sets the last bit and keeps the first.
+    pub fn go_left(self) -> Answer
+        ensures { λ r. ⌜ paper self r ≡ markRule wentLeft self ⌝ }
+    {
+        if self.has_top() {
+            let state = self.top() % 2 + 2;
+            Answer::Done(false, self.mark(state))
+        } else {
+            Answer::Refused(Refusal::BadBit)
+        }
+    }
+
+    pub fn can_match(self) -> Answer
+        ensures { λ r. ⌜ paper self r ≡ testRule notReturned self ⌝ }
+    {
+        if self.has_top() {
+            Answer::Done(self.top() % 2 == 0, self)
+        } else {
+            Answer::Refused(Refusal::BadBit)
+        }
+    }
+
+    pub fn make_match(self) -> Answer
+        ensures { λ r. ⌜ paper self r ≡ markRule (λ _. 1) self ⌝ }
+    {
+        if self.has_top() {
+            Answer::Done(false, self.mark(1))
+        } else {
+            Answer::Refused(Refusal::BadBit)
+        }
+    }
+
+    pub fn can_go_right(self) -> Answer
+        ensures { λ r. ⌜ paper self r ≡ testRule notRight self ⌝ }
+    {
+        if self.has_top() {
+            Answer::Done(self.top() < 2, self)
+        } else {
+            Answer::Refused(Refusal::BadBit)
+        }
+    }
+
+    pub fn go_right(self) -> Answer
+        ensures { λ r. ⌜ paper self r ≡ markRule (λ _. 3) self ⌝ }
+    {
+        if self.has_top() {
+            Answer::Done(false, self.mark(3))
+        } else {
+            Answer::Refused(Refusal::BadBit)
+        }
+    }
+
+    pub fn pop(self) -> Answer
+        ensures { λ r. ⌜ paper self r ≡ popRule self ⌝ }
+    {
+        if self.has_top() {
+            Answer::Done(false, self.shorten())
+        } else {
+            Answer::Refused(Refusal::BadBit)
+        }
+    }
+
+    pub fn is_empty(self) -> Answer
+        ensures { λ r. ⌜ paper self r ≡ isEmptyRule self ⌝ }
+    {
+        if self.levels <= 32 {
+            Answer::Done(self.levels == 0, self)
+        } else {
+            Answer::Refused(Refusal::BadBit)
+        }
+    }
+}

@@ -1,0 +1,442 @@
+#!/usr/bin/env python3
+"""The protocol answered from the words of document 01, in plain lists and recursion: a third voice, to try the oracle where `drive` is not at hand.
+
+DRIVE='python3 tests/differential/model.py' tests/differential/run
+"""
+import sys
+
+U = 4294967295
+START, END, VALUE, LO, HI, LEFT, RIGHT, PARENT = range(8)
+
+
+class Store:
+    def __init__(self, count, root, words, colours):
+        self.count, self.root, self.words, self.colours = count, root, words, colours
+
+    def copy(self):
+        return Store(self.count, self.root, list(self.words), list(self.colours))
+
+    def get(self, slot, word):
+        return self.words[8 * slot + word]
+
+    def set(self, slot, word, to):
+        self.words[8 * slot + word] = to
+
+    def key(self, slot):
+        return self.get(slot, START), self.get(slot, END)
+
+    def red(self, slot):
+        return slot != U and self.colours[slot // 8] >> slot % 8 & 1 == 1
+
+    def paint(self, slot, red):
+        self.colours[slot // 8] = self.colours[slot // 8] & ~(1 << slot % 8) | red << slot % 8
+
+    def capacity(self):
+        return min(len(self.words) // 8, 8 * len(self.colours), 65535)
+
+    def rehull(self, slot):
+        below = [c for c in (self.get(slot, LEFT), self.get(slot, RIGHT)) if c != U]
+        self.set(slot, LO, min([self.get(slot, START)] + [self.get(c, LO) for c in below]))
+        self.set(slot, HI, max([self.get(slot, END)] + [self.get(c, HI) for c in below]))
+
+    def passes(self):
+        """The check, but for the room."""
+        if self.count == 0 or self.root == U:
+            return self.count == 0 and self.root == U
+        seen, order = set(), []
+
+        def down(slot, parent, parent_red):
+            if slot == U:
+                return 0, None
+            if slot >= self.count or slot in seen or self.get(slot, PARENT) != parent or self.red(slot) and parent_red:
+                raise ValueError
+            seen.add(slot)
+            left = down(self.get(slot, LEFT), slot, self.red(slot))
+            order.append(self.key(slot))
+            right = down(self.get(slot, RIGHT), slot, self.red(slot))
+            hulls = [h for h in (self.key(slot), left[1], right[1]) if h]
+            hull = min(h[0] for h in hulls), max(h[1] for h in hulls)
+            if left[0] != right[0] or hull != (self.get(slot, LO), self.get(slot, HI)):
+                raise ValueError
+            return left[0] + (not self.red(slot)), hull
+
+        try:
+            down(self.root, U, True)
+        except ValueError:
+            return False
+        return len(seen) == self.count and all(a < b for a, b in order) and order == sorted(order)
+
+
+def refuse_store(s):
+    return 1 if s.count > s.capacity() else 0 if s.passes() else 2
+
+
+# Building
+
+def build(s, numbers):
+    entries = [tuple(numbers[i:i + 3]) for i in range(0, len(numbers) - 2, 3)]
+    n = len(entries)
+    s.count, s.root = 0, U
+    if len(numbers) % 3:
+        return "8 0 %d" % U
+    if n > s.capacity():
+        return "1 0 %d" % U
+    if any(a >= b for a, b, _ in entries):
+        return "5 0 %d" % U
+    if any(x[:2] > y[:2] for x, y in zip(entries, entries[1:])):
+        return "6 0 %d" % U
+    deepest_black = (n + 1).bit_length() - 1
+
+    def span(a, b, parent, depth):
+        if a == b:
+            return U
+        slot = a + (b - a) // 2
+        s.words[8 * slot:8 * slot + 3] = entries[slot]
+        s.set(slot, PARENT, parent)
+        s.set(slot, LEFT, span(a, slot, slot, depth + 1))
+        s.set(slot, RIGHT, span(slot + 1, b, slot, depth + 1))
+        s.rehull(slot)
+        s.paint(slot, depth > deepest_black)
+        return slot
+
+    s.count, s.root = n, span(0, n, U, 1)
+    return "0 %d %d" % (s.count, s.root)
+
+
+# Removal
+
+def join(s, parent, left, child):
+    s.set(parent, LEFT if left else RIGHT, child)
+    if child != U:
+        s.set(child, PARENT, parent)
+
+
+def lift(s, low, high):
+    """`high` stands where `low` stood."""
+    parent = s.get(low, PARENT)
+    s.set(high, PARENT, parent)
+    if parent == U:
+        s.root = high
+    else:
+        join(s, parent, s.get(parent, LEFT) == low, high)
+
+
+def repair(s, at):
+    while s.get(at, PARENT) != U:
+        parent = s.get(at, PARENT)
+        left = s.get(parent, LEFT) == at
+        near, far = (LEFT, RIGHT) if left else (RIGHT, LEFT)
+        sibling = s.get(parent, far)
+        close, distant = s.get(sibling, near), s.get(sibling, far)
+        if not (s.red(parent) or s.red(sibling) or s.red(close) or s.red(distant)):
+            s.paint(sibling, 1)
+            at = parent
+        elif not (s.red(parent) or s.red(close) or s.red(distant)):
+            s.paint(parent, 1)
+            s.paint(sibling, 0)
+            lift(s, parent, sibling)
+            join(s, sibling, left, parent)
+            join(s, parent, not left, close)
+        elif not (s.red(sibling) or s.red(close) or s.red(distant)):
+            s.paint(parent, 0)
+            s.paint(sibling, 1)
+            return
+        elif not (s.red(sibling) or s.red(distant)):
+            s.paint(close, 0)
+            s.paint(sibling, 1)
+            join(s, sibling, left, s.get(close, far))
+            join(s, close, not left, sibling)
+            join(s, parent, not left, close)
+            s.rehull(sibling)
+            s.rehull(close)
+        else:
+            s.paint(sibling, s.red(parent))
+            s.paint(parent, 0)
+            s.paint(distant, 0)
+            lift(s, parent, sibling)
+            join(s, parent, not left, close)
+            join(s, sibling, left, parent)
+            return
+
+
+def exchange(s, where, i, j):
+    for word in START, END, VALUE:
+        a, b = s.get(i, word), s.get(j, word)
+        s.set(i, word, b)
+        s.set(j, word, a)
+    where[i], where[j] = where[j], where[i]
+
+
+def remove(s, slot):
+    no = refuse_store(s) or (3 if slot >= s.count else 0)
+    if no:
+        return "%d 0 %d %d" % (no, s.count, s.root) + " %d" % U * 6
+    value = s.get(slot, VALUE)
+    # where[i] is the old slot of the entry that now lies in slot i
+    where = list(range(s.count))
+    gone = slot
+    if s.get(slot, RIGHT) != U:
+        gone = s.get(slot, RIGHT)
+        while s.get(gone, LEFT) != U:
+            gone = s.get(gone, LEFT)
+        exchange(s, where, slot, gone)
+    child = min(s.get(gone, LEFT), s.get(gone, RIGHT))
+    if not s.red(gone) and not s.red(child):
+        repair(s, gone)
+    elif child != U:
+        s.paint(child, 1)
+    if child != U:
+        exchange(s, where, gone, child)
+        gone = child
+    up = s.get(gone, PARENT)
+    if up == U:
+        s.root = U
+    else:
+        s.set(up, LEFT if s.get(up, LEFT) == gone else RIGHT, U)
+    while up != U:
+        s.rehull(up)
+        up = s.get(up, PARENT)
+    last = s.count - 1
+    if gone != last:
+        s.words[8 * gone:8 * gone + 8] = s.words[8 * last:8 * last + 8]
+        where[gone] = where[last]
+        s.paint(gone, s.red(last))
+        for side in LEFT, RIGHT:
+            if s.get(gone, side) != U:
+                s.set(s.get(gone, side), PARENT, gone)
+        lift(s, last, gone)
+    s.words[8 * last:8 * last + 8] = [0] * 8
+    s.count = last
+    assert s.passes()
+    pairs = sorted((old, new) for new, old in enumerate(where[:last]) if old != new)
+    return " ".join(map(str, [0, value, s.count, s.root] + sum(([a, b] for a, b in (pairs + [(U, U)] * 3)[:3]), [])))
+
+
+# Looking up
+
+def allowed_left(q, hull_end):
+    return q[1] == 2 or hull_end >= q[2]
+
+
+def allowed_right(q, hull_start):
+    return q[3] == 2 or (hull_start <= q[4] if q[3] == 0 else hull_start < q[4])
+
+
+def hit(s, q, slot):
+    if q[0] == "e":
+        return s.key(slot) == q[1:]
+    start, end = s.key(slot)
+    return (q[1] == 2 or end > q[2]) and allowed_right(q, start)
+
+
+def goes(s, q, slot, side):
+    child = s.get(slot, side)
+    if child == U:
+        return False
+    if q[0] == "o":
+        return allowed_left(q, s.get(child, HI)) if side == LEFT else allowed_right(q, s.get(child, LO))
+    inside = s.get(child, LO) <= q[1] and q[2] <= s.get(child, HI)
+    return inside and (q[1:] <= s.key(slot) if side == LEFT else q[1:] >= s.key(slot))
+
+
+def first(s, q):
+    """The start: the root, or the highest equal node by a search through all of the tree, level by level."""
+    if q[0] == "o":
+        return s.root
+    level = [s.root] if s.root != U else []
+    while level:
+        for slot in level:
+            if s.key(slot) == q[1:]:
+                return slot
+        level = [c for slot in level for c in (s.get(slot, LEFT), s.get(slot, RIGHT)) if c != U]
+    return U
+
+
+def paths(s, top):
+    """Every slot under `top` with its held levels and bits."""
+    found = {}
+
+    def down(slot, levels, above):
+        if slot != U:
+            found[slot] = levels + 1, above | 1 << 2 * levels
+            down(s.get(slot, LEFT), levels + 1, above | 2 << 2 * levels)
+            down(s.get(slot, RIGHT), levels + 1, above | 3 << 2 * levels)
+
+    down(top, 0, 0)
+    return found
+
+
+def events(s, q, top):
+    """The whole lookup in order, by the entered rule: (slot entered, -) and (slot, passed in tree order)."""
+    out = []
+
+    def down(slot):
+        out.append(("enter", slot))
+        if goes(s, q, slot, LEFT):
+            down(s.get(slot, LEFT))
+        out.append(("pass", slot))
+        if goes(s, q, slot, RIGHT):
+            down(s.get(slot, RIGHT))
+
+    if top != U:
+        down(top)
+    return out
+
+
+def after(s, q, top, slot):
+    """What comes after a held slot: its right subtree, then each ancestor of which it lies on the left, with that one's right subtree."""
+    out = []
+    if goes(s, q, slot, RIGHT):
+        out += events(s, q, s.get(slot, RIGHT))
+    while slot != top:
+        up = s.get(slot, PARENT)
+        if s.get(up, LEFT) == slot:
+            out.append(("pass", up))
+            if goes(s, q, up, RIGHT):
+                out += events(s, q, s.get(up, RIGHT))
+        slot = up
+    return out
+
+
+def refuse_query(q):
+    if q[0] == "e":
+        return 5 if q[1] >= q[2] else 0
+    if q[1] == 2 or q[3] == 2:
+        return 0
+    return 4 if q[2] > q[4] or q[2] == q[4] and (q[1], q[3]) != (0, 0) else 0
+
+
+def lookup(s, q, cursor, limit):
+    """no, hits, entered, next cursor; all hits up to the limit."""
+    no = refuse_store(s) or refuse_query(q)
+    if no:
+        return no, [], 0, cursor
+    top = first(s, q)
+    held = paths(s, top)
+    slot, levels, bits = cursor
+    if cursor == (top, 1, 0):
+        rest = events(s, q, top)
+    elif cursor == (U, 0, 0):
+        rest = []
+    elif slot in held and held[slot] == (levels, bits):
+        rest = after(s, q, top, slot)
+    else:
+        return 7, [], 0, cursor
+    hits, entered = [], 0
+    for what, slot in rest:
+        if what == "enter":
+            entered += 1
+        elif hit(s, q, slot):
+            hits.append(slot)
+            if len(hits) == limit:
+                return 0, hits, entered, (slot,) + held[slot]
+    return 0, hits, entered, (U, 0, 0)
+
+
+def step(s, q, cursor):
+    no, hits, entered, after_it = lookup(s, q, cursor, 1)
+    return "%d %d %d %d %d %d" % ((no, hits[0] if hits else U) + after_it + (entered,))
+
+
+def drain(s, q, cursor, limit, room):
+    limit = limit or 64
+    no, hits, entered, after_it = lookup(s, q, cursor, limit)
+    if not no and limit > room:
+        no, hits, entered, after_it = 9, [], 0, cursor
+    output = hits + [777777] * (room - len(hits))
+    return " ".join(map(str, (no, len(hits), entered) + after_it + (room,) + tuple(output)))
+
+
+# Bits and stacks
+
+def bits(name, data, length, i, v):
+    places = 8 * len(data)
+    if name == "bfrom":
+        if length > places:
+            return "10 0 0"
+        need = (length + 7) // 8
+        data[:need] = [255 * v] * need
+        return "0 0 %d" % length
+    at = {"bpush": length, "bpop": length - 1}.get(name, i)
+    if length > places or at < 0 or at >= places or name != "bpush" and at >= length:
+        return "10 0 %d" % length
+    old = data[at // 8] >> at % 8 & 1
+    new = data[(length - 1) // 8] >> (length - 1) % 8 & 1 if name == "bswap" else v
+    if name in ("bset", "bpush", "bswap"):
+        data[at // 8] = data[at // 8] & ~(1 << at % 8) | new << at % 8
+    length += {"bpush": 1, "bpop": -1, "bswap": -1}.get(name, 0)
+    return "0 %d %d" % (old if name in ("bget", "bpop", "bswap") else 0, length)
+
+
+def stack(name, levels, word):
+    no_level = levels == 0 and name not in ("spush", "sempty")
+    if levels > 32 or no_level or levels == 32 and name == "spush":
+        return "10 0 %d %d" % (levels, word)
+    low = 2 * (levels - 1)
+    state = word >> low & 3 if levels else 0
+    answer = {"scanleft": state == 0, "scanmatch": state in (0, 2), "scanright": state in (0, 1), "sempty": levels == 0}.get(name, 0)
+    if name == "spush":
+        word, levels = word & ~(3 << 2 * levels), levels + 1
+    elif name == "spop":
+        word, levels = word & ~(3 << low), levels - 1
+    elif name in ("sleft", "smatch", "sright"):
+        new = {"sleft": state | 2, "smatch": 1, "sright": 3}[name]
+        word = word & ~(3 << low) | new << low
+    return "0 %d %d %d" % (answer, levels, word)
+
+
+# Lines
+
+def changes(before, now):
+    places = [i for i in range(len(before)) if before[i] != now[i]]
+    return " ".join(map(str, [len(places)] + sum(([i, now[i]] for i in places), [])))
+
+
+def main():
+    store, data = Store(0, U, [], []), []
+    left, left_data, of_bits = store, data, False
+    for line in sys.stdin:
+        name, *rest = line.split()
+        if line.startswith("#"):
+            continue
+        query = ()
+        if name in ("fresh", "step", "drain"):
+            n = 5 if rest[0] == "o" else 3
+            query, rest = (rest[0],) + tuple(map(int, rest[1:n])), rest[n:]
+        numbers = list(map(int, rest))
+        if name == "store":
+            n = numbers[2]
+            store = Store(numbers[0], numbers[1], numbers[3:3 + n], numbers[4 + n:])
+        elif name == "bytes":
+            data = numbers[1:]
+        elif name == "commit" and of_bits:
+            data = list(left_data)
+        elif name == "commit":
+            store = left.copy()
+        elif name in ("bget", "bset", "bpush", "bpop", "bswap", "bfrom"):
+            left_data, of_bits = list(data), True
+            i = numbers[1] if name in ("bget", "bset", "bswap") else 0
+            answer = bits(name, left_data, numbers[0], i, numbers[-1])
+            print(answer, "@", changes(data, left_data))
+        else:
+            left, of_bits = store.copy(), False
+            if name == "check":
+                answer = refuse_store(left)
+            elif name == "build":
+                answer = build(left, numbers[1:])
+            elif name == "remove":
+                answer = remove(left, numbers[0])
+            elif name == "step":
+                answer = step(left, query, tuple(numbers))
+            elif name == "drain":
+                answer = drain(left, query, tuple(numbers[:3]), *numbers[3:])
+            elif name == "fresh":
+                print(0, first(left, query), 1, 0)
+                continue
+            else:
+                print(stack(name, *numbers))
+                continue
+            print(answer, "@", changes(store.words, left.words), changes(store.colours, left.colours))
+
+
+main()

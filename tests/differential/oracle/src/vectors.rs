@@ -1,0 +1,84 @@
+//! A sample of requests to be recorded: document 01's examples, each repair case on each side, and some of every kind.
+
+use crate::gen::{Gen, Keys};
+use crate::session::Session;
+use iset::probe;
+
+const STORE_A: &str = "15 10 20 1 10 30 2 25 40 3 40 50 4 45 60 5";
+const STORE_B: &str = "9 5 9 1 5 9 2 5 9 3";
+
+fn examples(gen: &mut Gen) {
+    gen.say("# the examples of document 01: store A");
+    gen.say(&format!("store 0 4294967295 40{} 1 0", " 7".repeat(40)));
+    gen.say(&format!("build {STORE_A}"));
+    gen.say("commit");
+    gen.say("check");
+    for slot in ["0", "1", "2", "3", "4", "5", "4294967295"] {
+        gen.say(&format!("remove {slot}"));
+    }
+    for query in ["0 20 1 25", "0 60 1 70", "1 20 0 25", "2 0 2 0", "1 7 0 7", "0 7 0 7"] {
+        gen.say(&format!("drain o {query} 2 1 0 0 64"));
+        gen.say(&format!("step o {query} 2 1 0"));
+    }
+    gen.say("step o 0 20 1 25 1 2 6");
+    gen.say("# store B");
+    gen.say(&format!("store 0 4294967295 24{} 1 0", " 0".repeat(24)));
+    gen.say(&format!("build {STORE_B}"));
+    gen.say("commit");
+    for query in ["5 9", "5 8"] {
+        let a = gen.say(&format!("fresh e {query}"));
+        gen.say(&format!("drain e {query} {} {} {} 0 64", a[1], a[2], a[3]));
+    }
+    for slot in ["0", "1", "0"] {
+        gen.say(&format!("remove {slot}"));
+        gen.say("commit");
+    }
+    gen.say("bytes 3 1 2 3");
+    gen.say("bfrom 10 1");
+}
+
+/// Stores that show a case of the repair not seen so far.
+fn repairs(gen: &mut Gen) {
+    gen.say("# each case of the repair, on each side");
+    let mut seen = [false; 10];
+    while seen.contains(&false) {
+        let n = 5 + gen.rng.below(8);
+        let keys = gen.keys();
+        let store = gen.store(n, keys);
+        for slot in 0..store.count {
+            let before = probe::cases();
+            let mut trial = Session::new();
+            trial.answer(&store.line());
+            trial.answer(&format!("remove {slot}"));
+            let now: Vec<_> = (0..10).filter(|i| probe::cases()[*i] > before[*i]).collect();
+            if now.iter().any(|i| !seen[*i]) {
+                now.iter().for_each(|i| seen[*i] = true);
+                gen.say(&store.line());
+                gen.say(&format!("remove {slot}"));
+                break;
+            }
+        }
+    }
+}
+
+pub fn run(seed: u64) {
+    let mut gen = Gen::new(seed, Box::new(std::io::BufWriter::new(std::io::stdout().lock())));
+    examples(&mut gen);
+    repairs(&mut gen);
+    gen.say("# lookups, builds, removals down to nothing");
+    for (n, keys) in [(0, Keys::Small), (9, Keys::Small), (7, Keys::Edges), (15, Keys::Medium), (20, Keys::Wide)] {
+        gen.build(n, keys);
+        let store = gen.store(n, keys);
+        gen.say(&store.line());
+        gen.queries(1, 4, keys);
+        gen.chain(if n == 15 { 6 } else { n / 2 }, keys);
+        gen.damage(keys);
+    }
+    let store = gen.store(64, Keys::Medium);
+    gen.say(&store.line());
+    gen.queries(1, 2, Keys::Medium);
+    gen.chain(5, Keys::Medium);
+    gen.say("# bits and stacks");
+    gen.bits(36);
+    gen.stack(36);
+}
