@@ -1,14 +1,13 @@
 #!/usr/bin/env python3
-"""What the program `drive` should answer to the lines on standard input, from document 01's words and docs/DRIVE.md and not
-from its code: crates/drive/stdout is this of crates/drive/stdin."""
+"""What the program `drive` should answer to the lines on standard input, by tests/model.py and docs/DRIVE.md and not by its code:
+crates/drive/stdout is this of crates/drive/stdin."""
 import re
 import sys
 
-import bits
+import model
 
-U = 2**32 - 1
-MOST_WORDS = 32768
-MOST_BYTES = 512
+U = model.U
+MOST_WORDS, MOST_BYTES, MOST_LIST, MOST_ROOM = 32768, 512, 12288, 4096
 
 
 class What(Exception):
@@ -26,96 +25,58 @@ class Numbers:
     def __init__(self, tokens):
         self.tokens = tokens
 
-    def one(self):
+    def one(self, below=2**64):
         fits(self.tokens and re.fullmatch("[0-9]+", self.tokens[0]))
         n = int(self.tokens.pop(0))
-        fits(n < 2**64)
+        fits(n < below)
         return n
 
-    def bit(self):
-        v = self.one()
-        fits(v < 2)
-        return v
-
-    def list(self, most):
+    def list(self, most, below=2**64):
         n = self.one()
         fits(n <= most)
-        return [self.one() for _ in range(n)]
+        return [self.one(below) for _ in range(n)]
 
-    def bytes(self):
-        data = self.list(MOST_BYTES)
-        fits(all(b < 256 for b in data))
-        return data
+    def query(self):
+        fits(self.tokens and self.tokens[0] in ("o", "e"))
+        kind = self.tokens.pop(0)
+        if kind == "e":
+            return kind, self.one(), self.one()
+        bounds = ()
+        for _ in range(2):
+            bound, x = self.one(3), self.one()
+            fits(bound < 2 or x == 0)
+            bounds += bound, x
+        return (kind,) + bounds
+
+    def cursor(self):
+        return self.one(), self.one(), self.one()
 
     def end(self):
         fits(not self.tokens)
 
 
-class Store:
-    """A map with its words and colours, held against document 01's sentence on what passes the check."""
-
-    def __init__(self, count, root, words, colours):
-        self.count, self.root, self.words, self.colours = count, root, words, colours
-        self.order = []
-
-    def refusal(self):
-        if self.count > min(len(self.words) // 8, len(self.colours) * 8, 65535):
-            return 1
-        return 0 if self.passes() else 2
-
-    def passes(self):
-        if (self.count == 0) != (self.root == U):
-            return False
-        whole = self.subtree(self.root, U, set())
-        falls = any(a > b for a, b in zip(self.order, self.order[1:]))
-        return whole is not None and not whole[0] and not falls and len(self.order) == self.count
-
-    def subtree(self, slot, above, seen):
-        """Whether its root is red, its blacks, its least start and its greatest end; None where something is broken."""
-        if slot == U:
-            return False, 0, 2**64, 0
-        if slot >= self.count or slot in seen:
-            return None
-        seen.add(slot)
-        start, end, _, hull_start, hull_end, left, right, parent = self.words[slot * 8:slot * 8 + 8]
-        red = self.colours[slot // 8] >> slot % 8 & 1 == 1
-        one = self.subtree(left, slot, seen)
-        self.order.append((start, end))
-        two = self.subtree(right, slot, seen)
-        if one is None or two is None or parent != above or start >= end or one[1] != two[1] or red and (one[0] or two[0]):
-            return None
-        hull = min(start, one[2], two[2]), max(end, one[3], two[3])
-        return None if hull != (hull_start, hull_end) else (red, one[1] + (not red), *hull)
-
-
 def changes(old, new):
     places = [i for i in range(len(old)) if old[i] != new[i]]
-    return [len(places)] + [x for i in places for x in (i, new[i])]
+    return " ".join(map(str, [len(places)] + [x for i in places for x in (i, new[i])]))
 
 
-BIT_CALLS = {
-    "bget": (bits.get, "one", "one"),
-    "bset": (bits.set_, "one", "one", "bit"),
-    "bpush": (bits.push, "one", "bit"),
-    "bpop": (bits.pop, "one"),
-    "bswap": (bits.swap_remove, "one", "one"),
-    "bfrom": (bits.from_elem, "one", "bit"),
-}
+BIT_CALLS = {"bget": "i", "bset": "iv", "bpush": "v", "bpop": "", "bswap": "i", "bfrom": "v"}
+STACK_CALLS = "spush spop sleft smatch sright scanleft scanmatch scanright sempty".split()
 
 
 class Drive:
     def __init__(self):
-        self.store = (0, U, [], [])
+        self.store = model.Store(0, U, [], [])
         self.bytes = []
         self.left = {}
 
     def do_store(self, numbers):
-        store = numbers.one(), numbers.one(), numbers.list(MOST_WORDS), numbers.bytes()
+        store = model.Store(numbers.one(), numbers.one(), numbers.list(MOST_WORDS), numbers.list(MOST_BYTES, 256))
         numbers.end()
         self.store = store
 
     def do_bytes(self, numbers):
-        data = numbers.bytes()
+        data = numbers.list(MOST_BYTES, 256)
         numbers.end()
         self.bytes = data
 
@@ -123,30 +84,69 @@ class Drive:
         numbers.end()
         vars(self).update(self.left)
 
+    def on_store(self, call, *args):
+        copy = self.store.copy()
+        answer = call(copy, *args)
+        self.left = {"store": copy}
+        return f"{answer} @ {changes(self.store.words, copy.words)} {changes(self.store.colours, copy.colours)}"
+
     def do_check(self, numbers):
         numbers.end()
-        self.left = {"store": self.store}
-        return [Store(*self.store).refusal(), "@", 0, 0]
+        return self.on_store(model.refuse_store)
+
+    def do_build(self, numbers):
+        entries = numbers.list(MOST_LIST)
+        numbers.end()
+        return self.on_store(model.build, entries)
+
+    def do_remove(self, numbers):
+        slot = numbers.one()
+        numbers.end()
+        return self.on_store(model.remove, slot)
+
+    def do_fresh(self, numbers):
+        query = numbers.query()
+        numbers.end()
+        return f"0 {model.first(self.store, query)} 1 0"
+
+    def do_step(self, numbers):
+        query, cursor = numbers.query(), numbers.cursor()
+        numbers.end()
+        return self.on_store(model.step, query, cursor)
+
+    def do_drain(self, numbers):
+        query, cursor, limit, room = numbers.query(), numbers.cursor(), numbers.one(), numbers.one(MOST_ROOM + 1)
+        numbers.end()
+        return self.on_store(model.drain, query, cursor, limit, room)
 
     def bit_call(self, name, numbers):
-        call, *kinds = BIT_CALLS[name]
-        args = [getattr(numbers, kind)() for kind in kinds]
+        length = numbers.one()
+        i = numbers.one() if "i" in BIT_CALLS[name] else 0
+        v = numbers.one(2) if "v" in BIT_CALLS[name] else 0
         numbers.end()
-        no, bit, length, data = call(self.bytes, *args)
+        data = list(self.bytes)
+        answer = model.bits(name, data, length, i, v)
         self.left = {"bytes": data}
-        return [no, bit, length, "@"] + changes(self.bytes, data)
+        return f"{answer} @ {changes(self.bytes, data)}"
+
+    def stack_call(self, name, numbers):
+        levels, bits = numbers.one(), numbers.one()
+        numbers.end()
+        return model.stack(name, levels, bits)
 
     def line(self, text):
         name, *tokens = text.split(" ")
         numbers = Numbers(tokens)
         if name in BIT_CALLS:
             return self.bit_call(name, numbers)
+        if name in STACK_CALLS:
+            return self.stack_call(name, numbers)
         fits(hasattr(self, "do_" + name))
         return getattr(self, "do_" + name)(numbers)
 
 
 def main():
-    sys.setrecursionlimit(10000)
+    sys.setrecursionlimit(100000)
     drive = Drive()
     for text in sys.stdin.read().split("\n"):
         if text == "" or text.startswith("#"):
@@ -154,9 +154,9 @@ def main():
         try:
             answer = drive.line(text)
         except What:
-            answer = ["what"]
+            answer = "what"
         if answer is not None:
-            print(*answer)
+            print(answer)
 
 
 if __name__ == "__main__":

@@ -2,6 +2,7 @@
 mod answer;
 mod arena;
 mod bits;
+mod build;
 mod copy;
 mod given;
 mod request;

@@ -2,6 +2,7 @@
 use crate::answer::what;
 use crate::arena;
 use crate::bits;
+use crate::build;
 use crate::settings;
 use crate::state::State;
 use crate::store;
@@ -18,6 +19,8 @@ fn requests(
 ) -> State {
     if check::same(name, b"check") {
         store::check(s, words, octets, out)
+    } else if check::same(name, b"build ") {
+        build::build(s, numbers, words, octets, out)
     } else {
         bits::request(s, name, numbers, octets, out)
     }

@@ -4,11 +4,16 @@ use crate::arena::NEW_COLOURS;
 use crate::arena::NEW_WORDS;
 use crate::copy;
 use crate::state::State;
+use iset::Checked;
+use iset::Map;
 use lines::output;
 
 // The refusal's number, 0 for none.
-fn check_answer(_count: u64, _root: u64, _nodes: &[u64], _colours: &[u8]) -> u64 {
-    0
+fn check_answer(count: u64, root: u64, nodes: &[u64], colours: &[u8]) -> u64 {
+    match (Map { count, root }).check(nodes, colours) {
+        Checked::Sound => 0,
+        Checked::Refused(why) => why.number(),
+    }
 }
 
 // The check of the copy.

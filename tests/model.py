@@ -1,9 +1,6 @@
 #!/usr/bin/env python3
-"""The protocol answered from the words of document 01, in plain lists and recursion: a third voice, to try the oracle where `drive` is not at hand.
-
-DRIVE='python3 tests/differential/model.py' tests/differential/run
-"""
-import sys
+"""What the calls answer and leave, from the words of document 01, in plain lists and recursion: neither the crate's code nor this project's.
+tests/drive.py speaks for it."""
 
 U = 4294967295
 START, END, VALUE, LO, HI, LEFT, RIGHT, PARENT = range(8)
@@ -383,60 +380,3 @@ def stack(name, levels, word):
         new = {"sleft": state | 2, "smatch": 1, "sright": 3}[name]
         word = word & ~(3 << low) | new << low
     return "0 %d %d %d" % (answer, levels, word)
-
-
-# Lines
-
-def changes(before, now):
-    places = [i for i in range(len(before)) if before[i] != now[i]]
-    return " ".join(map(str, [len(places)] + sum(([i, now[i]] for i in places), [])))
-
-
-def main():
-    store, data = Store(0, U, [], []), []
-    left, left_data, of_bits = store, data, False
-    for line in sys.stdin:
-        name, *rest = line.split()
-        if line.startswith("#"):
-            continue
-        query = ()
-        if name in ("fresh", "step", "drain"):
-            n = 5 if rest[0] == "o" else 3
-            query, rest = (rest[0],) + tuple(map(int, rest[1:n])), rest[n:]
-        numbers = list(map(int, rest))
-        if name == "store":
-            n = numbers[2]
-            store = Store(numbers[0], numbers[1], numbers[3:3 + n], numbers[4 + n:])
-        elif name == "bytes":
-            data = numbers[1:]
-        elif name == "commit" and of_bits:
-            data = list(left_data)
-        elif name == "commit":
-            store = left.copy()
-        elif name in ("bget", "bset", "bpush", "bpop", "bswap", "bfrom"):
-            left_data, of_bits = list(data), True
-            i = numbers[1] if name in ("bget", "bset", "bswap") else 0
-            answer = bits(name, left_data, numbers[0], i, numbers[-1])
-            print(answer, "@", changes(data, left_data))
-        else:
-            left, of_bits = store.copy(), False
-            if name == "check":
-                answer = refuse_store(left)
-            elif name == "build":
-                answer = build(left, numbers[1:])
-            elif name == "remove":
-                answer = remove(left, numbers[0])
-            elif name == "step":
-                answer = step(left, query, tuple(numbers))
-            elif name == "drain":
-                answer = drain(left, query, tuple(numbers[:3]), *numbers[3:])
-            elif name == "fresh":
-                print(0, first(left, query), 1, 0)
-                continue
-            else:
-                print(stack(name, *numbers))
-                continue
-            print(answer, "@", changes(store.words, left.words), changes(store.colours, left.colours))
-
-
-main()

@@ -1,0 +1,163 @@
+// Builds and checks at the limits of the memory that a map can have. A line for each build: the number of entries, then
+// the refusal, and where there is none the count, the root and the refusal of the check afterwards. Then a line for each
+// chain of nodes that hang below one another by their right links: how many they are, and the refusal of the check.
+use iset::Checked;
+use iset::Map;
+use iset::build::Built;
+use libc::STDOUT_FILENO;
+use words::interval::Interval;
+use words::ix::U;
+use words::node::Entry;
+use words::node::put_node;
+ghost use mathlib.Core.Path.{_≡_};
+ghost use Prim.Native.Nat.{_*_, _≤_, _<_};
+ghost use lib.ListN.{length};
+
+fn words_space() -> [u64; 524288]
+    ensures { λ r. ⌜ 524288 ≡ length r ⌝ }
+{
+    [0; 524288]
+}
+
+fn list_space() -> [u64; 196608]
+    ensures { λ r. ⌜ 196608 ≡ length r ⌝ }
+{
+    [0; 196608]
+}
+
+fn bytes_space() -> [u8; 8192]
+    ensures { λ r. ⌜ 8192 ≡ length r ⌝ }
+{
+    [0; 8192]
+}
+
+fn number(x: u64) {
+    io::print_decimal(STDOUT_FILENO, x);
+    io::write_all(STDOUT_FILENO, b" ");
+}
+
+fn number_of(c: Checked) -> u64 {
+    match c {
+        Checked::Sound => 0,
+        Checked::Refused(why) => why.number(),
+    }
+}
+
+fn least(a: usize, b: usize) -> usize
+    ensures { λ r. ⌜ (r ≤ a) × (r ≤ b) ⌝ }
+{
+    if a < b { a } else { b }
+}
+
+// The k-th entry: entries overlap, and they begin at the same address by twos.
+fn put_triple(list: &mut [u64], k: usize) {
+    if k < list.len() / 3 {
+        let pair = (k / 2) as u64;
+        list[k * 3] = pair;
+        list[k * 3 + 1] = pair / 2 + 100000;
+        list[k * 3 + 2] = pair / 3;
+    }
+}
+
+fn put_triples(list: &mut [u64], n: usize) {
+    let mut k = 0;
+    while k < n {
+        put_triple(list, k);
+        k += 1;
+    }
+}
+
+fn show_map(m: Map, nodes: &[u64], colours: &[u8]) {
+    number(0);
+    number(m.count);
+    number(m.root);
+    number(number_of(m.check(nodes, colours)));
+}
+
+fn show_built(a: Built, nodes: &[u64], colours: &[u8]) {
+    match a {
+        Built::Refused(why) => number(why.number()),
+        Built::Done(m) => show_map(m, nodes, colours),
+    }
+}
+
+// The map of the first k numbers of the list.
+fn build_list(k: usize, list: &[u64], nodes: &mut [u64], colours: &mut [u8]) {
+    let n = least(k, list.len());
+    let a = Map::build(nodes, colours, &list[..n]);
+    show_built(a, nodes, colours);
+    io::write_all(STDOUT_FILENO, b"\n");
+}
+
+fn build(n: usize, list: &mut [u64], nodes: &mut [u64], colours: &mut [u8]) {
+    if n <= 65536 {
+        number(n as u64);
+        put_triples(list, n);
+        build_list(n * 3, list, nodes, colours);
+    }
+}
+
+fn next_of(n: u64, k: u64) -> u64 {
+    if n - k < 2 { U } else { k + 1 }
+}
+
+fn before(k: u64) -> u64 {
+    if k == 0 { U } else { k - 1 }
+}
+
+// Slot k of a chain of n: its right link leads to the next slot, its parent is the one before.
+fn put_link(nodes: &mut [u64], n: u64, k: u64)
+    requires { ⌜ (k < n) × (n * 8 ≤ length (now nodes)) ⌝ }
+{
+    let e = Entry {
+        start: k,
+        end: k + 1,
+        value: 0,
+    };
+    let h = Interval { start: k, end: n };
+    put_node(nodes, k, e, h, U, next_of(n, k), before(k));
+}
+
+fn put_chain(nodes: &mut [u64], n: u64)
+    requires { ⌜ n * 8 ≤ length (now nodes) ⌝ }
+{
+    let mut k = 0;
+    while k < n {
+        put_link(nodes, n, k);
+        k += 1;
+    }
+}
+
+fn chain(n: u64, nodes: &mut [u64], colours: &[u8]) {
+    if n <= (nodes.len() / 8) as u64 {
+        put_chain(nodes, n);
+        number(n);
+        number(number_of((Map { count: n, root: 0 }).check(nodes, colours)));
+        io::write_all(STDOUT_FILENO, b"\n");
+    }
+}
+
+fn builds(list: &mut [u64], nodes: &mut [u64], colours: &mut [u8]) {
+    build(255, list, nodes, colours);
+    build(256, list, nodes, colours);
+    build(4096, list, nodes, colours);
+    build(65535, list, nodes, colours);
+    build(65536, list, nodes, colours);
+}
+
+fn chains(nodes: &mut [u64], colours: &[u8]) {
+    chain(1, nodes, colours);
+    chain(2, nodes, colours);
+    chain(4000, nodes, colours);
+    chain(65535, nodes, colours);
+    chain(65536, nodes, colours);
+}
+
+fn main() {
+    let mut list = list_space();
+    let mut nodes = words_space();
+    let mut colours = bytes_space();
+    builds(&mut list, &mut nodes, &mut colours);
+    let black = bytes_space();
+    chains(&mut nodes, &black);
+}
