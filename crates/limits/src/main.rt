@@ -97,7 +97,9 @@ fn build(n: usize, list: &mut [u64], nodes: &mut [u64], colours: &mut [u8]) {
     }
 }
 
-fn next_of(n: u64, k: u64) -> u64 {
+fn next_of(n: u64, k: u64) -> u64
+    requires { ⌜ k < n ⌝ }
+{
     if n - k < 2 { U } else { k + 1 }
 }
 
@@ -137,10 +139,14 @@ fn chain(n: u64, nodes: &mut [u64], colours: &[u8]) {
     }
 }
 
-fn builds(list: &mut [u64], nodes: &mut [u64], colours: &mut [u8]) {
+fn some(list: &mut [u64], nodes: &mut [u64], colours: &mut [u8]) {
     build(255, list, nodes, colours);
     build(256, list, nodes, colours);
     build(4096, list, nodes, colours);
+}
+
+// As many entries as a map can have, and one more.
+fn most(list: &mut [u64], nodes: &mut [u64], colours: &mut [u8]) {
     build(65535, list, nodes, colours);
     build(65536, list, nodes, colours);
 }
@@ -157,7 +163,8 @@ fn main() {
     let mut list = list_space();
     let mut nodes = words_space();
     let mut colours = bytes_space();
-    builds(&mut list, &mut nodes, &mut colours);
+    some(&mut list, &mut nodes, &mut colours);
+    most(&mut list, &mut nodes, &mut colours);
     let black = bytes_space();
     chains(&mut nodes, &black);
 }

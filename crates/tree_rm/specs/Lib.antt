@@ -2,3 +2,4 @@ pub mod Links
 pub mod Repair
 pub mod Pairs
 pub mod Remove
+pub mod Answers

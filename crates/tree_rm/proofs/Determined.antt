@@ -1,0 +1,24 @@
+-- What a removal promises determines its answer and every word that it was lent: stated of the generated postcondition.
+use mathlib.Core.Path.{_≡_, sym, ap, _∙_}
+use mathlib.Core.List.{List}
+use Prim.Native.Nat.{ℕ}
+use contract.Lifetimes.{Lfts}
+use borrow.Fn.Kinds as K
+use denote.Triple.Clauses.{AtExit}
+use denote.Ref.{now}
+use Rattle.tree_rm.specs.Remove.{Removal}
+use Rattle.tree_rm.specs.Answers.{removal}
+use Rattle.tree_rm.specs.declared.remove.Removed.{Removed}
+use Rattle.tree_rm.proofs.remove.remove_at.Reads as reads
+use Rattle.tree_rm.proofs.remove.remove_at.Kinds as kinds
+
+pub removal-told : (a b : Removed) (W X C D : List ℕ) → removal a W C ≡ removal b X D → (a ≡ b) × (W ≡ X) × (C ≡ D)
+removal-told a b W X C D e = (
+  λ t. record { value = e t .value; root = e t .store .root; pairs = e t .pairs },
+  ap (λ (R : Removal). R .store .words) e,
+  ap (λ (R : Removal). R .store .colours) e,
+)
+
+pub remove-at-determined : (κs : Lfts 2) (a : K.Dens κs kinds.ps) (r r′ : K.resT kinds.r κs .Denot) (s s′ : AtExit (K.endedOf 2 kinds.ps kinds.r) κs)
+    → reads.Post κs a r s → reads.Post κs a r′ s′ → (r ≡ r′) × (now (s .0) ≡ now (s′ .0)) × (now (s .1 .0) ≡ now (s′ .1 .0))
+remove-at-determined κs a r r′ s s′ p q = removal-told r r′ (now (s .0)) (now (s′ .0)) (now (s .1 .0)) (now (s′ .1 .0)) (p ∙ sym q)

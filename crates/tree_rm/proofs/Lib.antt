@@ -1,0 +1,4 @@
+pub mod LinkLaws
+pub mod Turns
+pub mod Removes
+pub mod Determined

@@ -1,0 +1,140 @@
+-- The steps of a removal and the moved pairs, in the form that `search` takes.
+use mathlib.Core.Path.{_≡_, refl, sym, ap, _∙_}
+use mathlib.Core.Bool.{Bool, true, false, cond, _||_}
+use mathlib.Core.List.{List}
+use Prim.Native.Nat.{ℕ, zero, suc, _-_, _<_, min}
+use native.Mathlib.Omega.{arith}
+use native.Mathlib.Numerals.{sub-one}
+use lib.Dec.{eqb, leb}
+use borrow.Author.Tests.{le-leb, lt-leb, leb-false, eq-eqb, ne-eqb}
+use Rattle.words.specs.Ix.{linkOf, onLink}
+use Rattle.words.specs.Nodes.{value, kid, par, hull, entry, putNode, swap}
+use Rattle.words.specs.declared.interval.Interval.{Interval}
+use Rattle.words.specs.declared.ix.Link.{Link}
+use Rattle.words.specs.declared.ix.Link.the-variants.{Slot, Nil}
+use Rattle.words.specs.declared.node.Entry.{Entry}
+use Rattle.words.proofs.Laws.{linked, unlinked, slot-live}
+use Rattle.bitvec.specs.Colours.{red, dye}
+use Rattle.tree_rm.specs.declared.pairs.Pair.{Pair}
+use Rattle.tree_rm.specs.declared.pairs.Pairs.{Pairs}
+use Rattle.tree_rm.specs.Links.{adopt, removeChild, redirect, fixUp}
+use Rattle.tree_rm.specs.Pairs.{none, instead, emptied, home, named, sorted, moved}
+use Rattle.tree_rm.specs.Remove.{leftmost, vacated, store, restructure, exchanged, child, handed, above, cutWords, cutRoot, copied, relinked, cleared, swapRemove, Removal, finish, removeFrom, removeRule}
+use Rattle.tree_rm.proofs.LinkLaws.{slot-is, nil-is, read-linked}
+
+-- the leftmost slot
+module _ (n : ℕ) (W : List ℕ) (k : ℕ) where
+  pub left-low : (h : ℕ) → h ≡ 0 → k ≡ leftmost n h W k
+  unfolding leftmost
+  left-low zero e = refl
+  left-low (suc h) e = absurd (omega arith)
+
+  pub left-ends : (h w : ℕ) (l : Link) → w ≡ kid W true k → l ≡ linkOf n w → l ≡ Nil → k ≡ leftmost n h W k
+  unfolding leftmost onLink
+  left-ends zero w l e p q = refl
+  left-ends (suc h) w l e p q = rw (← e, le-leb n w (nil-is n w l p q))
+
+  pub left-on : (h w s r : ℕ) (l : Link) → (h ≡ 0 → ⊥) → w ≡ kid W true k → l ≡ linkOf n w → l ≡ Slot s → r ≡ leftmost n (h - 1) W s → r ≡ leftmost n h W k
+  unfolding leftmost
+  left-on zero w s r l z e p q d = absurd (z refl)
+  left-on (suc h) w s r l z e p q d = read-linked r n (kid W true k) w l (λ (x : ℕ). leftmost n h W x) k e p s q (rw (sub-one (suc h)) at d)
+
+-- the test of the right link, which stands there twice
+once : (t u : Bool) → (t || t) ≡ u → t ≡ u
+once true u e = e
+once false u e = e
+
+pub right-there : (n l : ℕ) → (leb n l || leb n l) ≡ false → l < n
+right-there n l e = leb-false n l (once (leb n l) false e)
+
+module _ (n : ℕ) (W : List ℕ) (s l : ℕ) (e : l ≡ kid W false s) where
+  pub goes-down : (r : ℕ) → (leb n l || leb n l) ≡ false → r ≡ leftmost n 32 W l → r ≡ vacated n W s
+  unfolding vacated
+  goes-down r q p = rw (← e, once (leb n l) false q) p
+
+  pub stays-here : (leb n l || leb n l) ≡ true → s ≡ vacated n W s
+  unfolding vacated
+  stays-here q = rw (← e, once (leb n l) true q)
+
+-- the least of the two links
+pub child-is : (W : List ℕ) (x l r m : ℕ) → l ≡ kid W true x → r ≡ kid W false x → m ≡ min l r → m ≡ child W x
+unfolding child
+child-is W x l r m e f q = rw (← e, ← f) q
+
+-- a slot is cut off below the link word g
+pub cut-is : (n g w s v : ℕ) (W X Y : List ℕ) (l : Link) → w ≡ g → l ≡ linkOf n w → l ≡ Slot s → X ≡ removeChild W s v → Y ≡ fixUp n 32 X s → Y ≡ cutWords n W g v
+unfolding cutWords
+cut-is n g w s v W X Y l e p q f h =
+    read-linked Y n g w l (λ (x : ℕ). fixUp n 32 (removeChild W x v) x) W e p s q (h ∙ ap (λ (Z : List ℕ). fixUp n 32 Z s) f)
+
+module _ (n : ℕ) (W : List ℕ) (x y : ℕ) (l : Link) (e : l ≡ linkOf n y) where
+  pub leaf-root : (r q : ℕ) → l ≡ Nil → q ≡ cutRoot n r (par W x) → q ≡ cutRoot n r (above n W x y)
+  unfolding above
+  leaf-root r q z d = rw (← unlinked (par W x) n y l (λ (s : ℕ). x) (par W x) e z refl) d
+
+  pub leaf-words : (X : List ℕ) → l ≡ Nil → X ≡ cutWords n W (par W x) x → X ≡ cutWords n (handed n W x y) (above n W x y) (emptied n x y)
+  unfolding above handed emptied
+  leaf-words X z d =
+      rw (
+        ← unlinked (par W x) n y l (λ (s : ℕ). x) (par W x) e z refl,
+        ← unlinked W n y l (λ (s : ℕ). swap W x s) W e z refl,
+        ← unlinked x n y l (λ (s : ℕ). s) x e z refl,
+      )
+      d
+
+  pub child-root : (s r : ℕ) → l ≡ Slot s → x < n → r ≡ cutRoot n r (above n W x y)
+  unfolding above cutRoot onLink
+  child-root s r z h = rw (lt-leb n y (rw (slot-is n y s l e z) at (slot-live n y s l e z)), lt-leb n x h)
+
+  pub child-words : (s : ℕ) (X Y Z : List ℕ) → l ≡ Slot s → x < n → X ≡ swap W x s → Y ≡ removeChild X x s → Z ≡ fixUp n 32 Y x
+      → Z ≡ cutWords n (handed n W x y) (above n W x y) (emptied n x y)
+  unfolding above handed emptied cutWords onLink
+  child-words s X Y Z z h f g d =
+      let i : s ≡ y = slot-is n y s l e z in
+      let k : y < n = rw i at (slot-live n y s l e z) in
+      rw (lt-leb n y k, lt-leb n x h) (cc)
+
+-- the last slot moves
+pub copied-is : (W X : List ℕ) (z v left right up : ℕ) (e : Entry) (h : Interval) → left ≡ kid W true z → right ≡ kid W false z → up ≡ par W z
+    → e ≡ entry W z → h ≡ hull W z → X ≡ putNode W v e h left right up → X ≡ copied W z v
+unfolding copied
+copied-is W X z v left right up e h i j k f g q = rw (← i, ← j, ← k, ← f, ← g) q
+
+pub relinked-is : (n : ℕ) (W W₁ W₂ W₃ W₄ : List ℕ) (z v left right up : ℕ) → left ≡ kid W true z → right ≡ kid W false z → up ≡ par W z
+    → W₁ ≡ copied W z v → W₂ ≡ adopt n W₁ left v → W₃ ≡ adopt n W₂ right v → W₄ ≡ redirect n W₃ up z v → W₄ ≡ relinked n W z v
+unfolding relinked
+relinked-is n W W₁ W₂ W₃ W₄ z v left right up i j k e f g h = rw (← i, ← j, ← k, ← e, ← f, ← g) h
+
+pub none-moves : (n : ℕ) (W C X : List ℕ) (r z v : ℕ) → v ≡ z → X ≡ cleared W z → store X C r ≡ swapRemove n W C r z v
+unfolding swapRemove
+none-moves n W C X r z v e q = rw (eq-eqb v z e) (ap (λ (Y : List ℕ). store Y C r) q)
+
+pub last-moves : (n : ℕ) (W C W₁ W₂ C₁ : List ℕ) (r z v q : ℕ) → (v ≡ z → ⊥) → C₁ ≡ dye C v (red C z) → W₁ ≡ relinked n W z v → W₂ ≡ cleared W₁ z
+    → q ≡ instead z v r → store W₂ C₁ q ≡ swapRemove n W C r z v
+unfolding swapRemove
+last-moves n W C W₁ W₂ C₁ r z v q h e f g i = rw (ne-eqb v z h) (cc)
+
+-- the whole removal
+pub finish-is : (n s x y : ℕ) (W C W₁ W₂ C₂ : List ℕ) (r v top item q : ℕ) (P : Pairs) → v ≡ emptied n x y → top ≡ cutRoot n r (above n W x y)
+    → W₁ ≡ cutWords n (handed n W x y) (above n W x y) (emptied n x y) → item ≡ value W₁ v → store W₂ C₂ q ≡ swapRemove n W₁ C top (n - 1) v
+    → P ≡ moved n (n - 1) s x y → record { store = store W₂ C₂ q; value = item; pairs = P } ≡ finish (store W C r) n s x y
+unfolding finish
+finish-is n s x y W C W₁ W₂ C₂ r v top item q P e f g h i j =
+    let k : W₁ ≡ cutWords n (handed n W x y) (above n W x y) v = rw e g in
+    rw (← e, ← f, ← k, ← h, ← i, ← j)
+
+pub from-is : (n r s x y top : ℕ) (W C X W₁ C₁ : List ℕ) (R : Removal) → X ≡ exchanged W s x → y ≡ child X x → store W₁ C₁ top ≡ restructure n X C r x y
+    → R ≡ finish (store W₁ C₁ top) n s x y → R ≡ removeFrom W C n r s x
+unfolding removeFrom
+from-is n r s x y top W C X W₁ C₁ R f g h i = rw (← f, ← g, ← h) i
+
+pub remove-is : (n r s x : ℕ) (W C : List ℕ) (R : Removal) → x ≡ vacated n W s → R ≡ removeFrom W C n r s x → R ≡ removeRule W C n r s
+unfolding removeRule
+remove-is n r s x W C R e i = rw (← e) i
+
+-- the pairs
+pub moved-is : (n z s x y a b c : ℕ) (p q o : Pair) (R : Pairs) → a ≡ home n z s x y x → b ≡ home n z s x y y → c ≡ home n z s x y z
+    → p ≡ cond (eqb x s) none (named x a) → q ≡ cond (leb n y) none (named y b)
+    → o ≡ cond (eqb z s || eqb z x || eqb z y) none (named z c) → R ≡ sorted p q o → R ≡ moved n z s x y
+unfolding moved
+moved-is n z s x y a b c p q o R d e f g h i j = rw (← d, ← e, ← f, ← g, ← h, ← i) j

@@ -1,0 +1,14 @@
+use Rattle.tree_rm.specs.Links.{redirected}
+use borrow.Author.Needs.{needs}
+use Rattle.tree_rm.proofs.links.replace_child.Statement.{statement}
+use Rattle.tree_rm.proofs.links.replace_child.Tie as tie
+
+pub replace-child-spec : {M : Type 1} → statement M
+unfolding redirected
+replace-child-spec =
+    tie.close
+    (tie.spec
+    (λ c κs. search needs)
+    (λ c κs. search needs)
+    (λ c. search needs)
+    (λ c. cc))

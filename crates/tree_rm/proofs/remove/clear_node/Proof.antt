@@ -1,0 +1,13 @@
+use Rattle.tree_rm.specs.Remove.{cleared}
+use borrow.Author.Needs.{needs}
+use Rattle.tree_rm.proofs.remove.clear_node.Statement.{statement}
+use Rattle.tree_rm.proofs.remove.clear_node.Tie as tie
+
+pub clear-node-spec : {M : Type 1} → statement M
+unfolding cleared
+clear-node-spec =
+    tie.close
+    (tie.spec
+    (λ c κs. search needs)
+    (λ c. search needs)
+    (λ c. cc))

@@ -1,0 +1,24 @@
+use Rattle.tree_rm.proofs.LinkLaws.{read-linked, read-unlinked}
+use Rattle.tree_rm.proofs.Removes.{cut-is}
+use Rattle.tree_rm.specs.Remove.{cutRoot, cutWords}
+use Rattle.words.proofs.Laws.{slot-room}
+use borrow.Author.Needs.{needs}
+use mathlib.Core.Path.{refl}
+use Rattle.tree_rm.proofs.remove.cut_leaf.Statement.{statement}
+use Rattle.tree_rm.proofs.remove.cut_leaf.Tie as tie
+
+pub cut-leaf-spec : {M : Type 1} → statement M
+unfolding cutRoot cutWords
+cut-leaf-spec =
+    tie.close
+    (tie.spec
+    (λ c κs. search needs)
+    (λ c κs. search needs)
+    (λ c. search needs)
+    (λ c. search needs)
+    (λ c. search needs)
+    (λ c. (refl, search read-unlinked, search read-unlinked))
+    (λ c κs. search slot-room)
+    (λ c κs. search needs)
+    (λ c. search needs)
+    (λ c. (refl, search read-linked, search cut-is)))

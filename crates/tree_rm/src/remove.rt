@@ -1,0 +1,240 @@
+// The removal of one entry.
+use crate::links::adopt_child;
+use crate::links::fix_intervals_up;
+use crate::links::remove_child;
+use crate::links::replace_child_at;
+use crate::pairs::Pairs;
+use crate::pairs::after_move;
+use crate::pairs::moved_pairs;
+use crate::repair::copy_colour;
+use crate::repair::restructure_rm;
+use words::interval::Interval;
+use words::interval::smaller;
+use words::ix::Link;
+use words::ix::U;
+use words::node::Entry;
+use words::node::child_of;
+use words::node::entry_of;
+use words::node::hull_at;
+use words::node::parent_of;
+use words::node::put_node;
+use words::node::swap_with;
+use words::node::value_of;
+ghost use mathlib.Core.Path.{_≡_};
+ghost use mathlib.Core.Bool.{true, false, cond};
+ghost use Prim.Native.Nat.{_+_, _-_, _*_, _<_, _≤_};
+ghost use lib.ListN.{length};
+ghost use Rattle.words.specs.Nodes.{kid, par, value, swap};
+ghost use Rattle.tree_rm.specs.Pairs.{emptied, moved};
+ghost use Rattle.tree_rm.specs.Remove.{leftmost, vacated, exchanged, child, store, handed, above, cutWords, cutRoot, copied, relinked, cleared, swapRemove, finish, removeFrom, removeRule};
+ghost use Rattle.tree_rm.specs.Answers.{removal};
+
+// Swap values and intervals for `i`-th and `j`-th nodes.
+fn swap_nodes(nodes: &mut [u64], i: u64, j: u64)
+    requires { ⌜ (i * 8 + 8 ≤ length (now nodes)) × (j * 8 + 8 ≤ length (now nodes)) ⌝ }
+    ensures { λ _. ⌜ now (nodes .exit) ≡ swap (now (nodes .entry)) i j ⌝ }
+{
+    swap_with(nodes, i, j);
+}
+
+// All eight words of slot `from` go to slot `to` too.
+fn copy_node(nodes: &mut [u64], from: u64, to: u64)
+    requires { ⌜ (from * 8 + 8 ≤ length (now nodes)) × (to * 8 + 8 ≤ length (now nodes)) ⌝ }
+    ensures { λ _. ⌜ now (nodes .exit) ≡ copied (now (nodes .entry)) from to ⌝ }
+{
+    let left = child_of(nodes, from, true);
+    let right = child_of(nodes, from, false);
+    let up = parent_of(nodes, from);
+    put_node(
+        nodes,
+        to,
+        entry_of(nodes, from),
+        hull_at(nodes, from),
+        left,
+        right,
+        up,
+    );
+}
+
+fn clear_node(nodes: &mut [u64], ix: u64)
+    requires { ⌜ ix * 8 + 8 ≤ length (now nodes) ⌝ }
+    ensures { λ _. ⌜ now (nodes .exit) ≡ cleared (now (nodes .entry)) ix ⌝ }
+{
+    let nothing = Entry {
+        start: 0,
+        end: 0,
+        value: 0,
+    };
+    put_node(nodes, ix, nothing, Interval { start: 0, end: 0 }, 0, 0, 0);
+}
+
+// The node of slot `from` goes to slot `to`: its children and its parent lead there.
+fn move_node(nodes: &mut [u64], count: u64, from: u64, to: u64)
+    requires { ⌜ (count * 8 ≤ length (now nodes)) × (from < count) × (to < count) ⌝ }
+    ensures { λ _. ⌜ now (nodes .exit) ≡ relinked count (now (nodes .entry)) from to ⌝ }
+{
+    let left = child_of(nodes, from, true);
+    let right = child_of(nodes, from, false);
+    let up = parent_of(nodes, from);
+    copy_node(nodes, from, to);
+    adopt_child(nodes, count, left, to);
+    adopt_child(nodes, count, right, to);
+    replace_child_at(nodes, count, up, from, to);
+}
+
+// Removes slot ix by moving the last slot into it, and updates all links that lead to the node that was the last one;
+// the answer is the root. The last slot's words become 0, and its colour bit stays.
+fn swap_remove(nodes: &mut [u64], colours: &mut [u8], count: u64, root: u64, ix: u64) -> u64
+    requires { ⌜ (count * 8 ≤ length (now nodes)) × (count ≤ length (now colours) * 8) × (ix < count) ⌝ }
+    ensures { λ r. ⌜ store (now (nodes .exit)) (now (colours .exit)) r ≡ swapRemove count (now (nodes .entry)) (now (colours .entry)) root (count - 1) ix ⌝ }
+{
+    let last = count - 1;
+    if ix == last {
+        clear_node(nodes, last);
+        return root;
+    }
+    copy_colour(colours, last, ix);
+    move_node(nodes, count, last, ix);
+    clear_node(nodes, last);
+    after_move(last, ix, root)
+}
+
+// The leftmost slot from slot k down, `height` links at the most.
+fn leftmost_from(nodes: &[u64], count: u64, k: u64, height: u64) -> u64
+    requires { ⌜ (count * 8 ≤ length (now nodes)) × (k < count) ⌝ }
+    ensures { λ r. ⌜ (r ≡ leftmost count height (now (nodes .entry)) k) × (r < count) ⌝ }
+{
+    if height == 0 {
+        return k;
+    }
+    let Link::Slot(left) = Link::new(child_of(nodes, k, true), count) else {
+        return k;
+    };
+    leftmost_from(nodes, count, left, height - 1)
+}
+
+// The slot to vacate for slot ix: the minimal node in the right subtree, where there is one. Document 01 keeps the file's
+// doubled test of the right link; that a test of both links gives the same store is proved of `removeRule′`.
+fn slot_to_vacate(nodes: &[u64], count: u64, ix: u64) -> u64
+    requires { ⌜ (count * 8 ≤ length (now nodes)) × (ix < count) ⌝ }
+    ensures { λ r. ⌜ (r ≡ vacated count (now (nodes .entry)) ix) × (r < count) ⌝ }
+{
+    let right = child_of(nodes, ix, false);
+    if (count <= right) | (count <= right) {
+        ix
+    } else {
+        leftmost_from(nodes, count, right, 32)
+    }
+}
+
+// The two slots exchange interval and value, unless they are one.
+fn exchange(nodes: &mut [u64], ix: u64, rm: u64)
+    requires { ⌜ (ix * 8 + 8 ≤ length (now nodes)) × (rm * 8 + 8 ≤ length (now nodes)) ⌝ }
+    ensures { λ _. ⌜ now (nodes .exit) ≡ exchanged (now (nodes .entry)) ix rm ⌝ }
+{
+    if rm != ix {
+        swap_nodes(nodes, ix, rm);
+    }
+}
+
+// The least of the two links.
+fn least_child(nodes: &[u64], rm: u64) -> u64
+    requires { ⌜ rm * 8 + 8 ≤ length (now nodes) ⌝ }
+    ensures { λ r. ⌜ r ≡ child (now (nodes .entry)) rm ⌝ }
+{
+    smaller(child_of(nodes, rm, true), child_of(nodes, rm, false))
+}
+
+// The slot that is vacated, and the root.
+struct Cut {
+    slot: u64,
+    root: u64,
+}
+
+// Removed node has no child, just cut off the node.
+fn cut_leaf(nodes: &mut [u64], count: u64, root: u64, rm: u64) -> Cut
+    requires { ⌜ (count * 8 ≤ length (now nodes)) × (rm < count) ⌝ }
+    ensures { λ r. ⌜ (r .slot ≡ rm) × (r .root ≡ cutRoot count root (par (now (nodes .entry)) rm)) × (now (nodes .exit) ≡ cutWords count (now (nodes .entry)) (par (now (nodes .entry)) rm) rm) ⌝ }
+{
+    let Link::Slot(parent_ix) = Link::new(parent_of(nodes, rm), count) else {
+        return Cut { slot: rm, root: U };
+    };
+    remove_child(nodes, parent_ix, rm);
+    fix_intervals_up(nodes, count, parent_ix);
+    Cut { slot: rm, root }
+}
+
+// Slot rm is vacated. A child that is there gives its interval and value to rm and is cut off instead.
+fn cut_off(nodes: &mut [u64], count: u64, root: u64, rm: u64, child: u64) -> Cut
+    requires { ⌜ (count * 8 ≤ length (now nodes)) × (rm < count) ⌝ }
+    ensures { λ r. ⌜ (r .slot ≡ emptied count rm child) × (r .slot < count) × (r .root ≡ cutRoot count root (above count (now (nodes .entry)) rm child)) × (now (nodes .exit) ≡ cutWords count (handed count (now (nodes .entry)) rm child) (above count (now (nodes .entry)) rm child) (emptied count rm child)) ⌝ }
+{
+    let Link::Slot(child_ix) = Link::new(child, count) else {
+        return cut_leaf(nodes, count, root, rm);
+    };
+    swap_nodes(nodes, rm, child_ix);
+    remove_child(nodes, rm, child_ix);
+    fix_intervals_up(nodes, count, rm);
+    Cut {
+        slot: child_ix,
+        root,
+    }
+}
+
+// The removed value, the root and the moved pairs.
+pub struct Removed {
+    pub value: u64,
+    pub root: u64,
+    pub pairs: Pairs,
+}
+
+// Slot rm with its child link is vacated, for the entry of slot ix.
+fn finish_rm(
+    nodes: &mut [u64],
+    colours: &mut [u8],
+    count: u64,
+    root: u64,
+    ix: u64,
+    rm: u64,
+    child: u64,
+) -> Removed
+    requires { ⌜ (count * 8 ≤ length (now nodes)) × (count ≤ length (now colours) * 8) × (rm < count) ⌝ }
+    ensures { λ r. ⌜ removal r (now (nodes .exit)) (now (colours .exit)) ≡ finish (store (now (nodes .entry)) (now (colours .entry)) root) count ix rm child ⌝ }
+{
+    let cut = cut_off(nodes, count, root, rm, child);
+    let value = value_of(nodes, cut.slot);
+    let top = swap_remove(nodes, colours, count, cut.root, cut.slot);
+    let pairs = moved_pairs(count, count - 1, ix, rm, child);
+    Removed {
+        value,
+        root: top,
+        pairs,
+    }
+}
+
+// The entry of slot ix is removed, and slot rm vacated for it.
+fn remove_from(
+    nodes: &mut [u64],
+    colours: &mut [u8],
+    count: u64,
+    root: u64,
+    ix: u64,
+    rm: u64,
+) -> Removed
+    requires { ⌜ (count * 8 ≤ length (now nodes)) × (count ≤ length (now colours) * 8) × (ix < count) × (rm < count) ⌝ }
+    ensures { λ r. ⌜ removal r (now (nodes .exit)) (now (colours .exit)) ≡ removeFrom (now (nodes .entry)) (now (colours .entry)) count root ix rm ⌝ }
+{
+    exchange(nodes, ix, rm);
+    let child = least_child(nodes, rm);
+    let top = restructure_rm(nodes, colours, count, root, rm, child);
+    finish_rm(nodes, colours, count, top, ix, rm, child)
+}
+
+// The entry of slot ix is removed; the count is one less.
+pub fn remove_at(nodes: &mut [u64], colours: &mut [u8], count: u64, root: u64, ix: u64) -> Removed
+    requires { ⌜ (count * 8 ≤ length (now nodes)) × (count ≤ length (now colours) * 8) × (ix < count) ⌝ }
+    ensures { λ r. ⌜ removal r (now (nodes .exit)) (now (colours .exit)) ≡ removeRule (now (nodes .entry)) (now (colours .entry)) count root ix ⌝ }
+{
+    let rm = slot_to_vacate(nodes, count, ix);
+    remove_from(nodes, colours, count, root, ix, rm)
+}

@@ -1,0 +1,191 @@
+-- The doubled test of `remove_at` is harmless: read as a test of both links it gives the same store, value and pairs.
+-- The readings part only at a node with a right child alone. That child is red and bare, so either way it is the slot that is cut off.
+use mathlib.Core.Path.{_≡_, refl, sym, _∙_}
+use mathlib.Core.Logic.{_≢_}
+use mathlib.Core.Bool.{Bool, true, false, cond, _||_}
+use mathlib.Core.List.{List, [], _∷_}
+use Prim.Native.Nat.{ℕ, _-_, _*_, _<_, _≤_}
+use native.Mathlib.Omega.{arith}
+use lib.ListN.{length}
+use lib.Dec.{eqb}
+use borrow.Author.Tests.{eq-eqb, ne-eqb, lt-leb, le-leb}
+use Rattle.words.specs.Ix.{U, gone}
+use Rattle.words.specs.Nodes.{value, kid, par, swap}
+use Rattle.words.proofs.Nodes.{word-swap}
+use Rattle.words.specs.declared.node.Field.the-variants.{Child, Parent}
+use Rattle.bitvec.specs.Colours.{red, dye}
+use Rattle.bitvec.proofs.Bytes.{setBit-idle}
+use Rattle.tree.specs.Tree.{Tree, slots, occ, height, leaf, node}
+use Rattle.tree.specs.Zipper.{Frame, plug}
+use Rattle.tree.specs.Passes.{Passes}
+use Rattle.tree.proofs.Slots.{hit-cases, hit-zero}
+use Rattle.tree.proofs.Frames.{unplug-shape}
+use Rattle.tree.proofs.Checked.{slot-once, tree-low}
+use Rattle.tree_rm.specs.Pairs.{none, instead, home, named, lower, upper, sorted, moved}
+use Rattle.tree_rm.specs.Remove.{leftmost, vacated, vacated′, exchanged, child, cutWords, cutRoot, swapRemove, Removal, finish, removeFrom, removeRule, removeRule′}
+use Rattle.tree_rm.specs.declared.pairs.Pair.{Pair}
+use Rattle.tree_rm.specs.declared.pairs.Pairs.{Pairs}
+use Rattle.tree_rm_laws.proofs.Moves.{find}
+use Rattle.tree_rm_laws.proofs.Rows.{instead-here, instead-other, instead-self}
+use Rattle.tree_rm_laws.proofs.Beside.{hulls-by}
+use Rattle.tree_rm_laws.proofs.Vacate.{leftmost-at}
+use Rattle.tree_rm_laws.proofs.Steps.{emptied-slot, emptied-none, above-slot, above-none, handed-slot, handed-none, restructure-red, restructure-child}
+use Rattle.tree_rm_laws.proofs.Spot.{Spot, red-y, black-x, bare-y, at-y, child-y, x≢y}
+use Rattle.tree_rm_laws.proofs.Loop.{Bare}
+use Rattle.tree_rm_laws.proofs.Cut.{way-height}
+use Rattle.tree_rm_laws.proofs.Pairs.{by-order}
+
+-- a pair that is told comes before one that is not
+module _ (p o : Pair) (told : p .old ≤ U) (only : p .old ≡ U → p ≡ none) where
+  none-first : (lower none p ≡ p) × (upper none p ≡ none)
+  none-first = by-order none p (λ i j. (i ≡ p) × (j ≡ none)) (λ h. (refl, refl)) (λ h. let e : p ≡ none = only (omega arith) in (sym e, e))
+
+  none-last : (lower p none ≡ p) × (upper p none ≡ none)
+  none-last = by-order p none (λ i j. (i ≡ p) × (j ≡ none)) (λ h. absurd (omega arith)) (λ h. (refl, refl))
+
+  sorted-none : sorted none p o ≡ sorted p none o
+  unfolding sorted
+  sorted-none = rw (none-first .0, none-first .1, none-last .0, none-last .1)
+
+told-named : (a b : ℕ) → a < U → (named a b .old ≤ U) × (named a b .old ≡ U → named a b ≡ none)
+unfolding named
+told-named a b u = go (eqb a b)
+  where
+    go : (t : Bool) → (cond t none (record { old = a; new = b }) .old ≤ U)
+        × (cond t none (record { old = a; new = b }) .old ≡ U → cond t none (record { old = a; new = b }) ≡ none)
+    go true = (omega arith, λ e. refl)
+    go false = (omega arith, λ e. absurd (omega arith))
+
+-- the pairs by either reading
+module _ (n z s y : ℕ) (small : n ≤ 65535) (lz : z < n) (ls : s < n) (ly : y < n) where
+  stay-live : (a : ℕ) → a < n → instead y s a < n
+  stay-live a u = hit-cases a y (λ e. rw (e, instead-here y s) ls) (λ z. rw (instead-other y s a (hit-zero a y z)) u)
+
+  home-both : (a : ℕ) → a < n → home n z s s y a ≡ home n z s y U a
+  unfolding home
+  home-both a u =
+      rw (
+        emptied-slot n s y ly,
+        emptied-none n y U (omega arith),
+        instead-self s a,
+        instead-other U y (instead y s a) (omega (arith, stay-live a u)),
+      ) refl
+
+  or-both : (i j : Bool) → i || i || j ≡ i || j || false
+  or-both true j = refl
+  or-both false true = refl
+  or-both false false = refl
+
+  moved-both : y ≢ s → moved n z s s y ≡ moved n z s y U
+  unfolding moved
+  moved-both d =
+      let a : Pair = named y (home n z s y U y) in
+      let o : Pair = cond (eqb z s || eqb z y || false) none (named z (home n z s y U z)) in
+      rw (eq-eqb s s refl, ne-eqb y s d, lt-leb n y ly, le-leb n U (omega arith), ne-eqb z U (omega arith), home-both y ly, home-both z lz, or-both)
+      (sorted-none a o (told-named y (home n z s y U y) (omega arith) .0) (told-named y (home n z s y U y) (omega arith) .1))
+
+module _ (W C : List ℕ) (n r s y : ℕ) (ls : s < n) (ly : y < n) (small : n ≤ 65535)
+    (ks : child W s ≡ y) (ky : child (swap W s y) y ≡ U) (up : par W y ≡ s) (bs : red C s ≡ false) (ry : red C y ≡ true) (ys : y ≢ s) where
+  abbrev Z : List ℕ
+  Z = cutWords n (swap W s y) s y
+
+  -- the slot y is cut off
+  abbrev cutting : List ℕ → Pairs → Removal
+  cutting D p = record { store = swapRemove n Z D (cutRoot n r s) (n - 1) y; value = value Z y; pairs = p }
+
+  from-s : removeFrom W C n r s s ≡ cutting (dye C y true) (moved n (n - 1) s s y)
+  unfolding removeFrom finish exchanged
+  from-s =
+      rw (
+        eq-eqb s s refl,
+        ks,
+        restructure-child n W C r s y bs ly ry,
+        emptied-slot n s y ly,
+        above-slot n W s y ly,
+        handed-slot n W s y ly,
+      ) refl
+
+  from-y : removeFrom W C n r s y ≡ cutting C (moved n (n - 1) s y U)
+  unfolding removeFrom finish exchanged
+  from-y =
+      let X : List ℕ = swap W s y in
+      rw (
+        ne-eqb y s ys,
+        ky,
+        restructure-red n X C r y U ry,
+        emptied-none n y U (omega arith),
+        above-none n X y U (omega arith),
+        handed-none n X y U (omega arith),
+        word-swap W s y Parent y refl,
+        up,
+      ) refl
+
+  either : removeFrom W C n r s s ≡ removeFrom W C n r s y
+  either = from-s ∙ rw (setBit-idle C y true ry, moved-both n (n - 1) s y small (omega arith) ls ly ys) (sym from-y)
+
+or-right : (i j : Bool) → j ≡ true → i || j ≡ true
+or-right true j e = refl
+or-right false j e = e
+
+module _ (W C : List ℕ) (n r s : ℕ) (small : n ≤ 65535) (fit : n * 8 ≤ length W) (bits : n ≤ length C * 8) (ls : s < n) (h : Passes W C n r) where
+  abbrev t : Tree
+  t = h .tree
+
+  most : (a : ℕ) → occ a t ≤ 1
+  most = slot-once W C n r h
+
+  tall : height t ≤ 32
+  tall = tree-low W C n r h small
+
+  -- a right child alone
+  lone : (d : List Frame) (l : Tree) (y : ℕ) (l′ : Tree) → t ≡ plug d (node leaf s (node l y l′)) → removeFrom W C n r s s ≡ removeFrom W C n r s (vacated n W s)
+  unfolding vacated child
+  lone d l y l′ e =
+      let low : height (plug d (node leaf s (node l y l′))) ≤ 32 = rw e at tall in
+      let i : Spot W C n r s false d (node l y l′) = record {
+        small = small;
+        fit = fit;
+        bits = bits;
+        shape = rw e at (h .shape);
+        once = λ a. rw e at (most a);
+        tall = low;
+        hues = rw e at (h .hues);
+        top = rw e at (h .top);
+        hulls = hulls-by W d (node leaf s (node l y l′)) (rw e at (h .hulls)) .0;
+      } in
+      let at = at-y W C n r s false d (node l y l′) i l y l′ refl in
+      let (el, er) = bare-y W C n r s false d (node l y l′) i l y l′ refl in
+      let left : kid W true y ≡ U = rw el at (at .left) in
+      let right : kid W false y ≡ U = rw er at (at .right) in
+      let sy : s ≢ y = x≢y W C n r s false d (node l y l′) i l y l′ refl in
+      let both : removeFrom W C n r s s ≡ removeFrom W C n r s y =
+      either W C n r s y ls (at .live) small
+      (child-y W C n r s false d (node l y l′) i l y l′ refl)
+      (rw (word-swap W s y (Child true) y refl, word-swap W s y (Child false) y refl, left, right) refl) (at .up)
+      (black-x W C n r s false d (node l y l′) i l y l′ refl) (red-y W C n r s false d (node l y l′) i l y l′ refl)
+      (λ q. sy (sym q)) in
+      leftmost-at W n small 32 s (kid W false s) l y l′ at (omega (arith, way-height d (node leaf s (node l y l′)))) (λ m i w rest f g o.
+      let me : m ≡ y = sym (first-is m rest (rw (el, er) at o)) in
+      rw (lt-leb n (kid W false s) (rw (at .here) (at .live)), g, me) both)
+    where
+      first-is : (m : ℕ) (rest : List ℕ) → slots (Bare y) ≡ m ∷ rest → y ≡ m
+      first-is m rest e = cc
+
+  pub harmless : removeRule′ W C n r s ≡ removeRule W C n r s
+  unfolding removeRule removeRule′ vacated vacated′
+  harmless = find s t [] (omega (arith, h .once s ls)) go
+    where
+      go : (d : List Frame) (l r′ : Tree) → t ≡ plug d (node l s r′)
+          → removeFrom W C n r s (cond (gone n (kid W true s) || gone n (kid W false s)) s (leftmost n 32 W (kid W false s)))
+          ≡ removeFrom W C n r s (cond (gone n (kid W false s)) s (leftmost n 32 W (kid W false s)))
+      go d l leaf e =
+          let (p, k, a, sh) = unplug-shape W n r d (node l s leaf) (rw e at (h .shape)) in
+          let q : gone n (kid W false s) ≡ true = le-leb n (kid W false s) (omega (arith, sh .right)) in
+          rw (or-right (gone n (kid W true s)) (gone n (kid W false s)) q, q) refl
+      go d (node i j k₀) (node l y l′) e =
+          let (p, k, a, sh) = unplug-shape W n r d (node (node i j k₀) s (node l y l′)) (rw e at (h .shape)) in
+          let q : gone n (kid W true s) ≡ false = lt-leb n (kid W true s) (rw (sh .left .here) (sh .left .live)) in
+          rw q refl
+      go d leaf (node l y l′) e =
+          let (p, k, a, sh) = unplug-shape W n r d (node leaf s (node l y l′)) (rw e at (h .shape)) in
+          rw (le-leb n (kid W true s) (omega (arith, sh .left))) (lone d l y l′ e)

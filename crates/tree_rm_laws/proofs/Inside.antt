@@ -1,0 +1,149 @@
+-- A removal writes to slots below the count alone, whatever the words hold.
+use mathlib.Core.Path.{_≡_, refl, ap, _∙_}
+use mathlib.Core.Bool.{Bool, true, false, cond}
+use mathlib.Core.List.{List}
+use Prim.Native.Nat.{ℕ, zero, suc, _+_, _-_, _*_, _<_, _≤_}
+use native.Mathlib.Omega.{arith}
+use lib.ListN.{length}
+use lib.Dec.{eqb, leb}
+use borrow.Author.Tests.{leb-false}
+use Rattle.words.specs.Ix.{U}
+use Rattle.words.specs.Nodes.{word, kid, putKid, swap}
+use Rattle.words.proofs.Nodes.{entry-putNode, hull-putNode, kid-putNode, par-putNode}
+use Rattle.words.specs.declared.interval.Interval.{Interval}
+use Rattle.words.specs.declared.node.Entry.{Entry}
+use Rattle.words.specs.declared.node.Field.{Field}
+use Rattle.words.specs.declared.node.Field.the-variants.{Start, End, Value, HullStart, HullEnd, Child, Parent}
+use Rattle.bitvec.specs.Colours.{red, dye}
+use Rattle.tree_rm.specs.Links.{redirected, removeChild, fixUp}
+use Rattle.tree_rm.specs.Pairs.{instead, emptied}
+use Rattle.tree_rm.specs.Remove.{leftmost, vacated, exchanged, child, Store, store, restructure, handed, above, cutWords, cutRoot, relinked, cleared, swapRemove, finish, removeFrom, removeRule}
+use Rattle.tree_rm_laws.specs.Removed.{Inside}
+use Rattle.tree_rm_laws.proofs.Links.{by-link}
+use Rattle.tree_rm_laws.proofs.Steps.{emptied-live}
+use Rattle.tree_rm_laws.proofs.Low.{Low, low-refl, low-trans, low-put, low-link, low-fixUp, low-swap, low-cleared, low-three, low-relinked, Dyed, dyed-refl, dyed}
+use Rattle.tree_rm_laws.proofs.Mended.{mended-restructure}
+
+module _ (n : ℕ) where
+  -- the steps after it
+  low-handed : (W : List ℕ) (x y : ℕ) → x < n → Low n W (handed n W x y)
+  unfolding handed
+  low-handed W x y h = low-link n W y (λ s. swap W x s) (low-swap n W x y h)
+
+  low-cutWords : (W : List ℕ) (g v : ℕ) → Low n W (cutWords n W g v)
+  unfolding cutWords removeChild redirected
+  low-cutWords W g v =
+      low-link n W g (λ s. fixUp n 32 (putKid W (eqb (kid W true s) v) s U) s)
+      (λ h. low-trans n W (putKid W (eqb (kid W true g) v) g U) _ (low-put n W (Child (eqb (kid W true g) v)) g U h) (low-fixUp n 32 _ g))
+
+  inside-swapRemove : (W C : List ℕ) (r z v : ℕ) → z < n → v < n → Inside n W C (swapRemove n W C r z v)
+  unfolding swapRemove
+  inside-swapRemove W C r z v lz lv = go (eqb v z)
+    where
+      a : Low n W (cleared W z)
+      a = low-cleared n W z lz
+
+      b : Low n W (cleared (relinked n W z v) z)
+      b = low-trans n W (relinked n W z v) _ (low-relinked n W z v lv) (low-cleared n (relinked n W z v) z lz)
+
+      d : Dyed n C (dye C v (red C z))
+      d = dyed n C C v (red C z) lv (dyed-refl n C)
+
+      go : (t : Bool) → Inside n W C (cond t (store (cleared W z) C r) (store (cleared (relinked n W z v) z) (dye C v (red C z)) (instead z v r)))
+      go true = record { words-length = a .0; colours-length = refl; words-kept = a .1; colours-kept = λ a u. refl }
+      go false = record { words-length = b .0; colours-length = d .0; words-kept = b .1; colours-kept = d .1 }
+
+  pub low-exchanged : (W : List ℕ) (s x : ℕ) → s < n → x < n → Low n W (exchanged W s x)
+  unfolding exchanged
+  low-exchanged W s x ls lx = go (eqb x s)
+    where
+      go : (t : Bool) → Low n W (cond t W (swap W s x))
+      go true = low-refl n W
+      go false = low-swap n W s x ls lx
+
+  leftmost-live : (height : ℕ) (W : List ℕ) (k : ℕ) → k < n → leftmost n height W k < n
+  unfolding leftmost
+  leftmost-live zero W k h = h
+  leftmost-live (suc height) W k h =
+      by-link n (kid W true k) (λ m. m < n) (λ s. leftmost n height W s) k (leftmost-live height W (kid W true k)) (λ u. h)
+
+  vacated-live : (W : List ℕ) (s : ℕ) → s < n → vacated n W s < n
+  unfolding vacated
+  vacated-live W s h = go (leb n (kid W false s)) refl
+    where
+      go : (t : Bool) → leb n (kid W false s) ≡ t → cond t s (leftmost n 32 W (kid W false s)) < n
+      go true e = h
+      go false e = leftmost-live 32 W (kid W false s) (leb-false n (kid W false s) e)
+
+-- a cleared slot
+word-zero : (W : List ℕ) (z : ℕ) → z * 8 + 8 ≤ length W → (f : Field) → word (cleared W z) f z ≡ 0
+unfolding cleared
+word-zero W z m Start = ap (λ (e : Entry). e .start) (entry-putNode W z _ _ _ _ _ m)
+word-zero W z m End = ap (λ (e : Entry). e .end) (entry-putNode W z _ _ _ _ _ m)
+word-zero W z m Value = ap (λ (e : Entry). e .value) (entry-putNode W z _ _ _ _ _ m)
+word-zero W z m HullStart = ap (λ (i : Interval). i .start) (hull-putNode W z _ _ _ _ _ m)
+word-zero W z m HullEnd = ap (λ (i : Interval). i .end) (hull-putNode W z _ _ _ _ _ m)
+word-zero W z m (Child true) = kid-putNode W z _ _ _ _ _ true m
+word-zero W z m (Child false) = kid-putNode W z _ _ _ _ _ false m
+word-zero W z m Parent = par-putNode W z _ _ _ _ _ m
+
+zero-swapRemove : (n : ℕ) (W C : List ℕ) (r z v : ℕ) → v < n → z * 8 + 8 ≤ length W → (f : Field) → word (swapRemove n W C r z v .words) f z ≡ 0
+unfolding swapRemove
+zero-swapRemove n W C r z v lv m f = go (eqb v z)
+  where
+    go : (t : Bool)
+        → word (cond t (store (cleared W z) C r) (store (cleared (relinked n W z v) z) (dye C v (red C z)) (instead z v r)) .words) f z ≡ 0
+    go true = word-zero W z m f
+    go false = word-zero (relinked n W z v) z (rw (low-relinked n W z v lv .0) m) f
+
+module _ (W C : List ℕ) (n r s : ℕ) (ls : s < n) where
+  abbrev x : ℕ
+  x = vacated n W s
+
+  abbrev X : List ℕ
+  X = exchanged W s x
+
+  abbrev y : ℕ
+  y = child X x
+
+  abbrev S : Store
+  S = restructure n X C r x y
+
+  abbrev g : ℕ
+  g = above n (S .words) x y
+
+  abbrev v : ℕ
+  v = emptied n x y
+
+  abbrev Z : List ℕ
+  Z = cutWords n (handed n (S .words) x y) g v
+
+  live-v : v < n
+  live-v = emptied-live n x y (vacated-live n W s ls)
+
+  -- up to the move of the last slot
+  low-Z : Low n W Z
+  low-Z =
+      let lx : x < n = vacated-live n W s ls in
+      low-three n W X (S .words) Z (low-exchanged n W s x ls lx) (mended-restructure n X C r x y .words-in)
+      (low-trans n (S .words) (handed n (S .words) x y) Z (low-handed n (S .words) x y lx) (low-cutWords n (handed n (S .words) x y) g v))
+
+  -- lengths stay, and what lies from the count up
+  pub removed-inside : Inside n W C (removeRule W C n r s .store)
+  unfolding removeRule removeFrom finish
+  removed-inside =
+      let m = mended-restructure n X C r x y in
+      let q = inside-swapRemove n Z (S .colours) (cutRoot n (S .root) g) (n - 1) v (omega arith) live-v in
+      record {
+        words-length = q .words-length ∙ low-Z .0;
+        colours-length = q .colours-length ∙ m .colours-in .0;
+        words-kept = λ f a u. q .words-kept f a u ∙ low-Z .1 f a u;
+        colours-kept = λ a u. q .colours-kept a u ∙ m .colours-in .1 a u;
+      }
+
+  -- "The old last slot's eight words become 0."
+  pub last-zero : n * 8 ≤ length W → (f : Field) → word (removeRule W C n r s .store .words) f (n - 1) ≡ 0
+  unfolding removeRule removeFrom finish
+  last-zero fit f =
+      let m : n * 8 ≤ length Z = rw (low-Z .0) fit in
+      zero-swapRemove n Z (S .colours) (cutRoot n (S .root) g) (n - 1) v live-v (omega arith) f

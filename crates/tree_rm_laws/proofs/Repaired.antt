@@ -1,0 +1,203 @@
+-- The repair, step by step on the bytes: each turn keeps the loop's invariant and weighs less, so that 36 turns suffice.
+use mathlib.Core.Path.{_≡_, refl, sym, _∙_}
+use mathlib.Core.Bool.{Bool, true, false, not, false≢true}
+use mathlib.Core.List.{List, [], _∷_}
+use Prim.Native.Nat.{ℕ, zero, suc, _+_, _*_, _<_, _≤_}
+use native.Mathlib.Omega.{arith}
+use lib.ListN.{length}
+use lib.Dec.{eqb}
+use Rattle.words.specs.Nodes.{kid, par}
+use Rattle.bitvec.specs.Colours.{red, dye, redAt}
+use Rattle.bitvec.proofs.Bytes.{length-setBit}
+use Rattle.tree.specs.Tree.{Tree, Node, Shape, leaf, node}
+use Rattle.tree.specs.Zipper.{bin, Frame, plug, frame}
+use Rattle.tree.specs.Hues.{rootRed, Hue, Hues}
+use Rattle.tree.proofs.Frames.{shape-root, open-bin}
+use Rattle.tree.proofs.Once.{root-par}
+use Rattle.tree_rm.specs.Repair.{done, Next, dyeAt, choose, act, turnOf, turnAt, step, goOn, repair, one, two, three, four, five, again}
+use Rattle.tree_rm_laws.proofs.Links.{on-slot, on-none}
+use Rattle.tree_rm_laws.proofs.Stand.{Stand}
+use Rattle.tree_rm_laws.proofs.Turns.{side-of}
+use Rattle.tree_rm_laws.proofs.Paint.{paint, red-dye}
+use Rattle.tree_rm_laws.proofs.Fits.{open-hue, root-bin}
+use Rattle.tree_rm_laws.proofs.Weight.{weight-is, weigh, weight}
+use Rattle.tree_rm_laws.proofs.Loop.{Bare, Held, Loop, Lighter, Fixed, ended, good-1, good-2, good-3, good-4, good-5}
+
+-- after a turn: the end, or a lighter place
+abbrev Good : ℕ → ℕ → List ℕ → ℕ → Next → Type 0
+Good n x base w (done W C r) = Fixed n x base W (red C) r × (n ≤ length C * 8)
+Good n x base w (again W C r ix) = Lighter n x base w W (red C) r ix × (n ≤ length C * 8)
+
+-- a link's colour is that of the tree it leads to
+red-link : (W C : List ℕ) (n : ℕ) → n ≤ 65535 → (p k : ℕ) (t : Tree) → Shape W n p k t → redAt n C k ≡ rootRed (red C) t
+red-link W C n m p k leaf h = on-none n k (omega arith) (λ s. red C s) false
+red-link W C n m p k (node l s r) h = rw (h .here) (on-slot n s (h .live) (λ s. red C s) false)
+
+red-live : (W : List ℕ) (K : ℕ → Bool) (n p k : ℕ) (t : Tree) → Shape W n p k t → rootRed K t ≡ true → k < n
+red-live W K n p k leaf h e = absurd (false≢true e)
+red-live W K n p k (node l s r) h e = rw (h .here) (h .live)
+
+-- colours made one after the other
+module _ (n : ℕ) (C : List ℕ) (bits : n ≤ length C * 8) where
+  dye-one : (s : ℕ) (v : Bool) → s < n → (n ≤ length (dye C s v) * 8) × (red (dye C s v) ≡ paint (red C) s v)
+  dye-one s v q = (rw length-setBit bits, red-dye C s v (omega arith))
+
+dye-two : (n : ℕ) (C : List ℕ) (s a : ℕ) (v w : Bool) → n ≤ length C * 8 → s < n → a < n
+    → (n ≤ length (dye (dye C s v) a w) * 8) × (red (dye (dye C s v) a w) ≡ paint (paint (red C) s v) a w)
+dye-two n C s a v w bits q o =
+    let (i, e) = dye-one n C bits s v q in
+    let (j, f) = dye-one n (dye C s v) i a w o in
+    (j, f ∙ rw e)
+
+dye-three : (n : ℕ) (C : List ℕ) (s a d : ℕ) (v w u : Bool) → n ≤ length C * 8 → s < n → a < n → d < n
+    → (n ≤ length (dye (dye (dye C s v) a w) d u) * 8) × (red (dye (dye (dye C s v) a w) d u) ≡ paint (paint (paint (red C) s v) a w) d u)
+dye-three n C s a d v w u bits q o p =
+    let (i, e) = dye-two n C s a v w bits q o in
+    let (j, f) = dye-one n (dye (dye C s v) a w) i d u p in
+    (j, f ∙ rw e)
+
+-- one turn, below P with the sibling S
+module _ (n x : ℕ) (base W Y : List ℕ) (r ix : ℕ) (b : Bool) (P S : ℕ) (c : List Frame) (C D : Tree) (i : List Frame) (m : ℕ)
+    (bits : n ≤ length Y * 8) (held : Held n x base W (red Y) r ix P (frame b P (bin b C S D) ∷ c) i m) where
+  abbrev h : Stand W n r ix P (frame b P (bin b C S D) ∷ c) (plug i (Bare x))
+  h = held .stand
+
+  sib : Node W n P (kid W (not b) P) S (Shape W n S (kid W b S) C) (Shape W n S (kid W (not b) S) D)
+  sib = open-bin W n P (kid W (not b) P) b C S D (h .way .far)
+
+  live-P : P < n
+  live-P = h .way .live
+
+  live-S : S < n
+  live-S = sib .live
+
+  abbrev near : ℕ
+  near = kid W b S
+
+  abbrev distant : ℕ
+  distant = kid W (not b) S
+
+  as-1 : red Y P ≡ false → red Y S ≡ false → rootRed (red Y) C ≡ false → rootRed (red Y) D ≡ false
+      → Good n x base (4 + length c) (act n one W Y r ix b P S near distant)
+  as-1 p s y z =
+      let (o, e) = dye-one n Y bits S true live-S in
+      (rw e (good-1 n x base W (red Y) r ix b P S c C D i m held p s y z), o)
+
+  as-2 : red Y P ≡ false → red Y S ≡ true → Good n x base 3 (act n two W Y r ix b P S near distant)
+  as-2 p s =
+      let (o, e) = dye-two n Y P S true false bits live-P live-S in
+      (rw e (good-2 n x base W (red Y) r ix b P S c C D i m held p s), o)
+
+  as-3 : red Y P ≡ true → red Y S ≡ false → rootRed (red Y) C ≡ false → rootRed (red Y) D ≡ false
+      → Good n x base 1 (act n three W Y r ix b P S near distant)
+  as-3 p s y z =
+      let (o, e) = dye-two n Y P S false true bits live-P live-S in
+      (rw e (good-3 n x base W (red Y) r ix b P S c C D i m held p s y z), o)
+
+  as-4 : red Y S ≡ false → rootRed (red Y) C ≡ true → rootRed (red Y) D ≡ false
+      → Good n x base 2 (act n four W Y r ix b P S near distant)
+  as-4 s y z =
+      let (o, e) = dye-two n Y near S false true bits (red-live W (red Y) n S near C (sib .left) y) live-S in
+      (rw e (good-4 n x base W (red Y) r ix b P S c C D i m held s y z), o)
+
+  as-5 : red Y S ≡ false → rootRed (red Y) D ≡ true → Good n x base 1 (act n five W Y r ix b P S near distant)
+  unfolding dyeAt
+  as-5 s z =
+      let q : distant < n = red-live W (red Y) n S distant D (sib .right) z in
+      let (o, e) = dye-three n Y S P distant (red Y P) false false bits live-S live-P q in
+      rw (on-slot n distant q) (rw e (good-5 n x base W (red Y) r ix b P S c C D i m held s z), o)
+
+  turn-good : Good n x base (weight (red Y) (frame b P (bin b C S D) ∷ c)) (turnOf n W Y r ix P b S)
+  unfolding turnOf choose
+  turn-good =
+      rw (weight-is (red Y) b P C S D c, red-link W Y n (h .small) S near C (sib .left), red-link W Y n (h .small) S distant D (sib .right))
+      (go (red Y P) (red Y S) (rootRed (red Y) C) (rootRed (red Y) D) refl refl refl refl)
+    where
+      hue : Hue (red Y) C S D (Hues (red Y) C) (Hues (red Y) D)
+      hue = open-hue (red Y) b C S D (held .fits .hues)
+
+      no-C : {A : Type 0} → red Y S ≡ true → rootRed (red Y) C ≡ true → A
+      no-C s e = absurd (false≢true (sym (hue .calm s .0) ∙ e))
+
+      no-D : {A : Type 0} → red Y S ≡ true → rootRed (red Y) D ≡ true → A
+      no-D s e = absurd (false≢true (sym (hue .calm s .1) ∙ e))
+
+      no-P : {A : Type 0} → red Y P ≡ true → red Y S ≡ true → A
+      no-P p s = absurd (false≢true (sym (held .fits .calm p .1) ∙ root-bin (red Y) b C S D ∙ s))
+
+      go : (kp ks kc kd : Bool) → red Y P ≡ kp → red Y S ≡ ks → rootRed (red Y) C ≡ kc → rootRed (red Y) D ≡ kd
+          → Good n x base (weigh (choose kp ks kc kd) (length c)) (act n (choose kp ks kc kd) W Y r ix b P S near distant)
+      go false false false false p s c d = as-1 p s c d
+      go false false false true p s c d = as-5 s d
+      go false false true false p s c d = as-4 s c d
+      go false false true true p s c d = as-5 s d
+      go false true false false p s c d = as-2 p s
+      go false true false true p s c d = no-D s d
+      go false true true kd p s c d = no-C s c
+      go true false false false p s c d = as-3 p s c d
+      go true false false true p s c d = as-5 s d
+      go true false true false p s c d = as-4 s c d
+      go true false true true p s c d = as-5 s d
+      go true true kc kd p s c d = no-P p s
+
+-- a step comes to a turn where there are a parent and a sibling
+step-is : (n : ℕ) (W C : List ℕ) (r ix P : ℕ) (b : Bool) (S : ℕ) → par W ix ≡ P → P < n → eqb (kid W true P) ix ≡ b → kid W (not b) P ≡ S → S < n
+    → step n W C r ix ≡ turnOf n W C r ix P b S
+unfolding step turnAt
+step-is n W C r ix P b S ep lp eb es ls =
+    rw (ep, on-slot n P lp, eb, es, on-slot n S ls) refl
+
+-- and to the end where there is no parent
+step-end : (n : ℕ) (W C : List ℕ) (r ix : ℕ) → n ≤ par W ix → step n W C r ix ≡ done W C r
+unfolding step
+step-end n W C r ix h = on-none n (par W ix) h _ (done W C r)
+
+module _ (n x : ℕ) (base W C : List ℕ) (r ix : ℕ) (bits : n ≤ length C * 8) where
+  step-good : (l : Loop n x base W (red C) r ix) → Good n x base (weight (red C) (l .c)) (step n W C r ix)
+  step-good l = go (l .c) (l .held)
+    where
+      t : Tree
+      t = plug (l .i) (Bare x)
+
+      at : par W ix ≡ l .p
+      at = root-par W n (l .held .stand .small) (l .p) ix t (l .held .stand .tree) (l .held .live)
+
+      -- at a parent
+      up : (b : Bool) (P S : ℕ) (c : List Frame) (X Y : Tree) → Held n x base W (red C) r ix (l .p) (frame b P (bin b X S Y) ∷ c) (l .i) (l .m)
+          → Good n x base (weight (red C) (frame b P (bin b X S Y) ∷ c)) (step n W C r ix)
+      up b P S c X Y g =
+          let h = g .stand in
+          let eP : l .p ≡ P = h .way .at in
+          let sd : eqb (kid W true P) ix ≡ b =
+          side-of W n P ix b (bin b X S Y) (h .small) (g .live)
+          (omega (arith, h .once ix, shape-root W n (l .p) ix t (h .small) (g .live) (h .tree))) (h .way .here) (h .way .far) in
+          let o = open-bin W n P (kid W (not b) P) b X S Y (h .way .far) in
+          rw (step-is n W C r ix P b S (at ∙ eP) (h .way .live) sd (o .here) (o .live))
+          (turn-good n x base W C r ix b P S c X Y (l .i) (l .m) bits (rw eP at g))
+
+      go : (c : List Frame) → Held n x base W (red C) r ix (l .p) c (l .i) (l .m) → Good n x base (weight (red C) c) (step n W C r ix)
+      go [] g =
+          let h = g .stand in
+          rw (step-end n W C r ix (omega (arith, at, h .way .0, h .small))) (
+            ended n x base W (red C) (red C) r ix (l .p) [] (l .i) (l .m) h refl (λ s q. refl) (g .thin) (g .order) (g .hulls),
+            bits,
+          )
+      go (frame b P leaf ∷ c) g = absurd (omega (arith, g .fits .even))
+      go (frame true P (node y S z) ∷ c) g = up true P S c y z g
+      go (frame false P (node y S z) ∷ c) g = up false P S c z y g
+
+abbrev pub Finished : ℕ → ℕ → List ℕ → Next → Type 0
+Finished n x base (done W C r) = Fixed n x base W (red C) r × (n ≤ length C * 8)
+Finished n x base (again W C r ix) = ⊥
+
+-- the loop ends, and leaves a tree that is even once x is cut off
+pub repaired : (turns n x : ℕ) (base W C : List ℕ) (r ix : ℕ) → n ≤ length C * 8 → (l : Loop n x base W (red C) r ix) → weight (red C) (l .c) < turns
+    → Finished n x base (repair n turns W C r ix)
+unfolding repair
+repaired zero n x base W C r ix bits l h = absurd (omega arith)
+repaired (suc turns) n x base W C r ix bits l h = go (repaired turns n x base) (step n W C r ix) (step-good n x base W C r ix bits l)
+  where
+    go : ((W C : List ℕ) (r ix : ℕ) → n ≤ length C * 8 → (l : Loop n x base W (red C) r ix) → weight (red C) (l .c) < turns → Finished n x base (repair n turns W C r ix))
+        → (s : Next) → Good n x base (weight (red C) (l .c)) s → Finished n x base (goOn s (λ X D q i. repair n turns X D q i))
+    go rec (done W C r) g = g
+    go rec (again W C r ix) g = rec W C r ix (g .1) (g .0 .0) (omega (arith, g .0 .1))

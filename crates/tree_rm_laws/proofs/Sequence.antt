@@ -1,0 +1,42 @@
+-- Removals one after the other: the store passes after each, and what lies from the first count up stays.
+use mathlib.Core.Path.{_≡_, refl, _∙_}
+use mathlib.Core.List.{List, [], _∷_}
+use Prim.Native.Nat.{ℕ, suc, _-_, _*_, _≤_}
+use native.Mathlib.Omega.{arith}
+use lib.ListN.{length}
+use Rattle.tree.specs.Passes.{Passes}
+use Rattle.tree_rm.specs.Remove.{Store, removeRule}
+use Rattle.tree_rm_laws.specs.Removed.{Inside}
+use Rattle.tree_rm_laws.specs.Sequence.{after, Within}
+use Rattle.tree_rm_laws.proofs.Inside.{removed-inside}
+use Rattle.tree_rm_laws.proofs.Removal.{removed}
+
+-- what is written below a lower count is written below a higher one
+inside-trans : (n m : ℕ) (S T R : Store) → m ≤ n → Inside n (S .words) (S .colours) T → Inside m (T .words) (T .colours) R
+    → Inside n (S .words) (S .colours) R
+inside-trans n m S T R q f g =
+    record {
+      words-length = g .words-length ∙ f .words-length;
+      colours-length = g .colours-length ∙ f .colours-length;
+      words-kept = λ k a u. g .words-kept k a (omega arith) ∙ f .words-kept k a u;
+      colours-kept = λ a u. g .colours-kept a (omega arith) ∙ f .colours-kept a u;
+    }
+
+pub after-inside : (l : List ℕ) (S : Store) (n : ℕ) → Within n l → Inside n (S .words) (S .colours) (after S n l)
+after-inside [] S n w = record { words-length = refl; colours-length = refl; words-kept = λ f a u. refl; colours-kept = λ a u. refl }
+after-inside (s ∷ l) S n w =
+    let T : Store = removeRule (S .words) (S .colours) n (S .root) s .store in
+    inside-trans n (n - 1) S T (after T (n - 1) l) (omega arith)
+    (removed-inside (S .words) (S .colours) n (S .root) s (w .0)) (after-inside l T (n - 1) (w .1))
+
+pub after-passes : (l : List ℕ) (S : Store) (n : ℕ) → n ≤ 65535 → n * 8 ≤ length (S .words) → n ≤ length (S .colours) * 8
+    → Passes (S .words) (S .colours) n (S .root) → Within n l
+    → Passes (after S n l .words) (after S n l .colours) (n - length l) (after S n l .root)
+after-passes [] S n small fit bits h w = let e : n - 0 ≡ n = omega arith in rw e h
+after-passes (s ∷ l) S n small fit bits h w =
+    let T : Store = removeRule (S .words) (S .colours) n (S .root) s .store in
+    let i : Inside n (S .words) (S .colours) T = removed-inside (S .words) (S .colours) n (S .root) s (w .0) in
+    let p : Passes (T .words) (T .colours) (n - 1) (T .root) = removed (S .words) (S .colours) n (S .root) s small fit bits (w .0) h .passes in
+    let o = after-passes l T (n - 1) (omega arith) (rw (i .words-length) (omega arith)) (rw (i .colours-length) (omega arith)) p (w .1) in
+    let e : n - 1 - length l ≡ n - suc (length l) = omega arith in
+    rw e at o

@@ -1,0 +1,4 @@
+pub mod Names
+pub mod Removed
+pub mod Sequence
+pub mod Examples
