@@ -2,7 +2,7 @@
 use mathlib.Core.Path.{_≡_, refl, sym, ap, _∙_}
 use mathlib.Core.Bool.{Bool, true, false, cond}
 use mathlib.Core.List.{List}
-use Prim.Native.Nat.{ℕ, _*_, _/_, _%_, _<_, _≤_}
+use Prim.Native.Nat.{ℕ, _-_, _*_, _/_, _%_, _<_, _≤_}
 use native.Mathlib.Omega.{arith}
 use lib.ListN.{length}
 use lib.Dec.{eqb, ltb}
@@ -13,10 +13,17 @@ use Rattle.words.specs.Refusals.{refusalNumber}
 use Rattle.words.specs.declared.refusal.Refusal.{Refusal}
 use Rattle.words.proofs.Refusals.{number-pos}
 use Rattle.builder.specs.Input.{allProper, sorted}
-use Rattle.iset.specs.Check.{checkNumber}
+use Rattle.tree_rm.specs.Remove.{Removal}
+use Rattle.tree_rm.specs.Answers.{removal}
+use Rattle.tree_rm.specs.declared.remove.Removed.{Removed}
+use Rattle.iset.specs.Check.{checkNumber, checkRule}
+use Rattle.iset.specs.Remove.{removeNumber, RemoveAnswer, refusedRemoval, removeDone}
+use Rattle.iset.specs.declared.Map.{Map}
 use Rattle.iset.specs.Build.{buildNumber, BuildAnswer}
 use Rattle.iset.specs.declared.Checked.{Checked}
 use Rattle.iset.specs.declared.Checked.the-variants.{Sound, Refused}
+use Rattle.iset.proofs.Checks.{check-zero}
+use Rattle.iset.proofs.Removals.{accepts}
 
 -- a count that the slices hold
 module _ (n words bytes c : ℕ) (e : c ≡ room words bytes) where
@@ -64,3 +71,39 @@ refused-build k t z e q = let f : refusalNumber z ≡ k = sym (ap checkNumber q)
 
 pub done-build : (n r s : ℕ) → r ≡ s → _≡_ {A = BuildAnswer} (record { no = 0; count = n; root = r }) (record { no = 0; count = n; root = s })
 done-build n r s e = λ i. record { no = 0; count = n; root = e i }
+
+-- a refusal that is handed on
+pub handed-on : (k x : ℕ) (t : Checked) (z : Refusal) → checkNumber t ≡ k → t ≡ Refused z → refusalNumber z ≡ cond (eqb k 0) x k
+handed-on k x t z e q = turned-away k t e (refusalNumber z) x k z q (sym (ap checkNumber q) ∙ e)
+
+-- what the tests of a removal leave: a slot that is there, in slices with room
+module _ (m : Map) (W C : List ℕ) (s : ℕ) (t : Checked) (e : checkNumber t ≡ removeNumber m W C s) (q : t ≡ Sound) where
+  removable : (m .count ≤ room (length W) (length C)) × (s < m .count)
+  removable =
+      let a : (checkRule m W C ≡ 0) × (s < m .count) = accepts m W C s (sym e ∙ ap checkNumber q) in
+      (check-zero m W C (a .0) .0, a .1)
+
+  pub removable-words : m .count * 8 ≤ length W
+  removable-words = omega (arith, removable)
+
+  pub removable-bytes : m .count ≤ length C * 8
+  removable-bytes = omega (arith, removable)
+
+  pub removable-slot : s < m .count
+  removable-slot = removable .1
+
+pub refused-removal : (m : Map) (k : ℕ) (t : Checked) (z : Refusal) → checkNumber t ≡ k → t ≡ Refused z
+    → refusedRemoval m (refusalNumber z) ≡ refusedRemoval m k
+refused-removal m k t z e q = ap (λ (i : ℕ). refusedRemoval m i) (sym (ap checkNumber q) ∙ e)
+
+-- the parts of what the removal's code answers and leaves
+module _ (a : Removed) (X K : List ℕ) (R : Removal) (e : removal a X K ≡ R) where
+  pub removed-answer : (m : Map)
+      → _≡_ {A = RemoveAnswer} (record { no = 0; value = a .value; count = m .count - 1; root = a .root; pairs = a .pairs }) (removeDone m R)
+  removed-answer m = ap (λ (S : Removal). removeDone m S) e
+
+  pub removed-words : X ≡ R .store .words
+  removed-words = ap (λ (S : Removal). S .store .words) e
+
+  pub removed-colours : K ≡ R .store .colours
+  removed-colours = ap (λ (S : Removal). S .store .colours) e

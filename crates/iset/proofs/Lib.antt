@@ -1,4 +1,5 @@
-pub mod Laws
 pub mod Checks
 pub mod Builds
+pub mod Removals
+pub mod Laws
 pub mod Determined

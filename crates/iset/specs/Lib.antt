@@ -1,3 +1,4 @@
 pub mod Maps
 pub mod Check
 pub mod Build
+pub mod Remove

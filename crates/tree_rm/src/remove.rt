@@ -21,11 +21,11 @@ use words::node::put_node;
 use words::node::swap_with;
 use words::node::value_of;
 ghost use mathlib.Core.Path.{_≡_};
-ghost use mathlib.Core.Bool.{true, false, cond};
+ghost use mathlib.Core.Bool.{true, false};
 ghost use Prim.Native.Nat.{_+_, _-_, _*_, _<_, _≤_};
 ghost use lib.ListN.{length};
-ghost use Rattle.words.specs.Nodes.{kid, par, value, swap};
-ghost use Rattle.tree_rm.specs.Pairs.{emptied, moved};
+ghost use Rattle.words.specs.Nodes.{par, value, swap};
+ghost use Rattle.tree_rm.specs.Pairs.{emptied};
 ghost use Rattle.tree_rm.specs.Remove.{leftmost, vacated, exchanged, child, store, handed, above, cutWords, cutRoot, copied, relinked, cleared, swapRemove, finish, removeFrom, removeRule};
 ghost use Rattle.tree_rm.specs.Answers.{removal};
 

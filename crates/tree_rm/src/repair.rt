@@ -11,13 +11,12 @@ use words::node::child_of;
 use words::node::parent_of;
 use words::node::update_subtree_interval;
 ghost use mathlib.Core.Path.{_≡_};
-ghost use mathlib.Core.Bool.{Bool, true, false, cond, not};
-ghost use Prim.Native.Nat.{_+_, _*_, _<_, _≤_};
+ghost use mathlib.Core.Bool.{true, false, not};
+ghost use Prim.Native.Nat.{_*_, _<_, _≤_};
 ghost use lib.ListN.{length};
-ghost use Rattle.words.specs.Nodes.{kid, fix};
 ghost use Rattle.bitvec.specs.Colours.{red, redAt, dye};
 ghost use Rattle.tree_rm.specs.Links.{rootAfter};
-ghost use Rattle.tree_rm.specs.Repair.{turn, turn-2, turn-4, dyeAt, one, two, three, four, five, choose, act, turnOf, turnAt, step, repair};
+ghost use Rattle.tree_rm.specs.Repair.{turn, turn-2, turn-4, dyeAt, two, four, five, choose, act, turnOf, turnAt, step, repair};
 ghost use Rattle.tree_rm.specs.Remove.{store, ending, restructure};
 ghost use Rattle.tree_rm.specs.Answers.{caseOf, next};
 

@@ -1,0 +1,56 @@
+-- What a removal guarantees: it is refused exactly as document 01's table says, and what it leaves passes the check, holds the other
+-- entries in their order, and names exactly those that changed slot.
+use mathlib.Core.Path.{_≡_, refl, sym, _∙_}
+use mathlib.Core.Bool.{Bool, true, false, cond}
+use mathlib.Core.List.{List}
+use Prim.Native.Nat.{ℕ, zero, suc, _-_, _<_, _≤_}
+use native.Mathlib.Omega.{arith}
+use lib.ListN.{length}
+use lib.Dec.{eqb, ltb}
+use borrow.Author.Tests.{ltb-true, lt-ltb, le-ltb, ne-eqb}
+use Rattle.words.specs.Nodes.{room}
+use Rattle.tree.specs.Passes.{Passes}
+use Rattle.tree_rm.specs.Remove.{removeRule}
+use Rattle.tree_rm_laws.specs.Removed.{Removed}
+use Rattle.tree_rm_laws.proofs.Removal.{removed}
+use Rattle.iset.specs.Check.{checkRule}
+use Rattle.iset.specs.Remove.{removeNumber}
+use Rattle.iset.specs.declared.Map.{Map}
+use Rattle.iset.proofs.Checks.{check-zero}
+
+module _ (m : Map) (W C : List ℕ) (s : ℕ) where
+  -- the check's refusals come first
+  pub check-first : (checkRule m W C ≡ 0 → ⊥) → removeNumber m W C s ≡ checkRule m W C
+  unfolding removeNumber
+  check-first d = rw (ne-eqb (checkRule m W C) 0 d)
+
+  -- 3 exactly if the store passes and the slot is not below the count
+  pub no-such : checkRule m W C ≡ 0 → m .count ≤ s → removeNumber m W C s ≡ 3
+  unfolding removeNumber
+  no-such e h = rw (e, le-ltb s (m .count) h)
+
+  pub accepted : checkRule m W C ≡ 0 → s < m .count → removeNumber m W C s ≡ 0
+  unfolding removeNumber
+  accepted e h = rw (e, lt-ltb s (m .count) h)
+
+  pub accepts : removeNumber m W C s ≡ 0 → (checkRule m W C ≡ 0) × (s < m .count)
+  unfolding removeNumber
+  accepts e = go (checkRule m W C) refl (ltb s (m .count)) refl e
+    where
+      go : (k : ℕ) → checkRule m W C ≡ k → (b : Bool) → ltb s (m .count) ≡ b → _≡_ {A = ℕ} (cond (eqb k 0) (cond b 0 3) k) 0
+          → (checkRule m W C ≡ 0) × (s < m .count)
+      go zero p true f z = (p, ltb-true s (m .count) f)
+      go zero p false f z = absurd (omega arith)
+      go (suc k) p b f z =
+          let d : suc k ≡ 0 → ⊥ = λ i. omega arith in
+          let y : suc k ≡ 0 = rw (ne-eqb (suc k) 0 d) at z in
+          absurd (d y)
+
+  -- the tree of the store that an accepted removal was made in
+  pub tree-before : removeNumber m W C s ≡ 0 → Passes W C (m .count) (m .root)
+  tree-before e = check-zero m W C (accepts e .0) .1
+
+  pub removes : (e : removeNumber m W C s ≡ 0) → Removed W C (m .count) (m .root) s (tree-before e) (removeRule W C (m .count) (m .root) s)
+  removes e =
+      let h : m .count ≤ room (length W) (length C) = check-zero m W C (accepts e .0) .0 in
+      removed W C (m .count) (m .root) s (omega arith) (omega arith) (omega arith) (accepts e .1) (tree-before e)

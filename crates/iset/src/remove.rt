@@ -1,0 +1,73 @@
+// Removing one entry by its slot.
+use crate::Checked;
+use crate::Map;
+use tree_rm::pairs::Pairs;
+use tree_rm::remove::remove_at;
+use words::refusal::Refusal;
+ghost use mathlib.Core.Path.{_≡_};
+ghost use Prim.Native.Nat.{_*_, _≤_, _<_};
+ghost use lib.ListN.{length};
+ghost use Rattle.tree_rm.specs.Remove.{removeRule};
+ghost use Rattle.iset.specs.Check.{checkNumber};
+ghost use Rattle.iset.specs.Remove.{removeNumber, removeDone, removePaper, removeCall, removeNodes, removeColours};
+
+// The map without the entry, the entry's value, and the other entries that changed slot.
+pub struct Gone {
+    pub map: Map,
+    pub value: u64,
+    pub pairs: Pairs,
+}
+
+// What a removal answers. Where it is refused the map is as it was given.
+pub enum Removal {
+    Done(Gone),
+    Refused(Refusal),
+}
+
+impl Map {
+    // The first refusal of a removal.
+    fn test_slot(self, nodes: &[u64], colours: &[u8], slot: u64) -> Checked
+        ensures { λ r. ⌜ checkNumber r ≡ removeNumber self (now (nodes .entry)) (now (colours .entry)) slot ⌝ }
+    {
+        match self.check(nodes, colours) {
+            Checked::Refused(why) => Checked::Refused(why),
+            Checked::Sound => if slot < self.count {
+                Checked::Sound
+            } else {
+                Checked::Refused(Refusal::NoSuch)
+            },
+        }
+    }
+
+    // The removal of a slot that is there.
+    fn remove_slot(self, nodes: &mut [u64], colours: &mut [u8], slot: u64) -> Removal
+        requires { ⌜ (self .count * 8 ≤ length (now nodes)) × (self .count ≤ length (now colours) * 8) × (slot < self .count) ⌝ }
+        ensures { λ r. ⌜ (removePaper self r ≡ removeDone self (removeRule (now (nodes .entry)) (now (colours .entry)) (self .count) (self .root) slot))
+            × (now (nodes .exit) ≡ removeRule (now (nodes .entry)) (now (colours .entry)) (self .count) (self .root) slot .store .words)
+            × (now (colours .exit) ≡ removeRule (now (nodes .entry)) (now (colours .entry)) (self .count) (self .root) slot .store .colours) ⌝ }
+    {
+        let count = self.count;
+        let r = remove_at(nodes, colours, count, self.root, slot);
+        let pairs = r.pairs;
+        Removal::Done(Gone {
+            map: Map {
+                count: count - 1,
+                root: r.root,
+            },
+            value: r.value,
+            pairs,
+        })
+    }
+
+    // Removes the entry of a slot. Up to three other entries change slot with it; the answer names them.
+    pub fn remove(self, nodes: &mut [u64], colours: &mut [u8], slot: u64) -> Removal
+        ensures { λ r. ⌜ (removePaper self r ≡ removeCall self (now (nodes .entry)) (now (colours .entry)) slot)
+            × (now (nodes .exit) ≡ removeNodes self (now (nodes .entry)) (now (colours .entry)) slot)
+            × (now (colours .exit) ≡ removeColours self (now (nodes .entry)) (now (colours .entry)) slot) ⌝ }
+    {
+        let Checked::Refused(why) = self.test_slot(nodes, colours, slot) else {
+            return self.remove_slot(nodes, colours, slot);
+        };
+        Removal::Refused(why)
+    }
+}
