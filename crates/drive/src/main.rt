@@ -5,6 +5,7 @@ mod bits;
 mod build;
 mod copy;
 mod given;
+mod remove;
 mod request;
 mod settings;
 mod state;

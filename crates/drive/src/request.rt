@@ -3,6 +3,7 @@ use crate::answer::what;
 use crate::arena;
 use crate::bits;
 use crate::build;
+use crate::remove;
 use crate::settings;
 use crate::state::State;
 use crate::store;
@@ -21,6 +22,8 @@ fn requests(
         store::check(s, words, octets, out)
     } else if check::same(name, b"build ") {
         build::build(s, numbers, words, octets, out)
+    } else if check::same(name, b"remove ") {
+        remove::remove(s, numbers, words, octets, out)
     } else {
         bits::request(s, name, numbers, octets, out)
     }
