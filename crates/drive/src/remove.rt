@@ -9,8 +9,8 @@ use iset::Map;
 use iset::remove::Gone;
 use iset::remove::Removal;
 use lines::output;
-use tree_rm::pairs::Pair;
-use tree_rm::pairs::Pairs;
+use tree_rm_laws::pairs::Pair;
+use tree_rm_laws::pairs::Pairs;
 use words::ix::U;
 
 // The removal from the copy.

@@ -2,17 +2,25 @@
 use mathlib.Core.Path.{_≡_, refl, sym, ap, _∙_}
 use mathlib.Core.Bool.{Bool, true, false, cond, true≢false}
 use mathlib.Core.List.{List}
-use Prim.Native.Nat.{ℕ, _<_, _≤_}
+use Prim.Native.Nat.{ℕ, zero, suc, _<_, _≤_}
 use native.Mathlib.Omega.{arith}
 use lib.ListN.{length}
-use lib.Dec.{ltb}
-use borrow.Author.Tests.{ltb-true, ltb-false, lt-ltb, le-ltb}
+use lib.Dec.{eqb, ltb}
+use borrow.Author.Tests.{ltb-true, ltb-false, lt-ltb, ne-eqb}
 use Rattle.words.specs.Nodes.{room}
 use Rattle.tree.specs.Passes.{Passes}
 use Rattle.audit.specs.Survey.{wholeOf}
 use Rattle.audit.proofs.Decides.{audit-sound, audit-complete}
 use Rattle.iset.specs.Check.{checkRule}
 use Rattle.iset.specs.declared.Map.{Map}
+
+-- a refusal k that comes before x: none of the two was given
+pub both-zero : (k x : ℕ) → cond (eqb k 0) x k ≡ 0 → (k ≡ 0) × (x ≡ 0)
+both-zero zero x e = (refl, e)
+both-zero (suc k) x e =
+    let d : suc k ≡ 0 → ⊥ = λ i. omega arith in
+    let y : suc k ≡ 0 = rw (ne-eqb (suc k) 0 d) at e in
+    absurd (d y)
 
 module _ (m : Map) (W C : List ℕ) where
   abbrev held : ℕ

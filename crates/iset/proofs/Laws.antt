@@ -13,7 +13,7 @@ use Rattle.words.specs.Refusals.{refusalNumber}
 use Rattle.words.specs.declared.refusal.Refusal.{Refusal}
 use Rattle.words.proofs.Refusals.{number-pos}
 use Rattle.builder.specs.Input.{allProper, sorted}
-use Rattle.tree_rm.specs.Remove.{Removal}
+use Rattle.tree_rm_laws.specs.Remove.{Removal}
 use Rattle.tree_rm.specs.Answers.{removal}
 use Rattle.tree_rm.specs.declared.remove.Removed.{Removed}
 use Rattle.iset.specs.Check.{checkNumber, checkRule}

@@ -1,5 +1,6 @@
 pub mod Checks
 pub mod Builds
 pub mod Removals
+pub mod Lookups
 pub mod Laws
 pub mod Determined

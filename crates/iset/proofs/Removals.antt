@@ -3,20 +3,20 @@
 use mathlib.Core.Path.{_≡_, refl, sym, _∙_}
 use mathlib.Core.Bool.{Bool, true, false, cond}
 use mathlib.Core.List.{List}
-use Prim.Native.Nat.{ℕ, zero, suc, _-_, _<_, _≤_}
+use Prim.Native.Nat.{ℕ, _<_, _≤_}
 use native.Mathlib.Omega.{arith}
 use lib.ListN.{length}
-use lib.Dec.{eqb, ltb}
+use lib.Dec.{ltb}
 use borrow.Author.Tests.{ltb-true, lt-ltb, le-ltb, ne-eqb}
 use Rattle.words.specs.Nodes.{room}
 use Rattle.tree.specs.Passes.{Passes}
-use Rattle.tree_rm.specs.Remove.{removeRule}
+use Rattle.tree_rm_laws.specs.Remove.{removeRule}
 use Rattle.tree_rm_laws.specs.Removed.{Removed}
 use Rattle.tree_rm_laws.proofs.Removal.{removed}
 use Rattle.iset.specs.Check.{checkRule}
 use Rattle.iset.specs.Remove.{removeNumber}
 use Rattle.iset.specs.declared.Map.{Map}
-use Rattle.iset.proofs.Checks.{check-zero}
+use Rattle.iset.proofs.Checks.{both-zero, check-zero}
 
 module _ (m : Map) (W C : List ℕ) (s : ℕ) where
   -- the check's refusals come first
@@ -35,16 +35,13 @@ module _ (m : Map) (W C : List ℕ) (s : ℕ) where
 
   pub accepts : removeNumber m W C s ≡ 0 → (checkRule m W C ≡ 0) × (s < m .count)
   unfolding removeNumber
-  accepts e = go (checkRule m W C) refl (ltb s (m .count)) refl e
+  accepts e =
+      let z : (checkRule m W C ≡ 0) × (_≡_ {A = ℕ} (cond (ltb s (m .count)) 0 3) 0) = both-zero (checkRule m W C) (cond (ltb s (m .count)) 0 3) e in
+      (z .0, go (ltb s (m .count)) refl (z .1))
     where
-      go : (k : ℕ) → checkRule m W C ≡ k → (b : Bool) → ltb s (m .count) ≡ b → _≡_ {A = ℕ} (cond (eqb k 0) (cond b 0 3) k) 0
-          → (checkRule m W C ≡ 0) × (s < m .count)
-      go zero p true f z = (p, ltb-true s (m .count) f)
-      go zero p false f z = absurd (omega arith)
-      go (suc k) p b f z =
-          let d : suc k ≡ 0 → ⊥ = λ i. omega arith in
-          let y : suc k ≡ 0 = rw (ne-eqb (suc k) 0 d) at z in
-          absurd (d y)
+      go : (b : Bool) → ltb s (m .count) ≡ b → _≡_ {A = ℕ} (cond b 0 3) 0 → s < m .count
+      go true f y = ltb-true s (m .count) f
+      go false f y = absurd (omega arith)
 
   -- the tree of the store that an accepted removal was made in
   pub tree-before : removeNumber m W C s ≡ 0 → Passes W C (m .count) (m .root)

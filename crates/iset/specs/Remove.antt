@@ -4,9 +4,9 @@ use mathlib.Core.List.{List}
 use Prim.Native.Nat.{ℕ, _-_}
 use lib.Dec.{eqb, ltb}
 use Rattle.words.specs.Refusals.{refusalNumber}
-use Rattle.tree_rm.specs.Pairs.{none}
-use Rattle.tree_rm.specs.Remove as rule
-use Rattle.tree_rm.specs.declared.pairs.Pairs.{Pairs}
+use Rattle.tree_rm_laws.specs.Pairs.{none}
+use Rattle.tree_rm_laws.specs.Remove as rule
+use Rattle.tree_rm_laws.specs.declared.pairs.Pairs.{Pairs}
 use Rattle.iset.specs.Check.{checkRule}
 use Rattle.iset.specs.declared.Map.{Map}
 use Rattle.iset.specs.declared.remove.Removal.{Removal}

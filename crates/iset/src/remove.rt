@@ -1,13 +1,13 @@
 // Removing one entry by its slot.
 use crate::Checked;
 use crate::Map;
-use tree_rm::pairs::Pairs;
 use tree_rm::remove::remove_at;
+use tree_rm_laws::pairs::Pairs;
 use words::refusal::Refusal;
 ghost use mathlib.Core.Path.{_≡_};
 ghost use Prim.Native.Nat.{_*_, _≤_, _<_};
 ghost use lib.ListN.{length};
-ghost use Rattle.tree_rm.specs.Remove.{removeRule};
+ghost use Rattle.tree_rm_laws.specs.Remove.{removeRule};
 ghost use Rattle.iset.specs.Check.{checkNumber};
 ghost use Rattle.iset.specs.Remove.{removeNumber, removeDone, removePaper, removeCall, removeNodes, removeColours};
 

@@ -2,3 +2,8 @@ pub mod Bools
 pub mod Events
 pub mod Steps
 pub mod Drains
+pub mod Laws
+pub mod Moves
+pub mod Ways
+pub mod Fills
+pub mod Totals

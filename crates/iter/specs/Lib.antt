@@ -5,3 +5,6 @@ pub mod Drains
 pub mod Forms
 pub mod Overlap
 pub mod Exact
+pub mod Queries
+pub mod Places
+pub mod Answers

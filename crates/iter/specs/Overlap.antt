@@ -5,6 +5,7 @@ use Prim.Native.Nat.{ℕ}
 use Rattle.words.specs.Ix.{onLink}
 use Rattle.words.specs.Nodes.{lo, hi, kid, interval}
 use Rattle.words.specs.Intervals.{reached, admits, intersects}
+use Rattle.words.specs.declared.interval.Bound.{Bound}
 use Rattle.words.specs.declared.interval.Span.{Span}
 use Rattle.iter.specs.Walk.{Rules}
 
@@ -12,11 +13,18 @@ use Rattle.iter.specs.Walk.{Rules}
 unfoldable pub meets : List ℕ → Span → ℕ → Bool
 meets W q s = intersects q (interval W s)
 
--- `should_go_left` at `true`: "if the child's hull end >= lo .. or lo is Unbounded"; and `should_go_right`: "if its hull start is
--- <= hi, < hi, or hi is Unbounded, in that order of kinds"
+-- `should_go_left`: "if the child's hull end >= lo .. or lo is Unbounded"
+abbrev pub shouldGoLeft : List ℕ → ℕ → Bound → ℕ → Bool
+shouldGoLeft W n b s = onLink n (kid W true s) (λ a. reached b (hi W a)) false
+
+-- `should_go_right`: "if its hull start is <= hi, < hi, or hi is Unbounded, in that order of kinds"
+abbrev pub shouldGoRight : List ℕ → ℕ → Bound → ℕ → Bool
+shouldGoRight W n b s = onLink n (kid W false s) (λ a. admits b (lo W a)) false
+
+-- at `true` the left side
 unfoldable pub shouldGo : List ℕ → ℕ → Span → Bool → ℕ → Bool
-shouldGo W n q true s = onLink n (kid W true s) (λ a. reached (q .lo) (hi W a)) false
-shouldGo W n q false s = onLink n (kid W false s) (λ a. admits (q .hi) (lo W a)) false
+shouldGo W n q true s = shouldGoLeft W n (q .lo) s
+shouldGo W n q false s = shouldGoRight W n (q .hi) s
 
 abbrev pub overlap : List ℕ → ℕ → Span → Rules
 overlap W n q = record { go = shouldGo W n q; match = meets W q }

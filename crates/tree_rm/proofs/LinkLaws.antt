@@ -14,7 +14,7 @@ use Rattle.words.specs.declared.ix.Link.the-variants.{Slot, Nil}
 use Rattle.words.specs.declared.node.Field.the-variants.{Parent}
 use Rattle.words.proofs.Laws.{linked, unlinked, slot-live}
 use Rattle.words.proofs.Nodes.{word-fix}
-use Rattle.tree_rm.specs.Links.{fixUp}
+use Rattle.tree_rm_laws.specs.Links.{fixUp}
 
 -- the same laws for a word that was read
 module _ {A : Type 0} (r : A) (n v w : ℕ) (l : Link) (f : ℕ → A) (z : A) (p : w ≡ v) (e : l ≡ linkOf n w) where

@@ -15,11 +15,11 @@ use Rattle.words.specs.declared.ix.Link.the-variants.{Slot, Nil}
 use Rattle.words.specs.declared.node.Entry.{Entry}
 use Rattle.words.proofs.Laws.{linked, unlinked, slot-live}
 use Rattle.bitvec.specs.Colours.{red, dye}
-use Rattle.tree_rm.specs.declared.pairs.Pair.{Pair}
-use Rattle.tree_rm.specs.declared.pairs.Pairs.{Pairs}
-use Rattle.tree_rm.specs.Links.{adopt, removeChild, redirect, fixUp}
-use Rattle.tree_rm.specs.Pairs.{none, instead, emptied, home, named, sorted, moved}
-use Rattle.tree_rm.specs.Remove.{leftmost, vacated, store, restructure, exchanged, child, handed, above, cutWords, cutRoot, copied, relinked, cleared, swapRemove, Removal, finish, removeFrom, removeRule}
+use Rattle.tree_rm_laws.specs.declared.pairs.Pair.{Pair}
+use Rattle.tree_rm_laws.specs.declared.pairs.Pairs.{Pairs}
+use Rattle.tree_rm_laws.specs.Links.{adopt, removeChild, redirect, fixUp}
+use Rattle.tree_rm_laws.specs.Pairs.{none, instead, emptied, home, named, sorted, moved}
+use Rattle.tree_rm_laws.specs.Remove.{leftmost, vacated, store, restructure, exchanged, child, handed, above, cutWords, cutRoot, copied, relinked, cleared, swapRemove, Removal, finish, removeFrom, removeRule}
 use Rattle.tree_rm.proofs.LinkLaws.{slot-is, nil-is, read-linked}
 
 -- the leftmost slot

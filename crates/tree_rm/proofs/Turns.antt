@@ -13,9 +13,9 @@ use Rattle.words.specs.Nodes.{kid, par, fix}
 use Rattle.words.specs.declared.ix.Link.{Link}
 use Rattle.words.specs.declared.ix.Link.the-variants.{Slot}
 use Rattle.bitvec.specs.Colours.{red, redAt, dye}
-use Rattle.tree_rm.specs.Links.{rootAfter}
-use Rattle.tree_rm.specs.Repair.{turn, turn-4, dyeAt, Case, one, two, three, four, five, choose, Next, done, again, act, goOn, turnOf, turnAt, step, repair}
-use Rattle.tree_rm.specs.Remove.{Store, store, ending, restructure}
+use Rattle.tree_rm_laws.specs.Links.{rootAfter}
+use Rattle.tree_rm_laws.specs.Repair.{turn, turn-4, dyeAt, Case, one, two, three, four, five, choose, Next, done, again, act, goOn, turnOf, turnAt, step, repair}
+use Rattle.tree_rm_laws.specs.Remove.{Store, store, ending, restructure}
 use Rattle.tree_rm.specs.Answers.{caseOf, next}
 use Rattle.tree_rm.specs.declared.repair.Case as K
 use Rattle.tree_rm.specs.declared.repair.Case.the-variants as ks

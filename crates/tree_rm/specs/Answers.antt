@@ -1,8 +1,8 @@
 -- What the code's answers stand for. Each of these definitions tells any two answers apart.
 use mathlib.Core.List.{List}
 use Prim.Native.Nat.{ℕ}
-use Rattle.tree_rm.specs.Repair as rule
-use Rattle.tree_rm.specs.Remove.{store, Removal}
+use Rattle.tree_rm_laws.specs.Repair as rule
+use Rattle.tree_rm_laws.specs.Remove.{store, Removal}
 use Rattle.tree_rm.specs.declared.remove.Removed.{Removed}
 use Rattle.tree_rm.specs.declared.repair.Case.{Case}
 use Rattle.tree_rm.specs.declared.repair.Case.the-variants.{One, Two, Three, Four, Five}

@@ -10,7 +10,7 @@ ghost use mathlib.Core.Path.{_≡_};
 ghost use Prim.Native.Nat.{_+_, _*_, _<_, _≤_};
 ghost use lib.ListN.{length};
 ghost use Rattle.words.specs.Ix.{onLink};
-ghost use Rattle.tree_rm.specs.Links.{adopt, setChild, redirected, removeChild, redirect, replaced, rootAfter, fixUp};
+ghost use Rattle.tree_rm_laws.specs.Links.{adopt, setChild, redirected, removeChild, redirect, replaced, rootAfter, fixUp};
 
 // A child that is there gets `parent` for its parent.
 pub fn adopt_child(nodes: &mut [u64], count: u64, child: u64, parent: u64)

@@ -1,23 +1,12 @@
 // The entries that a removal moved to another slot.
+use tree_rm_laws::pairs::Pair;
+use tree_rm_laws::pairs::Pairs;
 use words::ix::Link;
 use words::ix::U;
 ghost use mathlib.Core.Path.{_≡_};
 ghost use mathlib.Core.Bool.{cond};
 ghost use Prim.Native.Nat.{_<_};
-ghost use Rattle.tree_rm.specs.Pairs.{none, instead, emptied, home, named, lower, upper, sorted, moved};
-
-// An entry's old slot and its new one.
-pub struct Pair {
-    pub old: u64,
-    pub new: u64,
-}
-
-// By rising old slot; those that are not used are (U, U).
-pub struct Pairs {
-    pub first: Pair,
-    pub second: Pair,
-    pub third: Pair,
-}
+ghost use Rattle.tree_rm_laws.specs.Pairs.{none, instead, emptied, home, named, lower, upper, sorted, moved};
 
 // Where what was in `slot` is after what was in `from` went to `to`.
 pub fn after_move(from: u64, to: u64, slot: u64) -> u64

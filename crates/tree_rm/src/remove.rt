@@ -3,11 +3,11 @@ use crate::links::adopt_child;
 use crate::links::fix_intervals_up;
 use crate::links::remove_child;
 use crate::links::replace_child_at;
-use crate::pairs::Pairs;
 use crate::pairs::after_move;
 use crate::pairs::moved_pairs;
 use crate::repair::copy_colour;
 use crate::repair::restructure_rm;
+use tree_rm_laws::pairs::Pairs;
 use words::interval::Interval;
 use words::interval::smaller;
 use words::ix::Link;
@@ -25,8 +25,8 @@ ghost use mathlib.Core.Bool.{true, false};
 ghost use Prim.Native.Nat.{_+_, _-_, _*_, _<_, _≤_};
 ghost use lib.ListN.{length};
 ghost use Rattle.words.specs.Nodes.{par, value, swap};
-ghost use Rattle.tree_rm.specs.Pairs.{emptied};
-ghost use Rattle.tree_rm.specs.Remove.{leftmost, vacated, exchanged, child, store, handed, above, cutWords, cutRoot, copied, relinked, cleared, swapRemove, finish, removeFrom, removeRule};
+ghost use Rattle.tree_rm_laws.specs.Pairs.{emptied};
+ghost use Rattle.tree_rm_laws.specs.Remove.{leftmost, vacated, exchanged, child, store, handed, above, cutWords, cutRoot, copied, relinked, cleared, swapRemove, finish, removeFrom, removeRule};
 ghost use Rattle.tree_rm.specs.Answers.{removal};
 
 // Swap values and intervals for `i`-th and `j`-th nodes.

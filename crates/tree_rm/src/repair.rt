@@ -15,9 +15,9 @@ ghost use mathlib.Core.Bool.{true, false, not};
 ghost use Prim.Native.Nat.{_*_, _<_, _≤_};
 ghost use lib.ListN.{length};
 ghost use Rattle.bitvec.specs.Colours.{red, redAt, dye};
-ghost use Rattle.tree_rm.specs.Links.{rootAfter};
-ghost use Rattle.tree_rm.specs.Repair.{turn, turn-2, turn-4, dyeAt, two, four, five, choose, act, turnOf, turnAt, step, repair};
-ghost use Rattle.tree_rm.specs.Remove.{store, ending, restructure};
+ghost use Rattle.tree_rm_laws.specs.Links.{rootAfter};
+ghost use Rattle.tree_rm_laws.specs.Repair.{turn, turn-2, turn-4, dyeAt, two, four, five, choose, act, turnOf, turnAt, step, repair};
+ghost use Rattle.tree_rm_laws.specs.Remove.{store, ending, restructure};
 ghost use Rattle.tree_rm.specs.Answers.{caseOf, next};
 
 pub enum Case {

@@ -15,8 +15,8 @@ use Rattle.tree.proofs.Slots.{hit-same, occ-plug, times, times-append, times-sl
 use Rattle.tree.proofs.Frames.{shape-live, unplug-shape}
 use Rattle.tree.proofs.Sizes.{size-le}
 use Rattle.tree.proofs.Balance.{height-32}
-use Rattle.tree_rm.specs.Links.{redirected, removeChild, redirect, rootAfter, fixUp}
-use Rattle.tree_rm.specs.Remove.{cutWords, cutRoot}
+use Rattle.tree_rm_laws.specs.Links.{redirected, removeChild, redirect, rootAfter, fixUp}
+use Rattle.tree_rm_laws.specs.Remove.{cutWords, cutRoot}
 use Rattle.tree_rm_laws.proofs.Carried.{kept-entry}
 use Rattle.tree_rm_laws.proofs.Links.{by-link, on-slot, on-none, length-redirect, kept-redirect}
 use Rattle.tree_rm_laws.proofs.Beside.{by-same}

@@ -21,10 +21,10 @@ use Rattle.tree.specs.Passes.{Passes}
 use Rattle.tree.proofs.Slots.{hit-cases, hit-zero}
 use Rattle.tree.proofs.Frames.{unplug-shape}
 use Rattle.tree.proofs.Checked.{slot-once, tree-low}
-use Rattle.tree_rm.specs.Pairs.{none, instead, home, named, lower, upper, sorted, moved}
-use Rattle.tree_rm.specs.Remove.{leftmost, vacated, vacated′, exchanged, child, cutWords, cutRoot, swapRemove, Removal, finish, removeFrom, removeRule, removeRule′}
-use Rattle.tree_rm.specs.declared.pairs.Pair.{Pair}
-use Rattle.tree_rm.specs.declared.pairs.Pairs.{Pairs}
+use Rattle.tree_rm_laws.specs.Pairs.{none, instead, home, named, lower, upper, sorted, moved}
+use Rattle.tree_rm_laws.specs.Remove.{leftmost, vacated, vacated′, exchanged, child, cutWords, cutRoot, swapRemove, Removal, finish, removeFrom, removeRule, removeRule′}
+use Rattle.tree_rm_laws.specs.declared.pairs.Pair.{Pair}
+use Rattle.tree_rm_laws.specs.declared.pairs.Pairs.{Pairs}
 use Rattle.tree_rm_laws.proofs.Moves.{find}
 use Rattle.tree_rm_laws.proofs.Rows.{instead-here, instead-other, instead-self}
 use Rattle.tree_rm_laws.proofs.Beside.{hulls-by}
@@ -33,7 +33,7 @@ use Rattle.tree_rm_laws.proofs.Steps.{emptied-slot, emptied-none, above
 use Rattle.tree_rm_laws.proofs.Spot.{Spot, red-y, black-x, bare-y, at-y, child-y, x≢y}
 use Rattle.tree_rm_laws.proofs.Loop.{Bare}
 use Rattle.tree_rm_laws.proofs.Cut.{way-height}
-use Rattle.tree_rm_laws.proofs.Pairs.{by-order}
+use Rattle.tree_rm_laws.proofs.PairLaws.{by-order}
 
 -- a pair that is told comes before one that is not
 module _ (p o : Pair) (told : p .old ≤ U) (only : p .old ≡ U → p ≡ none) where

@@ -3,10 +3,10 @@ use mathlib.Core.Path.{refl}
 use Rattle.words.specs.Ix.{onLink}
 use Rattle.words.specs.Nodes.{word, put, putEntry, putHull, swap, joined, hullOf, fix, putNode}
 use Rattle.bitvec.specs.Bits.{bit, put as putBit, bitAt, setBit}
-use Rattle.tree_rm.specs.Links.{adopt, setChild, redirected, removeChild, redirect, replaced, rootAfter, fixUp}
-use Rattle.tree_rm.specs.Repair.{turn, turn-2, turn-4, dyeAt, choose, turnOf, turnAt, step, repair}
-use Rattle.tree_rm.specs.Pairs.{instead, emptied, home, named, lower, upper, sorted, moved}
-use Rattle.tree_rm.specs.Remove.{leftmost, vacated, exchanged, child, restructure, handed, above, cutWords, cutRoot, copied, relinked, cleared, swapRemove, finish, removeFrom, removeRule}
+use Rattle.tree_rm_laws.specs.Links.{adopt, setChild, redirected, removeChild, redirect, replaced, rootAfter, fixUp}
+use Rattle.tree_rm_laws.specs.Repair.{turn, turn-2, turn-4, dyeAt, choose, turnOf, turnAt, step, repair}
+use Rattle.tree_rm_laws.specs.Pairs.{instead, emptied, home, named, lower, upper, sorted, moved}
+use Rattle.tree_rm_laws.specs.Remove.{leftmost, vacated, exchanged, child, restructure, handed, above, cutWords, cutRoot, copied, relinked, cleared, swapRemove, finish, removeFrom, removeRule}
 use Rattle.tree_rm_laws.specs.Examples.{wordsA, wordsB, fromA, then, fromB, fromB2, fromB3, Examples}
 
 pub examples : Examples

@@ -15,9 +15,9 @@ use Rattle.words.specs.declared.node.Entry.{Entry}
 use Rattle.words.specs.declared.node.Field.{Field}
 use Rattle.words.specs.declared.node.Field.the-variants.{Start, End, Value, HullStart, HullEnd, Child, Parent}
 use Rattle.bitvec.specs.Colours.{red, dye}
-use Rattle.tree_rm.specs.Links.{redirected, removeChild, fixUp}
-use Rattle.tree_rm.specs.Pairs.{instead, emptied}
-use Rattle.tree_rm.specs.Remove.{leftmost, vacated, exchanged, child, Store, store, restructure, handed, above, cutWords, cutRoot, relinked, cleared, swapRemove, finish, removeFrom, removeRule}
+use Rattle.tree_rm_laws.specs.Links.{redirected, removeChild, fixUp}
+use Rattle.tree_rm_laws.specs.Pairs.{instead, emptied}
+use Rattle.tree_rm_laws.specs.Remove.{leftmost, vacated, exchanged, child, Store, store, restructure, handed, above, cutWords, cutRoot, relinked, cleared, swapRemove, finish, removeFrom, removeRule}
 use Rattle.tree_rm_laws.specs.Removed.{Inside}
 use Rattle.tree_rm_laws.proofs.Links.{by-link}
 use Rattle.tree_rm_laws.proofs.Steps.{emptied-live}

@@ -20,9 +20,9 @@ use Rattle.tree.proofs.Cases.{compare}
 use Rattle.tree.proofs.Slots.{hit-same, hit-ne, hit-cases, hit-zero, apart, occ-plug}
 use Rattle.tree.proofs.Frames.{shape-live, off-link, keep, unplug-shape}
 use Rattle.tree.proofs.Views.{view-keep}
-use Rattle.tree_rm.specs.Links.{rootAfter}
-use Rattle.tree_rm.specs.Pairs.{instead}
-use Rattle.tree_rm.specs.Remove.{Store, store, relinked, cleared, swapRemove}
+use Rattle.tree_rm_laws.specs.Links.{rootAfter}
+use Rattle.tree_rm_laws.specs.Pairs.{instead}
+use Rattle.tree_rm_laws.specs.Remove.{Store, store, relinked, cleared, swapRemove}
 use Rattle.tree_rm_laws.proofs.Carried.{Carried, Kept, datum-carried}
 use Rattle.tree_rm_laws.proofs.Links.{on-slot, on-none, by-side}
 use Rattle.tree_rm_laws.proofs.Turns.{off-parent}

@@ -21,7 +21,7 @@ pub mod Loop
 pub mod Repaired
 pub mod Cut
 pub mod Landing
-pub mod Pairs
+pub mod PairLaws
 pub mod Removal
 pub mod Doubled
 pub mod Unique

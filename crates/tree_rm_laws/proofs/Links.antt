@@ -13,8 +13,8 @@ use Rattle.words.specs.Nodes.{word, kid, par}
 use Rattle.words.proofs.Nodes.{length-put, word-put, word-put-slot, word-put-field, inLinks, kid-putPar, par-putKid, kid-putKid-not}
 use Rattle.words.specs.declared.node.Field.{Field}
 use Rattle.words.specs.declared.node.Field.the-variants.{Child, Parent}
-use Rattle.tree_rm.specs.Links.{adopt, setChild, redirected, redirect, replaced}
-use Rattle.tree_rm.specs.Repair.{turn, turn-2, turn-4}
+use Rattle.tree_rm_laws.specs.Links.{adopt, setChild, redirected, redirect, replaced}
+use Rattle.tree_rm_laws.specs.Repair.{turn, turn-2, turn-4}
 use Rattle.tree_rm_laws.proofs.Carried.{Kept}
 
 -- a link word by cases, and what it comes to on a slot and on none

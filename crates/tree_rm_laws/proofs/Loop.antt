@@ -14,8 +14,8 @@ use Rattle.tree.specs.Zipper.{bin, Frame, plug, occs, frame}
 use Rattle.tree.specs.Hues.{rootRed, blacks, Hues}
 use Rattle.tree.proofs.Slots.{hit-same, hit-zero, occ-bin, occ-plug}
 use Rattle.tree.proofs.Frames.{open-bin, plug-shape}
-use Rattle.tree_rm.specs.Links.{rootAfter}
-use Rattle.tree_rm.specs.Repair.{turn, turn-2, turn-4}
+use Rattle.tree_rm_laws.specs.Links.{rootAfter}
+use Rattle.tree_rm_laws.specs.Repair.{turn, turn-2, turn-4}
 use Rattle.tree_rm_laws.proofs.Links.{kept-turn, kept-turn-2, kept-turn-4}
 use Rattle.tree_rm_laws.proofs.Beside.{HullsBy, by-turn}
 use Rattle.tree_rm_laws.proofs.Walk.{by-four}

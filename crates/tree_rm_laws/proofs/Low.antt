@@ -15,9 +15,9 @@ use Rattle.words.specs.declared.node.Field.{Field}
 use Rattle.words.specs.declared.node.Field.the-variants.{Child, Parent}
 use Rattle.bitvec.specs.Colours.{red, dye}
 use Rattle.bitvec.proofs.Bytes.{length-setBit, bitAt-other}
-use Rattle.tree_rm.specs.Links.{adopt, setChild, redirected, redirect, replaced, fixUp}
-use Rattle.tree_rm.specs.Repair.{turn, turn-2, turn-4}
-use Rattle.tree_rm.specs.Remove.{copied, relinked, cleared}
+use Rattle.tree_rm_laws.specs.Links.{adopt, setChild, redirected, redirect, replaced, fixUp}
+use Rattle.tree_rm_laws.specs.Repair.{turn, turn-2, turn-4}
+use Rattle.tree_rm_laws.specs.Remove.{copied, relinked, cleared}
 use Rattle.tree_rm_laws.proofs.Links.{by-link}
 
 -- the words X come from W by writes to slots below n

@@ -6,8 +6,8 @@ use Prim.Native.Nat.{ℕ, zero, suc, _<_}
 use lib.Dec.{eqb}
 use Rattle.words.specs.Nodes.{kid, par, entry, fix}
 use Rattle.bitvec.specs.Colours.{red, dye, redAt}
-use Rattle.tree_rm.specs.Repair.{done, Next, turn, turn-2, turn-4, dyeAt, Case, choose, act, turnOf, turnAt, step, goOn, repair, one, two, three, four, five, again}
-use Rattle.tree_rm.specs.Remove.{Store, store, ending, restructure}
+use Rattle.tree_rm_laws.specs.Repair.{done, Next, turn, turn-2, turn-4, dyeAt, Case, choose, act, turnOf, turnAt, step, goOn, repair, one, two, three, four, five, again}
+use Rattle.tree_rm_laws.specs.Remove.{Store, store, ending, restructure}
 use Rattle.tree_rm_laws.proofs.Carried.{kept-entry}
 use Rattle.tree_rm_laws.proofs.Links.{by-link, kept-turn, kept-turn-2, kept-turn-4}
 use Rattle.tree_rm_laws.proofs.Walk.{entry-fix}

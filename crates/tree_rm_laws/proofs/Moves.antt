@@ -16,8 +16,8 @@ use Rattle.tree.specs.Tree.{Tree, hit, occ, Shape, leaf, node}
 use Rattle.tree.specs.Zipper.{Frame, plug, occs, Above, frame}
 use Rattle.tree.proofs.Slots.{hit-same, occ-cases}
 use Rattle.tree.proofs.Frames.{shape-live, way-live, off-link, move, plug-shape}
-use Rattle.tree_rm.specs.Links.{adopt, redirect, rootAfter}
-use Rattle.tree_rm.specs.Remove.{copied, relinked, cleared}
+use Rattle.tree_rm_laws.specs.Links.{adopt, redirect, rootAfter}
+use Rattle.tree_rm_laws.specs.Remove.{copied, relinked, cleared}
 use Rattle.tree_rm_laws.proofs.Carried.{Carried, Kept, carry}
 use Rattle.tree_rm_laws.proofs.Links.{by-side, length-adopt, kept-adopt, kid-adopt, par-adopt, word-adopt-slot, par-adopt-kept, kept-redirect, par-redirect, word-redirect-slot, kid-redirect, kid-redirect-not}
 use Rattle.tree_rm_laws.proofs.Turns.{swing, off-parent}

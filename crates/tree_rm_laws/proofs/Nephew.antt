@@ -10,8 +10,8 @@ use Rattle.tree.specs.Tree.{Tree}
 use Rattle.tree.specs.Zipper.{bin, Frame, frame}
 use Rattle.tree.proofs.Slots.{hit-same}
 use Rattle.tree.proofs.Frames.{bin-flip}
-use Rattle.tree_rm.specs.Links.{rootAfter}
-use Rattle.tree_rm.specs.Repair.{turn-4}
+use Rattle.tree_rm_laws.specs.Links.{rootAfter}
+use Rattle.tree_rm_laws.specs.Repair.{turn-4}
 use Rattle.tree_rm_laws.proofs.Links.{on-slot, length-turn-4}
 use Rattle.tree_rm_laws.proofs.Stand.{Stand, stand-up, stand-down}
 use Rattle.tree_rm_laws.proofs.Turns.{side-of, Turned, is-turn-4, stand-turned}

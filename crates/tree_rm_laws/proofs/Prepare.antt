@@ -17,9 +17,9 @@ use Rattle.tree.specs.Zipper.{bin, Frame, plug, occs, frame}
 use Rattle.tree.specs.Hues.{dark}
 use Rattle.tree.proofs.Slots.{hit-same, occ-bin, occ-plug, times, times-slots}
 use Rattle.tree.proofs.Frames.{Same, shape-live, keep}
-use Rattle.tree_rm.specs.Repair.{done, Next, repair, again}
-use Rattle.tree_rm.specs.Pairs.{instead, emptied}
-use Rattle.tree_rm.specs.Remove.{child, Store, store, ending, restructure, handed, above}
+use Rattle.tree_rm_laws.specs.Repair.{done, Next, repair, again}
+use Rattle.tree_rm_laws.specs.Pairs.{instead, emptied}
+use Rattle.tree_rm_laws.specs.Remove.{child, Store, store, ending, restructure, handed, above}
 use Rattle.tree_rm_laws.proofs.Links.{by-side}
 use Rattle.tree_rm_laws.proofs.Carried.{Kept, kept-entry}
 use Rattle.tree_rm_laws.proofs.Rows.{instead-other, times-without, map-id, couple, exchange, exchange-slots, around}

@@ -23,8 +23,8 @@ use Rattle.tree.proofs.Slots.{hit-same, occ-bin, occ-plug, times, times-append,
 use Rattle.tree.proofs.Frames.{Same, keep}
 use Rattle.tree.proofs.Views.{rootRed-view, entries-view, hulls-view, hues-view}
 use Rattle.tree.proofs.Checked.{slot-live, slot-once, tree-low}
-use Rattle.tree_rm.specs.Pairs.{instead, emptied, home, moved}
-use Rattle.tree_rm.specs.Remove.{vacated, exchanged, child, Store, restructure, handed, above, cutWords, cutRoot, swapRemove, finish, removeFrom, removeRule}
+use Rattle.tree_rm_laws.specs.Pairs.{instead, emptied, home, moved}
+use Rattle.tree_rm_laws.specs.Remove.{vacated, exchanged, child, Store, restructure, handed, above, cutWords, cutRoot, swapRemove, finish, removeFrom, removeRule}
 use Rattle.tree_rm_laws.specs.Names.{changed, Names}
 use Rattle.tree_rm_laws.specs.Removed.{Removed}
 use Rattle.tree_rm_laws.proofs.Inside.{low-exchanged}
@@ -35,7 +35,7 @@ use Rattle.tree_rm_laws.proofs.Cut.{Cut, cut}
 use Rattle.tree_rm_laws.proofs.Vacate.{Chosen, chosen}
 use Rattle.tree_rm_laws.proofs.Spot.{Spot, child-apart}
 use Rattle.tree_rm_laws.proofs.Prepare.{ReadyIn, same-swap, prepared}
-use Rattle.tree_rm_laws.proofs.Pairs.{moved-names}
+use Rattle.tree_rm_laws.proofs.PairLaws.{moved-names}
 
 same-exchanged : (W : List ℕ) (s x a : ℕ) → Same W (exchanged W s x) a
 unfolding exchanged

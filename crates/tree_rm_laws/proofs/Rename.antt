@@ -9,7 +9,7 @@ use Rattle.tree.specs.Tree.{Tree, slots, occ, leaf, node}
 use Rattle.tree.specs.Zipper.{bin, Frame, plug, occs, frame}
 use Rattle.tree.specs.View.{datum, view}
 use Rattle.tree.proofs.Slots.{hit-same, hit-zero}
-use Rattle.tree_rm.specs.Pairs.{instead}
+use Rattle.tree_rm_laws.specs.Pairs.{instead}
 use Rattle.tree_rm_laws.proofs.Rows.{instead-here, instead-other}
 
 abbrev pub rename : (ℕ → ℕ) → Tree → Tree

@@ -14,7 +14,7 @@ use Rattle.tree.specs.Zipper.{bin, Frame, plug, frame}
 use Rattle.tree.specs.Hues.{rootRed, Hue, Hues}
 use Rattle.tree.proofs.Frames.{shape-root, open-bin}
 use Rattle.tree.proofs.Once.{root-par}
-use Rattle.tree_rm.specs.Repair.{done, Next, dyeAt, choose, act, turnOf, turnAt, step, goOn, repair, one, two, three, four, five, again}
+use Rattle.tree_rm_laws.specs.Repair.{done, Next, dyeAt, choose, act, turnOf, turnAt, step, goOn, repair, one, two, three, four, five, again}
 use Rattle.tree_rm_laws.proofs.Links.{on-slot, on-none}
 use Rattle.tree_rm_laws.proofs.Stand.{Stand}
 use Rattle.tree_rm_laws.proofs.Turns.{side-of}

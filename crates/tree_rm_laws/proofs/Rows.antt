@@ -15,7 +15,7 @@ use Rattle.tree.specs.Zipper.{bin, Frame, plug, frame}
 use Rattle.tree.specs.Order.{Rising, RisingAt}
 use Rattle.tree.proofs.Slots.{hit-same, hit-cases, hit-zero, times, times-append}
 use Rattle.tree.proofs.Orders.{after-trans, rising-same}
-use Rattle.tree_rm.specs.Pairs.{instead}
+use Rattle.tree_rm_laws.specs.Pairs.{instead}
 
 -- one slot in the place of another
 pub instead-here : (c b : ℕ) → instead c b c ≡ b

@@ -5,7 +5,7 @@ use Prim.Native.Nat.{ℕ, suc, _-_, _*_, _≤_}
 use native.Mathlib.Omega.{arith}
 use lib.ListN.{length}
 use Rattle.tree.specs.Passes.{Passes}
-use Rattle.tree_rm.specs.Remove.{Store, removeRule}
+use Rattle.tree_rm_laws.specs.Remove.{Store, removeRule}
 use Rattle.tree_rm_laws.specs.Removed.{Inside}
 use Rattle.tree_rm_laws.specs.Sequence.{after, Within}
 use Rattle.tree_rm_laws.proofs.Inside.{removed-inside}

@@ -14,7 +14,7 @@ use Rattle.tree.specs.Zipper.{bin, Frame, plug, occs, Above}
 use Rattle.tree.specs.Hues.{dark, rootRed, blacks, Hue, Hues}
 use Rattle.tree.proofs.Slots.{hit-same, hit-zero, occ-bin, occ-plug}
 use Rattle.tree.proofs.Frames.{open-bin, unplug-shape}
-use Rattle.tree_rm.specs.Remove.{child}
+use Rattle.tree_rm_laws.specs.Remove.{child}
 use Rattle.tree_rm_laws.proofs.Beside.{HullsBy}
 use Rattle.tree_rm_laws.proofs.Fits.{Fits, open-hue, blacks-bin, root-bin, plug-fits}
 use Rattle.tree_rm_laws.proofs.Loop.{Bare}

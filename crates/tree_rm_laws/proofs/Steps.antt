@@ -5,9 +5,9 @@ use mathlib.Core.List.{List}
 use Prim.Native.Nat.{ℕ, _<_, _≤_}
 use Rattle.words.specs.Nodes.{par, swap}
 use Rattle.bitvec.specs.Colours.{red, dye}
-use Rattle.tree_rm.specs.Repair.{repair}
-use Rattle.tree_rm.specs.Pairs.{emptied}
-use Rattle.tree_rm.specs.Remove.{store, ending, restructure, handed, above}
+use Rattle.tree_rm_laws.specs.Repair.{repair}
+use Rattle.tree_rm_laws.specs.Pairs.{emptied}
+use Rattle.tree_rm_laws.specs.Remove.{store, ending, restructure, handed, above}
 use Rattle.tree_rm_laws.proofs.Links.{by-link, on-slot, on-none}
 
 -- the slot that is emptied

@@ -13,8 +13,8 @@ use Rattle.tree.specs.Tree.{Tree, hit, occ, Node, Shape}
 use Rattle.tree.specs.Zipper.{bin, Frame, occs, Above, frame}
 use Rattle.tree.proofs.Slots.{hit-same, hit-zero, apart, apart-way, occ-bin}
 use Rattle.tree.proofs.Frames.{Same, shape-live, way-live, shape-root, off-link, open-bin, keep, move, above-keep}
-use Rattle.tree_rm.specs.Links.{setChild, rootAfter}
-use Rattle.tree_rm.specs.Repair.{turn, turn-2, turn-4}
+use Rattle.tree_rm_laws.specs.Links.{setChild, rootAfter}
+use Rattle.tree_rm_laws.specs.Repair.{turn, turn-2, turn-4}
 use Rattle.tree_rm_laws.proofs.Links.{on-slot, on-none, not-not, length-setChild, kid-setChild, kid-setChild-not, kid-setChild-other, par-setChild, par-setChild-other, length-replaced, par-replaced, par-replaced-other, kid-replaced-other, kid-replaced, kid-replaced-not, length-turn, length-turn-2}
 use Rattle.tree_rm_laws.proofs.Stand.{Stand}
 

@@ -15,8 +15,8 @@ use Rattle.tree.specs.Zipper.{bin, Frame, plug, occs, frame}
 use Rattle.tree.specs.Hulls.{Hulls}
 use Rattle.tree.proofs.Slots.{hit-same, hit-zero, occ-plug, times, times-slots}
 use Rattle.tree.proofs.Frames.{shape-live, unplug-shape}
-use Rattle.tree_rm.specs.Pairs.{instead}
-use Rattle.tree_rm.specs.Remove.{leftmost, vacated, exchanged}
+use Rattle.tree_rm_laws.specs.Pairs.{instead}
+use Rattle.tree_rm_laws.specs.Remove.{leftmost, vacated, exchanged}
 use Rattle.tree_rm_laws.proofs.Carried.{Kept, kept-entry}
 use Rattle.tree_rm_laws.proofs.Links.{on-slot, on-none}
 use Rattle.tree_rm_laws.proofs.Beside.{HullsBy, beside, along, occs-parts, along-append, by-same, hulls-by}

@@ -17,7 +17,7 @@ use Rattle.tree.specs.Hulls.{Hulls, lowest, highest}
 use Rattle.tree.proofs.Slots.{hit-same, apart, occ-bin}
 use Rattle.tree.proofs.Frames.{Same, open-bin, keep, above-keep, go-up}
 use Rattle.tree.proofs.Hulls.{low-node, high-node}
-use Rattle.tree_rm.specs.Links.{fixUp}
+use Rattle.tree_rm_laws.specs.Links.{fixUp}
 use Rattle.tree_rm_laws.proofs.Carried.{Kept}
 use Rattle.tree_rm_laws.proofs.Links.{by-link, on-slot, on-none}
 use Rattle.tree_rm_laws.proofs.Beside.{HullsBy, hulls-same, by-same, by-append, by-left, by-right, open-hull}

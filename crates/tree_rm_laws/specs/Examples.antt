@@ -5,8 +5,8 @@ use mathlib.Core.List.{List, [], _∷_}
 use Prim.Native.Nat.{ℕ}
 use Rattle.words.specs.Ix.{U}
 use Rattle.words.specs.Nodes.{kid}
-use Rattle.tree_rm.specs.Pairs.{none}
-use Rattle.tree_rm.specs.Remove.{Removal, removeRule}
+use Rattle.tree_rm_laws.specs.Pairs.{none}
+use Rattle.tree_rm_laws.specs.Remove.{Removal, removeRule}
 
 -- "Store A, built from [10,20) 1, [10,30) 2, [25,40) 3, [40,50) 4, [45,60) 5: root 2; 2 has 1 and 4; 1 has left 0; 4 has left 3; colours 9"
 unfoldable pub wordsA : List ℕ

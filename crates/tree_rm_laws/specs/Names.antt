@@ -6,9 +6,9 @@ use Prim.Native.Nat.{ℕ, _+_, _<_, _≤_}
 use lib.Dec.{eqb}
 use Rattle.words.specs.Ix.{U}
 use Rattle.tree.specs.Tree.{hit}
-use Rattle.tree_rm.specs.Pairs.{none}
-use Rattle.tree_rm.specs.declared.pairs.Pair.{Pair}
-use Rattle.tree_rm.specs.declared.pairs.Pairs.{Pairs}
+use Rattle.tree_rm_laws.specs.Pairs.{none}
+use Rattle.tree_rm_laws.specs.declared.pairs.Pair.{Pair}
+use Rattle.tree_rm_laws.specs.declared.pairs.Pairs.{Pairs}
 
 -- the old and the new slot of each entry whose slot differs; the two lists hold the slots of the same entries, in tree order
 abbrev pub changed : List ℕ → List ℕ → List Pair

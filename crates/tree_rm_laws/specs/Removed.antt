@@ -8,7 +8,7 @@ use Rattle.words.specs.declared.node.Field.{Field}
 use Rattle.bitvec.specs.Colours.{red}
 use Rattle.tree.specs.Tree.{slots, without}
 use Rattle.tree.specs.Passes.{Passes}
-use Rattle.tree_rm.specs.Remove.{Store, Removal}
+use Rattle.tree_rm_laws.specs.Remove.{Store, Removal}
 use Rattle.tree_rm_laws.specs.Names.{changed, Names}
 
 -- "The answer: removed value, new map, and up to three pairs"

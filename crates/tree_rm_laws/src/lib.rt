@@ -1,1 +1,2 @@
-// Theory alone: what the rule of removal does to a store that passes the check.
+// The rule of removal, which crate tree_rm computes, and what it guarantees. Theory, but for the record of the moved pairs.
+pub mod pairs;

@@ -1,4 +1,4 @@
-use Rattle.tree_rm.specs.Links.{adopt}
+use Rattle.tree_rm_laws.specs.Links.{adopt}
 use Rattle.words.proofs.Laws.{linked, slot-room, unlinked}
 use borrow.Author.Needs.{needs}
 use Rattle.tree_rm.proofs.links.adopt_child.Statement.{statement}

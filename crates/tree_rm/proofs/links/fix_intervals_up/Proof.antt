@@ -3,7 +3,7 @@ use Rattle.words.proofs.Laws.{slot-live}
 use borrow.Author.Needs.{needs}
 use mathlib.Core.Path.{refl}
 use native.Mathlib.Omega.{arith}
-use Rattle.tree_rm.specs.Links.{fixUp}
+use Rattle.tree_rm_laws.specs.Links.{fixUp}
 use lib.ListN.{length}
 use mathlib.Core.Path.{_≡_}
 use Rattle.tree_rm.proofs.links.fix_intervals_up.Statement.{statement}

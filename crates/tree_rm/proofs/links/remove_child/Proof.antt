@@ -1,4 +1,4 @@
-use Rattle.tree_rm.specs.Links.{removeChild}
+use Rattle.tree_rm_laws.specs.Links.{removeChild}
 use borrow.Author.Needs.{needs}
 use Rattle.tree_rm.proofs.links.remove_child.Statement.{statement}
 use Rattle.tree_rm.proofs.links.remove_child.Tie as tie

@@ -1,4 +1,4 @@
-use Rattle.tree_rm.specs.Links.{redirected}
+use Rattle.tree_rm_laws.specs.Links.{redirected}
 use borrow.Author.Needs.{needs}
 use Rattle.tree_rm.proofs.links.replace_child.Statement.{statement}
 use Rattle.tree_rm.proofs.links.replace_child.Tie as tie

@@ -1,4 +1,4 @@
-use Rattle.tree_rm.specs.Links.{replaced, rootAfter}
+use Rattle.tree_rm_laws.specs.Links.{replaced, rootAfter}
 use borrow.Author.Needs.{needs}
 use Rattle.tree_rm.proofs.links.replace_children.Statement.{statement}
 use Rattle.tree_rm.proofs.links.replace_children.Tie as tie

@@ -1,4 +1,4 @@
-use Rattle.tree_rm.specs.Links.{setChild}
+use Rattle.tree_rm_laws.specs.Links.{setChild}
 use borrow.Author.Needs.{needs}
 use Rattle.tree_rm.proofs.links.set_child.Statement.{statement}
 use Rattle.tree_rm.proofs.links.set_child.Tie as tie

@@ -1,4 +1,4 @@
-use Rattle.tree_rm.specs.Pairs.{instead}
+use Rattle.tree_rm_laws.specs.Pairs.{instead}
 use Rattle.words.proofs.Tests.{equal, unequal}
 use Rattle.tree_rm.proofs.pairs.after_move.Statement.{statement}
 use Rattle.tree_rm.proofs.pairs.after_move.Tie as tie

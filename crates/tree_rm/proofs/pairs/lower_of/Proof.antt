@@ -1,4 +1,4 @@
-use Rattle.tree_rm.specs.Pairs.{lower}
+use Rattle.tree_rm_laws.specs.Pairs.{lower}
 use Rattle.words.proofs.Tests.{less, not-less}
 use Rattle.tree_rm.proofs.pairs.lower_of.Statement.{statement}
 use Rattle.tree_rm.proofs.pairs.lower_of.Tie as tie

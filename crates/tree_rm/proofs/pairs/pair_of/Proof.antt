@@ -1,4 +1,4 @@
-use Rattle.tree_rm.specs.Pairs.{named}
+use Rattle.tree_rm_laws.specs.Pairs.{named}
 use Rattle.words.proofs.Tests.{equal, unequal}
 use Rattle.tree_rm.proofs.pairs.pair_of.Statement.{statement}
 use Rattle.tree_rm.proofs.pairs.pair_of.Tie as tie

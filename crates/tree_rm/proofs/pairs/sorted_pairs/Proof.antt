@@ -1,4 +1,4 @@
-use Rattle.tree_rm.specs.Pairs.{sorted}
+use Rattle.tree_rm_laws.specs.Pairs.{sorted}
 use borrow.Author.Needs.{needs}
 use Rattle.tree_rm.proofs.pairs.sorted_pairs.Statement.{statement}
 use Rattle.tree_rm.proofs.pairs.sorted_pairs.Tie as tie

@@ -1,6 +1,6 @@
 use Rattle.tree_rm.proofs.LinkLaws.{read-linked, read-unlinked}
 use Rattle.tree_rm.proofs.Removes.{cut-is}
-use Rattle.tree_rm.specs.Remove.{cutRoot, cutWords}
+use Rattle.tree_rm_laws.specs.Remove.{cutRoot, cutWords}
 use Rattle.words.proofs.Laws.{slot-room}
 use borrow.Author.Needs.{needs}
 use mathlib.Core.Path.{refl}

@@ -1,6 +1,6 @@
 use Rattle.tree_rm.proofs.LinkLaws.{read-unlinked}
 use Rattle.tree_rm.proofs.Turns.{at-parent}
-use Rattle.tree_rm.specs.Repair.{step}
+use Rattle.tree_rm_laws.specs.Repair.{step}
 use Rattle.words.proofs.Laws.{slot-live, slot-room}
 use borrow.Author.Needs.{needs}
 use native.Mathlib.Omega.{arith}

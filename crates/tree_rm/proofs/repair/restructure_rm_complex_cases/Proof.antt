@@ -1,7 +1,7 @@
 use Rattle.tree_rm.proofs.Turns.{loop-done, loop-none, loop-on, loop-stays}
 use mathlib.Core.Path.{refl}
 use native.Mathlib.Omega.{arith}
-use Rattle.tree_rm.specs.Repair.{repair}
+use Rattle.tree_rm_laws.specs.Repair.{repair}
 use lib.ListN.{length}
 use mathlib.Core.Path.{_≡_}
 use Prim.Native.Nat.{_<_}

@@ -1,4 +1,4 @@
-use Rattle.tree_rm.specs.Repair.{dyeAt}
+use Rattle.tree_rm_laws.specs.Repair.{dyeAt}
 use Rattle.words.proofs.Laws.{linked, slot-below, unlinked}
 use borrow.Author.Needs.{needs}
 use Rattle.tree_rm.proofs.repair.set_black_at.Statement.{statement}

@@ -1,5 +1,5 @@
 use Rattle.tree_rm.proofs.LinkLaws.{read-linked, read-unlinked}
-use Rattle.tree_rm.specs.Repair.{turnAt}
+use Rattle.tree_rm_laws.specs.Repair.{turnAt}
 use Rattle.words.proofs.Laws.{slot-live}
 use borrow.Author.Needs.{needs}
 use native.Mathlib.Omega.{arith}

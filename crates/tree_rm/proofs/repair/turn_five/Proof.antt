@@ -1,4 +1,4 @@
-use Rattle.tree_rm.specs.Repair.{turn}
+use Rattle.tree_rm_laws.specs.Repair.{turn}
 use borrow.Author.Needs.{needs}
 use Rattle.tree_rm.proofs.repair.turn_five.Statement.{statement}
 use Rattle.tree_rm.proofs.repair.turn_five.Tie as tie

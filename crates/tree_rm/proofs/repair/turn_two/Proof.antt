@@ -1,4 +1,4 @@
-use Rattle.tree_rm.specs.Repair.{turn-2}
+use Rattle.tree_rm_laws.specs.Repair.{turn-2}
 use borrow.Author.Needs.{needs}
 use Rattle.tree_rm.proofs.repair.turn_two.Statement.{statement}
 use Rattle.tree_rm.proofs.repair.turn_two.Tie as tie

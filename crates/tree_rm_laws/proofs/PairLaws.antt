@@ -11,8 +11,8 @@ use Rattle.words.specs.Ix.{U}
 use Rattle.tree.specs.Tree.{hit}
 use Rattle.tree.proofs.Cases.{compare}
 use Rattle.tree.proofs.Slots.{hit-same, hit-ne, hit-cases, hit-zero, times}
-use Rattle.tree_rm.specs.Pairs.{none, emptied, home, named, lower, upper, sorted, moved}
-use Rattle.tree_rm.specs.declared.pairs.Pair.{Pair}
+use Rattle.tree_rm_laws.specs.Pairs.{none, emptied, home, named, lower, upper, sorted, moved}
+use Rattle.tree_rm_laws.specs.declared.pairs.Pair.{Pair}
 use Rattle.tree_rm_laws.specs.Names.{changed, same, tally, Rest, Names}
 use Rattle.tree_rm_laws.proofs.Rows.{instead-other}
 

@@ -6,10 +6,10 @@ use lib.Dec.{eqb}
 use Rattle.words.specs.Ix.{U, gone, onLink}
 use Rattle.words.specs.Nodes.{value, kid, par, hull, entry, putNode, swap}
 use Rattle.bitvec.specs.Colours.{red, redAt, dye}
-use Rattle.tree_rm.specs.Links.{adopt, removeChild, redirect, fixUp}
-use Rattle.tree_rm.specs.Repair.{Next, done, again, repair}
-use Rattle.tree_rm.specs.Pairs.{instead, emptied, moved}
-use Rattle.tree_rm.specs.declared.pairs.Pairs.{Pairs}
+use Rattle.tree_rm_laws.specs.Links.{adopt, removeChild, redirect, fixUp}
+use Rattle.tree_rm_laws.specs.Repair.{Next, done, again, repair}
+use Rattle.tree_rm_laws.specs.Pairs.{instead, emptied, moved}
+use Rattle.tree_rm_laws.specs.declared.pairs.Pairs.{Pairs}
 
 -- the leftmost slot from the slot k down, `height` links at the most
 unfoldable pub leftmost : ℕ → ℕ → List ℕ → ℕ → ℕ

@@ -6,7 +6,7 @@ use lib.Dec.{eqb}
 use Rattle.words.specs.Ix.{onLink}
 use Rattle.words.specs.Nodes.{kid, par, fix}
 use Rattle.bitvec.specs.Colours.{red, redAt, dye}
-use Rattle.tree_rm.specs.Links.{setChild, replaced, rootAfter}
+use Rattle.tree_rm_laws.specs.Links.{setChild, replaced, rootAfter}
 
 -- A node stands on the side b of its parent P (`true`: left), its sibling is S: S turns into the place of P. The two writes below it
 -- stand in the one order in the fifth case and in the other in the second.

@@ -1,0 +1,147 @@
+-- The refusals of the lookups, and what they leave: slices with room, and a cursor that is fit for a step.
+use mathlib.Core.Path.{_≡_, refl, sym, ap, _∙_}
+use mathlib.Core.Bool.{Bool, true, false, cond}
+use mathlib.Core.List.{List}
+use Prim.Native.Nat.{ℕ, _*_, _<_, _≤_}
+use native.Mathlib.Omega.{arith}
+use lib.ListN.{length}
+use lib.Dec.{ltb}
+use borrow.Author.Tests.{ltb-false, lt-ltb, le-ltb}
+use Rattle.words.specs.Nodes.{room}
+use Rattle.words.specs.Refusals.{refusalNumber}
+use Rattle.words.specs.Intervals.{proper}
+use Rattle.words.specs.declared.interval.Interval.{Interval}
+use Rattle.words.specs.declared.interval.Span.{Span}
+use Rattle.words.specs.declared.refusal.Refusal.{Refusal}
+use Rattle.iter.specs.Cursors.{fresh, ended}
+use Rattle.iter.specs.Forms.{formOf}
+use Rattle.iter.specs.Places.{Placed}
+use Rattle.iter.specs.Walk.{Answer, Rules}
+use Rattle.iter.specs.Drains as drains
+use Rattle.iter.specs.Answers.{answer, isHit, summary}
+use Rattle.iter.specs.declared.Cursor.{Cursor}
+use Rattle.iter.specs.declared.Form.{Form}
+use Rattle.iter.specs.declared.Form.the-variants.{Bad}
+use Rattle.iter.specs.declared.drain.Drained.{Drained}
+use Rattle.iter.specs.declared.seek.Step.{Step}
+use Rattle.iter.specs.declared.rules.Query.{Query}
+use Rattle.iter.specs.declared.rules.Query.the-variants.{Overlap, Exact}
+use Rattle.iter.proofs.Ways.{form-placed}
+use Rattle.iset.specs.Check.{checkNumber, checkRule}
+use Rattle.iset.specs.Lookup.{ordered, queryNumber, beginning, formNumber, startNumber, stepNumber, drainNumber, StartAnswer, StepAnswer, stepAnswer, refusedStep, DrainAnswer, drainAnswer, refusedDrain}
+use Rattle.iset.specs.declared.Map.{Map}
+use Rattle.iset.specs.declared.Checked.{Checked}
+use Rattle.iset.specs.declared.Checked.the-variants.{Sound, Refused}
+use Rattle.iset.proofs.Checks.{both-zero, check-zero}
+
+module _ (m : Map) (W C : List ℕ) (q : Query) where
+  pub start-accepts : startNumber m W C q ≡ 0 → (checkRule m W C ≡ 0) × (queryNumber q ≡ 0)
+  unfolding startNumber
+  start-accepts e = both-zero (checkRule m W C) (queryNumber q) e
+
+  module _ (c : Cursor) where
+    pub step-accepts : stepNumber m W C q c ≡ 0 → (startNumber m W C q ≡ 0) × (formNumber (formOf W (m .count) (beginning m W q) c) ≡ 0)
+    unfolding stepNumber
+    step-accepts e = both-zero (startNumber m W C q) (formNumber (formOf W (m .count) (beginning m W q) c)) e
+
+    pub drain-accepts : (limit out : ℕ) → drainNumber m W C q c limit out ≡ 0 → (stepNumber m W C q c ≡ 0) × (drains.limitOf limit ≤ out)
+    unfolding drainNumber
+    drain-accepts limit out e =
+        let z : (stepNumber m W C q c ≡ 0) × (_≡_ {A = ℕ} (cond (ltb out (drains.limitOf limit)) 9 0) 0) =
+        both-zero (stepNumber m W C q c) (cond (ltb out (drains.limitOf limit)) 9 0) e in
+        (z .0, go (ltb out (drains.limitOf limit)) refl (z .1))
+      where
+        go : (b : Bool) → ltb out (drains.limitOf limit) ≡ b → _≡_ {A = ℕ} (cond b 9 0) 0 → drains.limitOf limit ≤ out
+        go true f y = absurd (omega arith)
+        go false f y = ltb-false out (drains.limitOf limit) f
+
+  held : startNumber m W C q ≡ 0 → m .count ≤ room (length W) (length C)
+  held e = check-zero m W C (start-accepts e .0) .0
+
+not-bad : (f : Form) → formNumber f ≡ 0 → f ≡ Bad → ⊥
+not-bad f e q = let z : _≡_ {A = ℕ} 7 0 = sym (ap formNumber q) ∙ e in omega arith
+
+module _ (m : Map) (W C : List ℕ) (q : Query) (t : Checked) (s : t ≡ Sound) where
+  pub start-words : checkNumber t ≡ startNumber m W C q → m .count * 8 ≤ length W
+  start-words e = omega (arith, held m W C q (sym e ∙ ap checkNumber s))
+
+  module _ (c : Cursor) where
+    fit : stepNumber m W C q c ≡ 0 → (m .count ≤ room (length W) (length C)) × Placed (m .count) c
+    fit e =
+        let a : (startNumber m W C q ≡ 0) × (formNumber (formOf W (m .count) (beginning m W q) c) ≡ 0) = step-accepts m W C q c e in
+        let h : m .count ≤ room (length W) (length C) = held m W C q (a .0) in
+        (h, form-placed W (m .count) (beginning m W q) c (formOf W (m .count) (beginning m W q) c) refl (not-bad _ (a .1)) (omega arith))
+
+    module _ (e : checkNumber t ≡ stepNumber m W C q c) where
+      step-zero : stepNumber m W C q c ≡ 0
+      step-zero = sym e ∙ ap checkNumber s
+
+      pub step-words : m .count * 8 ≤ length W
+      step-words = omega (arith, fit step-zero .0)
+
+      pub step-few : m .count ≤ 65535
+      step-few = omega (arith, fit step-zero .0)
+
+      pub step-placed : Placed (m .count) c
+      step-placed = fit step-zero .1
+
+    module _ (limit out : ℕ) (e : checkNumber t ≡ drainNumber m W C q c limit out) where
+      drain-zero : (stepNumber m W C q c ≡ 0) × (drains.limitOf limit ≤ out)
+      drain-zero = drain-accepts m W C q c limit out (sym e ∙ ap checkNumber s)
+
+      pub drain-words : m .count * 8 ≤ length W
+      drain-words = omega (arith, fit (drain-zero .0) .0)
+
+      pub drain-few : m .count ≤ 65535
+      drain-few = omega (arith, fit (drain-zero .0) .0)
+
+      pub drain-placed : Placed (m .count) c
+      drain-placed = fit (drain-zero .0) .1
+
+      pub drain-limit : (l : ℕ) → l ≡ drains.limitOf limit → l ≤ out
+      drain-limit l f = omega (arith, drain-zero .1)
+
+-- the code's answers, as the rules have them
+pub form-is : (t : Checked) (f : Form) (W : List ℕ) (n k b : ℕ) (c : Cursor) → checkNumber t ≡ formNumber f → f ≡ formOf W n k c → k ≡ b
+    → checkNumber t ≡ formNumber (formOf W n b c)
+form-is t f W n k b c e q p = rw (← p, ← q) e
+
+pub room-short : (out l x : ℕ) → l ≡ x → out < l → _≡_ {A = ℕ} 9 (cond (ltb out x) 9 0)
+room-short out l x e h = rw (← e, lt-ltb out l h)
+
+pub room-enough : (out l x : ℕ) → l ≡ x → l ≤ out → _≡_ {A = ℕ} 0 (cond (ltb out x) 9 0)
+room-enough out l x e h = rw (← e, le-ltb out l h)
+
+pub started-is : (c : Cursor) (b k : ℕ) → c ≡ fresh b → b ≡ k → _≡_ {A = StartAnswer} (record { no = 0; cursor = c }) (record { no = 0; cursor = fresh k })
+started-is c b k e q = rw (e, q)
+
+pub step-is : (s : Step) (S : Answer) (n : ℕ) → answer s ≡ S → isHit s ≡ ltb (answer s .slot) n
+    → stepAnswer (isHit s) (answer s) ≡ stepAnswer (ltb (S .slot) n) S
+step-is s S n e q = rw (q, e)
+
+module _ (W : List ℕ) (n : ℕ) (Q : Rules) (l x : ℕ) (c : Cursor) (e : l ≡ x) where
+  pub drain-is : (d : Drained) → d ≡ summary (drains.drain W n Q l c)
+      → _≡_ {A = DrainAnswer} (record { no = 0; hits = d .hits; entered = d .entered; next = d .next }) (drainAnswer (drains.drain W n Q x c))
+  drain-is d q = rw (q, e)
+
+  pub drain-out : (out new : List ℕ) → new ≡ drains.filled (drains.drain W n Q l c .slots) out → new ≡ drains.filled (drains.drain W n Q x c .slots) out
+  drain-out out new q = rw (← e) q
+
+module _ (k : ℕ) (t : Checked) (z : Refusal) (e : checkNumber t ≡ k) (q : t ≡ Refused z) where
+  same-number : refusalNumber z ≡ k
+  same-number = sym (ap checkNumber q) ∙ e
+
+  pub refused-start : _≡_ {A = StartAnswer} (record { no = refusalNumber z; cursor = ended }) (record { no = k; cursor = ended })
+  refused-start = ap (λ (i : ℕ). record { no = i; cursor = ended }) same-number
+
+  pub refused-step : (c : Cursor) → refusedStep c (refusalNumber z) ≡ refusedStep c k
+  refused-step c = ap (λ (i : ℕ). refusedStep c i) same-number
+
+  pub refused-drain : (c : Cursor) → refusedDrain c (refusalNumber z) ≡ refusedDrain c k
+  refused-drain c = ap (λ (i : ℕ). refusedDrain c i) same-number
+
+pub query-range : (q : Query) (x : Span) (k : ℕ) → q ≡ Overlap x → k ≡ cond (ordered (x .lo) (x .hi)) 0 4 → k ≡ queryNumber q
+query-range q x k e h = rw e h
+
+pub query-interval : (q : Query) (x : Interval) (k : ℕ) → q ≡ Exact x → k ≡ cond (proper x) 0 5 → k ≡ queryNumber q
+query-interval q x k e h = rw e h

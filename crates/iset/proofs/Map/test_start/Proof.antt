@@ -1,0 +1,11 @@
+use Rattle.iset.proofs.Laws.{handed-on, let-through}
+use Rattle.iset.specs.Lookup.{startNumber}
+use borrow.Author.Needs.{needs}
+use Rattle.iset.proofs.Map.test_start.Statement.{statement}
+use Rattle.iset.proofs.Map.test_start.Tie as tie
+
+pub test-start-spec : {M : Type 1} → statement M
+unfolding startNumber
+test-start-spec =
+    tie.close
+    (tie.spec (λ c κs. search needs) (λ c. search needs) (λ c. search needs) (λ c κs. search needs) (λ c. search handed-on) (λ c. search let-through))

@@ -1,0 +1,140 @@
+-- "overlap step 1, 2, 4, 7; exact step 1, 2, 5, 7; drain as its step, then 9"
+use mathlib.Core.Bool.{Bool, true, false, cond}
+use mathlib.Core.List.{List}
+use Prim.Native.Nat.{ℕ}
+use lib.ListN.{length}
+use lib.Dec.{eqb, ltb, leb}
+use Rattle.words.specs.Ix.{U}
+use Rattle.words.specs.Refusals.{refusalNumber}
+use Rattle.words.specs.Intervals.{proper}
+use Rattle.words.specs.declared.interval.Bound.{Bound}
+use Rattle.words.specs.declared.interval.Bound.the-variants.{Included, Excluded, Unbounded}
+use Rattle.words.specs.declared.interval.Interval.{Interval}
+use Rattle.iter.specs.Cursors.{fresh, ended}
+use Rattle.iter.specs.Exact.{findFrom}
+use Rattle.iter.specs.Forms.{formOf}
+use Rattle.iter.specs.Walk.{Answer, step}
+use Rattle.iter.specs.Drains as drains
+use Rattle.iter.specs.Queries.{rules}
+use Rattle.iter.specs.Answers.{answer, isHit}
+use Rattle.iter.specs.declared.Cursor.{Cursor}
+use Rattle.iter.specs.declared.Form.{Form}
+use Rattle.iter.specs.declared.Form.the-variants as form
+use Rattle.iter.specs.declared.rules.Query.{Query}
+use Rattle.iter.specs.declared.rules.Query.the-variants.{Overlap, Exact}
+use Rattle.iset.specs.Check.{checkRule}
+use Rattle.iset.specs.declared.Map.{Map}
+use Rattle.iset.specs.declared.lookup.Started.{Started}
+use Rattle.iset.specs.declared.lookup.Started.the-variants as started
+use Rattle.iset.specs.declared.lookup.Stepped.{Stepped}
+use Rattle.iset.specs.declared.lookup.Stepped.the-variants as stepped
+use Rattle.iset.specs.declared.lookup.Emptied.{Emptied}
+use Rattle.iset.specs.declared.lookup.Emptied.the-variants as emptied
+
+-- not BadRange: a bound is Unbounded, or lo < hi, or lo = hi and both are Included
+abbrev pub ordered : Bound → Bound → Bool
+ordered (Included a) (Included b) = leb a b
+ordered (Included a) (Excluded b) = ltb a b
+ordered (Included a) Unbounded = true
+ordered (Excluded a) (Included b) = ltb a b
+ordered (Excluded a) (Excluded b) = ltb a b
+ordered (Excluded a) Unbounded = true
+ordered Unbounded y = true
+
+-- 4: BadRange; 5: "a given interval has start >= end"
+abbrev pub queryNumber : Query → ℕ
+queryNumber (Overlap q) = cond (ordered (q .lo) (q .hi)) 0 4
+queryNumber (Exact x) = cond (proper x) 0 5
+
+-- where a lookup begins: the root, or "the highest equal node, U if none"
+abbrev pub beginning : Map → List ℕ → Query → ℕ
+beginning m W (Overlap q) = m .root
+beginning m W (Exact x) = findFrom W (m .count) x (m .root)
+
+-- 7: "cursor has no form below"
+abbrev pub formNumber : Form → ℕ
+formNumber form.Fresh = 0
+formNumber form.Held = 0
+formNumber form.Ended = 0
+formNumber form.Bad = 7
+
+-- the first refusal's number, 0 for none, of a query alone; of one with a cursor; of a drain
+unfoldable pub startNumber : Map → List ℕ → List ℕ → Query → ℕ
+startNumber m W C q = cond (eqb (checkRule m W C) 0) (queryNumber q) (checkRule m W C)
+
+unfoldable pub stepNumber : Map → List ℕ → List ℕ → Query → Cursor → ℕ
+stepNumber m W C q c =
+    cond (eqb (startNumber m W C q) 0) (formNumber (formOf W (m .count) (beginning m W q) c)) (startNumber m W C q)
+
+unfoldable pub drainNumber : Map → List ℕ → List ℕ → Query → Cursor → ℕ → ℕ → ℕ
+drainNumber m W C q c limit room =
+    cond (eqb (stepNumber m W C q c) 0) (cond (ltb room (drains.limitOf limit)) 9 0) (stepNumber m W C q c)
+
+-- Answers by this paper's numbers. A refusal has the cursor as given, slot U, counts 0; a fresh cursor that is refused is the ended one.
+pub record StartAnswer : Type 0 where
+  pub no : ℕ
+  pub cursor : Cursor
+
+abbrev pub startPaper : Started → StartAnswer
+startPaper (started.Done c) = record { no = 0; cursor = c }
+startPaper (started.Refused y) = record { no = refusalNumber y; cursor = ended }
+
+unfoldable pub startCall : Map → List ℕ → List ℕ → Interval → StartAnswer
+startCall m W C x =
+    cond (eqb (startNumber m W C (Exact x)) 0)
+    (record { no = 0; cursor = fresh (beginning m W (Exact x)) })
+    (record { no = startNumber m W C (Exact x); cursor = ended })
+
+-- a step: a hit with its slot, or the end, the next cursor and the nodes entered
+pub record StepAnswer : Type 0 where
+  pub no : ℕ
+  pub hit : Bool
+  pub slot : ℕ
+  pub next : Cursor
+  pub entered : ℕ
+
+abbrev pub stepAnswer : Bool → Answer → StepAnswer
+stepAnswer h a = record { no = 0; hit = h; slot = a .slot; next = a .next; entered = a .entered }
+
+abbrev pub refusedStep : Cursor → ℕ → StepAnswer
+refusedStep c k = record { no = k; hit = false; slot = U; next = c; entered = 0 }
+
+abbrev pub stepPaper : Cursor → Stepped → StepAnswer
+stepPaper c (stepped.Done s) = stepAnswer (isHit s) (answer s)
+stepPaper c (stepped.Refused y) = refusedStep c (refusalNumber y)
+
+unfoldable pub stepCall : Map → List ℕ → List ℕ → Query → Cursor → StepAnswer
+stepCall m W C q c =
+    cond (eqb (stepNumber m W C q c) 0)
+    (stepAnswer (ltb (step W (m .count) (rules W (m .count) q) c .slot) (m .count)) (step W (m .count) (rules W (m .count) q) c))
+    (refusedStep c (stepNumber m W C q c))
+
+-- a drain: the hits written, the nodes entered, the next cursor
+pub record DrainAnswer : Type 0 where
+  pub no : ℕ
+  pub hits : ℕ
+  pub entered : ℕ
+  pub next : Cursor
+
+abbrev pub drainAnswer : drains.Drained → DrainAnswer
+drainAnswer d = record { no = 0; hits = length (d .slots); entered = d .entered; next = d .next }
+
+abbrev pub refusedDrain : Cursor → ℕ → DrainAnswer
+refusedDrain c k = record { no = k; hits = 0; entered = 0; next = c }
+
+abbrev pub drainPaper : Cursor → Emptied → DrainAnswer
+drainPaper c (emptied.Done d) = record { no = 0; hits = d .hits; entered = d .entered; next = d .next }
+drainPaper c (emptied.Refused y) = refusedDrain c (refusalNumber y)
+
+unfoldable pub drainCall : Map → List ℕ → List ℕ → Query → Cursor → ℕ → ℕ → DrainAnswer
+drainCall m W C q c limit room =
+    cond (eqb (drainNumber m W C q c limit room) 0)
+    (drainAnswer (drains.drain W (m .count) (rules W (m .count) q) (drains.limitOf limit) c))
+    (refusedDrain c (drainNumber m W C q c limit room))
+
+-- "Places past the hits written stay."
+unfoldable pub drainOutput : Map → List ℕ → List ℕ → Query → Cursor → ℕ → List ℕ → List ℕ
+drainOutput m W C q c limit out =
+    cond (eqb (drainNumber m W C q c limit (length out)) 0)
+    (drains.filled (drains.drain W (m .count) (rules W (m .count) q) (drains.limitOf limit) c .slots) out)
+    out

@@ -1,0 +1,236 @@
+// Looking up: the entries that intersect a range, or those equal to an interval, step by step or many at once.
+use crate::Checked;
+use crate::Map;
+use iter::Cursor;
+use iter::Form;
+use iter::drain::Drained;
+use iter::rules::Query;
+use iter::rules::find_index;
+use iter::seek::Step;
+use words::interval::Bound;
+use words::interval::Interval;
+use words::interval::Span;
+use words::refusal::Refusal;
+ghost use mathlib.Core.Path.{_≡_};
+ghost use mathlib.Core.Bool.{cond};
+ghost use Prim.Native.Nat.{_*_, _≤_};
+ghost use lib.ListN.{length};
+ghost use lib.Dec.{ltb};
+ghost use Rattle.words.specs.Intervals.{proper};
+ghost use Rattle.iter.specs.Cursors.{fresh};
+ghost use Rattle.iter.specs.Drains.{limitOf};
+ghost use Rattle.iter.specs.Forms.{formOf};
+ghost use Rattle.iset.specs.Check.{checkNumber};
+ghost use Rattle.iset.specs.Lookup.{ordered, queryNumber, beginning, formNumber, startNumber, stepNumber, drainNumber, startPaper, startCall, stepPaper, stepCall, drainPaper, drainCall, drainOutput};
+
+// What the calls answer.
+pub enum Started {
+    Done(Cursor),
+    Refused(Refusal),
+}
+
+pub enum Stepped {
+    Done(Step),
+    Refused(Refusal),
+}
+
+pub enum Emptied {
+    Done(Drained),
+    Refused(Refusal),
+}
+
+// A range from `a`, which is Included, up to a bound.
+fn included_before(a: u64, hi: Bound) -> bool
+    ensures { λ r. ⌜ r ≡ ordered (Bound.Included a) hi ⌝ }
+{
+    match hi {
+        Bound::Included(b) => a <= b,
+        Bound::Excluded(b) => a < b,
+        Bound::Unbounded => true,
+    }
+}
+
+fn excluded_before(a: u64, hi: Bound) -> bool
+    ensures { λ r. ⌜ r ≡ ordered (Bound.Excluded a) hi ⌝ }
+{
+    match hi {
+        Bound::Included(b) => a < b,
+        Bound::Excluded(b) => a < b,
+        Bound::Unbounded => true,
+    }
+}
+
+fn check_ordered(range: Span) -> bool
+    ensures { λ r. ⌜ r ≡ ordered (range .lo) (range .hi) ⌝ }
+{
+    let lo = range.lo;
+    let hi = range.hi;
+    match lo {
+        Bound::Included(a) => included_before(a, hi),
+        Bound::Excluded(a) => excluded_before(a, hi),
+        Bound::Unbounded => true,
+    }
+}
+
+fn test_range(range: Span) -> Checked
+    ensures { λ r. ⌜ checkNumber r ≡ cond (ordered (range .lo) (range .hi)) 0 4 ⌝ }
+{
+    if check_ordered(range) {
+        Checked::Sound
+    } else {
+        Checked::Refused(Refusal::BadRange)
+    }
+}
+
+fn test_interval(x: Interval) -> Checked
+    ensures { λ r. ⌜ checkNumber r ≡ cond (proper x) 0 5 ⌝ }
+{
+    if x.is_proper() {
+        Checked::Sound
+    } else {
+        Checked::Refused(Refusal::BadInterval)
+    }
+}
+
+fn test_query(query: Query) -> Checked
+    ensures { λ r. ⌜ checkNumber r ≡ queryNumber query ⌝ }
+{
+    match query {
+        Query::Overlap(range) => test_range(range),
+        Query::Exact(x) => test_interval(x),
+    }
+}
+
+fn test_form(form: Form) -> Checked
+    ensures { λ r. ⌜ checkNumber r ≡ formNumber form ⌝ }
+{
+    match form {
+        Form::Fresh => Checked::Sound,
+        Form::Held => Checked::Sound,
+        Form::Ended => Checked::Sound,
+        Form::Bad => Checked::Refused(Refusal::BadCursor),
+    }
+}
+
+// A limit of 0 means 64.
+fn limit_of(limit: u64) -> u64
+    ensures { λ r. ⌜ r ≡ limitOf limit ⌝ }
+{
+    if limit == 0 { 64 } else { limit }
+}
+
+fn test_room(limit: u64, room: u64) -> Checked
+    ensures { λ r. ⌜ checkNumber r ≡ cond (ltb room (limitOf limit)) 9 0 ⌝ }
+{
+    if room < limit_of(limit) {
+        Checked::Refused(Refusal::ShortOutput)
+    } else {
+        Checked::Sound
+    }
+}
+
+impl Map {
+    // The first refusal of a query.
+    fn test_start(self, nodes: &[u64], colours: &[u8], query: Query) -> Checked
+        ensures { λ r. ⌜ checkNumber r ≡ startNumber self (now (nodes .entry)) (now (colours .entry)) query ⌝ }
+    {
+        match self.check(nodes, colours) {
+            Checked::Refused(why) => Checked::Refused(why),
+            Checked::Sound => test_query(query),
+        }
+    }
+
+    // The slot that a lookup begins at.
+    fn begin(self, nodes: &[u64], query: Query) -> u64
+        requires { ⌜ self .count * 8 ≤ length (now nodes) ⌝ }
+        ensures { λ r. ⌜ r ≡ beginning self (now (nodes .entry)) query ⌝ }
+    {
+        match query {
+            Query::Overlap(_) => self.root,
+            Query::Exact(x) => find_index(nodes, self.count, x, self.root),
+        }
+    }
+
+    fn test_place(self, nodes: &[u64], query: Query, cursor: Cursor) -> Checked
+        requires { ⌜ self .count * 8 ≤ length (now nodes) ⌝ }
+        ensures { λ r. ⌜ checkNumber r ≡ formNumber (formOf (now (nodes .entry)) (self .count) (beginning self (now (nodes .entry)) query) cursor) ⌝ }
+    {
+        test_form(cursor.form(nodes, self.count, self.begin(nodes, query)))
+    }
+
+    // The first refusal of a step.
+    fn test_step(self, nodes: &[u64], colours: &[u8], query: Query, cursor: Cursor) -> Checked
+        ensures { λ r. ⌜ checkNumber r ≡ stepNumber self (now (nodes .entry)) (now (colours .entry)) query cursor ⌝ }
+    {
+        match self.test_start(nodes, colours, query) {
+            Checked::Refused(why) => Checked::Refused(why),
+            Checked::Sound => self.test_place(nodes, query, cursor),
+        }
+    }
+
+    // The first refusal of a drain into an output of `room` places.
+    fn test_drain(
+        self,
+        nodes: &[u64],
+        colours: &[u8],
+        query: Query,
+        cursor: Cursor,
+        limit: u64,
+        room: u64,
+    ) -> Checked
+        ensures { λ r. ⌜ checkNumber r ≡ drainNumber self (now (nodes .entry)) (now (colours .entry)) query cursor limit room ⌝ }
+    {
+        match self.test_step(nodes, colours, query, cursor) {
+            Checked::Refused(why) => Checked::Refused(why),
+            Checked::Sound => test_room(limit, room),
+        }
+    }
+
+    // The fresh cursor of an overlap lookup. It is tested where it is used.
+    pub fn fresh(self) -> Cursor
+        ensures { λ r. ⌜ r ≡ fresh (self .root) ⌝ }
+    {
+        Cursor::fresh(self.root)
+    }
+
+    // The fresh cursor of an exact lookup: at the highest entry equal to the query.
+    pub fn fresh_exact(self, nodes: &[u64], colours: &[u8], query: Interval) -> Started
+        ensures { λ r. ⌜ startPaper r ≡ startCall self (now (nodes .entry)) (now (colours .entry)) query ⌝ }
+    {
+        let Checked::Refused(why) = self.test_start(nodes, colours, Query::Exact(query)) else {
+            return Started::Done(Cursor::fresh(self.begin(nodes, Query::Exact(query))));
+        };
+        Started::Refused(why)
+    }
+
+    // The next hit after a cursor, or the end.
+    pub fn step(self, nodes: &[u64], colours: &[u8], query: Query, cursor: Cursor) -> Stepped
+        ensures { λ r. ⌜ stepPaper cursor r ≡ stepCall self (now (nodes .entry)) (now (colours .entry)) query cursor ⌝ }
+    {
+        let Checked::Refused(why) = self.test_step(nodes, colours, query, cursor) else {
+            return Stepped::Done(cursor.step(nodes, self.count, query));
+        };
+        Stepped::Refused(why)
+    }
+
+    // Steps until the end, or until `limit` hits are written to `out`; a limit of 0 means 64.
+    pub fn drain(
+        self,
+        nodes: &[u64],
+        colours: &[u8],
+        query: Query,
+        cursor: Cursor,
+        limit: u64,
+        out: &mut [u64],
+    ) -> Emptied
+        ensures { λ r. ⌜ (drainPaper cursor r ≡ drainCall self (now (nodes .entry)) (now (colours .entry)) query cursor limit (length (now (out .entry))))
+            × (now (out .exit) ≡ drainOutput self (now (nodes .entry)) (now (colours .entry)) query cursor limit (now (out .entry))) ⌝ }
+    {
+        let room = out.len() as u64;
+        let Checked::Refused(why) = self.test_drain(nodes, colours, query, cursor, limit, room)
+        else {
+            return Emptied::Done(cursor.drain(nodes, self.count, query, limit_of(limit), out));
+        };
+        Emptied::Refused(why)
+    }
+}

@@ -1,0 +1,12 @@
+use borrow.Author.Needs.{needs}
+use Rattle.iter.proofs.rules.goes_exact.Statement.{statement}
+use Rattle.iter.proofs.rules.goes_exact.Tie as tie
+
+pub goes-exact-spec : {M : Type 1} → statement M
+goes-exact-spec =
+    tie.close
+    (tie.spec
+    (λ c κs. search needs)
+    (λ c κs. search needs)
+    (λ c. cc)
+    (λ c. cc))

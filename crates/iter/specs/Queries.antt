@@ -1,0 +1,12 @@
+-- What is looked for, and what a walk for it goes by.
+use mathlib.Core.List.{List}
+use Prim.Native.Nat.{ℕ}
+use Rattle.iter.specs.declared.rules.Query.{Query}
+use Rattle.iter.specs.declared.rules.Query.the-variants.{Overlap, Exact}
+use Rattle.iter.specs.Walk.{Rules}
+use Rattle.iter.specs.Overlap.{overlap}
+use Rattle.iter.specs.Exact.{exact}
+
+unfoldable pub rules : List ℕ → ℕ → Query → Rules
+rules W n (Overlap q) = overlap W n q
+rules W n (Exact x) = exact W n x

@@ -1,0 +1,125 @@
+// The forms of a cursor, judged against the present store.
+use crate::Cursor;
+use crate::Form;
+use stack::state_at;
+use words::ix::U;
+use words::node::child_of;
+use words::node::parent_of;
+ghost use mathlib.Core.Path.{_≡_};
+ghost use mathlib.Core.Bool.{_&&_};
+ghost use Prim.Native.Nat.{_+_, _-_, _*_, _/_, _^_, _≤_, _<_};
+ghost use lib.ListN.{length};
+ghost use lib.Dec.{eqb};
+ghost use Rattle.iter.specs.Cursors.{fresh, ended};
+ghost use Rattle.iter.specs.Forms.{same, onSide, formed, heldForm, formOf};
+ghost use Rattle.iter.specs.Places.{Live};
+
+// What stands in a number from a level's bits up.
+fn from_level(bits: u64, level: u64) -> u64
+    requires { ⌜ level < 32 ⌝ }
+    ensures { λ r. ⌜ r ≡ bits / 4 ^ level ⌝ }
+{
+    bits >> (2 * level)
+}
+
+// The slot is the child of `parent` on the side that its state says.
+fn is_on_side(nodes: &[u64], state: u64, parent: u64, slot: u64) -> bool
+    requires { ⌜ parent * 8 + 8 ≤ length (now nodes) ⌝ }
+    ensures { λ r. ⌜ r ≡ onSide (now (nodes .entry)) state parent slot ⌝ }
+{
+    let left = child_of(nodes, parent, true);
+    let right = child_of(nodes, parent, false);
+    ((state == 2) & (left == slot)) | ((state == 3) & (right == slot))
+}
+
+// So many links up from the slot is `start`, and each level says by which side the way comes.
+fn is_way(nodes: &[u64], count: u64, start: u64, bits: u64, links: u64, slot: u64) -> bool
+    requires { ⌜ (count * 8 ≤ length (now nodes)) × (slot < count) × (links ≤ 32) ⌝ }
+    ensures { λ r. ⌜ r ≡ formed (now (nodes .entry)) count start bits links slot ⌝ }
+{
+    if links == 0 {
+        return slot == start;
+    }
+    let parent = parent_of(nodes, slot);
+    if count <= parent {
+        return false;
+    }
+    if is_on_side(nodes, state_at(bits, links - 1), parent, slot) {
+        is_way(nodes, count, start, bits, links - 1, parent)
+    } else {
+        false
+    }
+}
+
+impl Cursor {
+    pub fn fresh(slot: u64) -> Cursor
+        ensures { λ r. ⌜ r ≡ fresh slot ⌝ }
+    {
+        Cursor {
+            slot,
+            levels: 1,
+            bits: 0,
+        }
+    }
+
+    pub fn ended() -> Cursor
+        ensures { λ r. ⌜ r ≡ ended ⌝ }
+    {
+        Cursor {
+            slot: U,
+            levels: 0,
+            bits: 0,
+        }
+    }
+
+    fn is_same(self, slot: u64, levels: u64, bits: u64) -> bool
+        ensures { λ r. ⌜ r ≡ same slot levels bits self ⌝ }
+    {
+        (self.slot == slot) & ((self.levels == levels) & (self.bits == bits))
+    }
+
+    // The top level is 10 with nothing above it, and the levels below say the way from `start`.
+    fn is_reached(self, nodes: &[u64], count: u64, start: u64) -> bool
+        requires { ⌜ (count * 8 ≤ length (now nodes)) × Live count self ⌝ }
+        ensures { λ r. ⌜ r ≡ eqb (self .bits / 4 ^ (self .levels - 1)) 1
+            && formed (now (nodes .entry)) count start (self .bits) (self .levels - 1) (self .slot) ⌝ }
+    {
+        let links = self.levels - 1;
+        (from_level(self.bits, links) == 1)
+            & is_way(nodes, count, start, self.bits, links, self.slot)
+    }
+
+    fn is_held(self, nodes: &[u64], count: u64, start: u64) -> bool
+        requires { ⌜ count * 8 ≤ length (now nodes) ⌝ }
+        ensures { λ r. ⌜ r ≡ heldForm (now (nodes .entry)) count start self ⌝ }
+    {
+        if count <= self.slot {
+            return false;
+        }
+        if self.levels == 0 {
+            return false;
+        }
+        if self.levels > 32 {
+            return false;
+        }
+        self.is_reached(nodes, count, start)
+    }
+
+    // The form of a cursor in the tree that begins at the slot `start`, judged against the present store.
+    pub fn form(self, nodes: &[u64], count: u64, start: u64) -> Form
+        requires { ⌜ count * 8 ≤ length (now nodes) ⌝ }
+        ensures { λ r. ⌜ r ≡ formOf (now (nodes .entry)) count start self ⌝ }
+    {
+        if self.is_same(start, 1, 0) {
+            return Form::Fresh;
+        }
+        if self.is_same(U, 0, 0) {
+            return Form::Ended;
+        }
+        if self.is_held(nodes, count, start) {
+            Form::Held
+        } else {
+            Form::Bad
+        }
+    }
+}

@@ -1,0 +1,62 @@
+// The step: the walk until a hit or the end.
+use crate::Cursor;
+use crate::rules::Query;
+ghost use mathlib.Core.Path.{_≡_};
+ghost use Prim.Native.Nat.{_*_, _≤_};
+ghost use lib.ListN.{length};
+ghost use lib.Dec.{ltb};
+ghost use Rattle.iter.specs.Walk.{seek, step, fuel};
+ghost use Rattle.iter.specs.Queries.{rules};
+ghost use Rattle.iter.specs.Places.{Placed};
+ghost use Rattle.iter.specs.Answers.{answer, isHit};
+
+// What a step answers: a hit with its cursor, which is the next one too, or the end; and the nodes entered in this call.
+pub enum Step {
+    Hit(Cursor, u64),
+    End(u64),
+}
+
+impl Step {
+    // The nodes entered.
+    pub fn entered(self) -> u64
+        ensures { λ r. ⌜ r ≡ answer self .entered ⌝ }
+    {
+        match self {
+            Step::Hit(_, entered) => entered,
+            Step::End(entered) => entered,
+        }
+    }
+}
+
+impl Cursor {
+    // Moves until a hit or the end, with some nodes entered so far. `move_to_next_exact` is this at an exact query.
+    fn move_to_next(self, nodes: &[u64], count: u64, query: Query, before: u64) -> Step
+        requires { ⌜ (count * 8 ≤ length (now nodes)) × (count ≤ 65535) × Placed count self × (before ≤ 1) ⌝ }
+        ensures { λ r. ⌜ (answer r ≡ seek (now (nodes .entry)) count (rules (now (nodes .entry)) count query) (fuel count) before self)
+            × (isHit r ≡ ltb (answer r .slot) count) ⌝ }
+    {
+        let mut cursor = self;
+        let mut entered = before;
+        let mut moves = count * 4 + 1;
+        while moves > 0 {
+            if count <= cursor.slot {
+                return Step::End(entered);
+            }
+            cursor = cursor.walk(nodes, count, query);
+            if cursor.is_hit(nodes, count, query) {
+                return Step::Hit(cursor, entered);
+            }
+            entered += cursor.counted(count);
+            moves -= 1;
+        }
+        Step::End(entered)
+    }
+
+    pub fn step(self, nodes: &[u64], count: u64, query: Query) -> Step
+        requires { ⌜ (count * 8 ≤ length (now nodes)) × (count ≤ 65535) × Placed count self ⌝ }
+        ensures { λ r. ⌜ (answer r ≡ step (now (nodes .entry)) count (rules (now (nodes .entry)) count query) self)
+            × (isHit r ≡ ltb (answer r .slot) count) ⌝ }
+    {
+        self.move_to_next(nodes, count, query, self.counted(count))
+    }
+}

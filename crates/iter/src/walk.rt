@@ -1,0 +1,170 @@
+// The walk: one mark or one link a move.
+use crate::Cursor;
+use crate::rules::Query;
+use crate::rules::goes;
+use crate::rules::matches;
+use stack::ActionStack;
+use words::ix::U;
+use words::node::child_of;
+use words::node::parent_of;
+ghost use mathlib.Core.Path.{_≡_};
+ghost use mathlib.Core.Bool.{true, false, cond, _&&_};
+ghost use Prim.Native.Nat.{_+_, _*_, _≤_, _<_};
+ghost use lib.ListN.{length};
+ghost use lib.Dec.{eqb};
+ghost use Rattle.words.specs.Ix.{U};
+ghost use Rattle.words.specs.Nodes.{par};
+ghost use Rattle.stack.specs.States.{top};
+ghost use Rattle.iter.specs.Cursors.{stackOf, upTo};
+ghost use Rattle.iter.specs.Walk.{side, mark, down, deeper, move, enters, hits, counts};
+ghost use Rattle.iter.specs.Queries.{rules};
+ghost use Rattle.iter.specs.Places.{Placed, Live};
+
+// The state that the top level gets before the walk goes down on a side.
+fn side_mark(left_side: bool) -> u64
+    ensures { λ r. ⌜ (r ≡ side «left_side») × (r < 4) ⌝ }
+{
+    if left_side { 2 } else { 3 }
+}
+
+// Where the walk goes up to with so many levels.
+fn slot_above(levels: u64, parent: u64) -> u64
+    ensures { λ r. ⌜ r ≡ cond (eqb levels 1) U parent ⌝ }
+{
+    if levels == 1 { U } else { parent }
+}
+
+impl Cursor {
+    fn stack(self) -> ActionStack
+        ensures { λ r. ⌜ (r ≡ stackOf self) × (r .levels ≡ self .levels) ⌝ }
+    {
+        ActionStack {
+            levels: self.levels,
+            bits: self.bits,
+        }
+    }
+
+    // The state of the top level.
+    fn state(self) -> u64
+        requires { ⌜ (1 ≤ self .levels) × (self .levels ≤ 32) ⌝ }
+        ensures { λ r. ⌜ r ≡ top (stackOf self) ⌝ }
+    {
+        self.stack().top()
+    }
+
+    fn mark(self, state: u64) -> Cursor
+        requires { ⌜ (1 ≤ self .levels) × (self .levels ≤ 32) × (state < 4) ⌝ }
+        ensures { λ r. ⌜ r ≡ mark state self ⌝ }
+    {
+        let stack = self.stack().mark(state);
+        Cursor {
+            slot: self.slot,
+            levels: stack.levels,
+            bits: stack.bits,
+        }
+    }
+
+    fn down(self, nodes: &[u64], left_side: bool) -> Cursor
+        requires { ⌜ (self .slot * 8 + 8 ≤ length (now nodes)) × (1 ≤ self .levels) × (self .levels < 32) ⌝ }
+        ensures { λ r. ⌜ r ≡ down (now (nodes .entry)) «left_side» self ⌝ }
+    {
+        let marked = self.stack().mark(side_mark(left_side));
+        let stack = marked.deepen();
+        Cursor {
+            slot: child_of(nodes, self.slot, left_side),
+            levels: stack.levels,
+            bits: stack.bits,
+        }
+    }
+
+    fn up(self, nodes: &[u64]) -> Cursor
+        requires { ⌜ (self .slot * 8 + 8 ≤ length (now nodes)) × (1 ≤ self .levels) × (self .levels ≤ 32) ⌝ }
+        ensures { λ r. ⌜ r ≡ upTo (par (now (nodes .entry)) (self .slot)) self ⌝ }
+    {
+        let stack = self.stack().shorten();
+        let parent = parent_of(nodes, self.slot);
+        Cursor {
+            slot: slot_above(self.levels, parent),
+            levels: stack.levels,
+            bits: stack.bits,
+        }
+    }
+
+    // Whether the walk goes down on a side: the stack takes one more level, and the rules say so.
+    fn goes_down(self, nodes: &[u64], count: u64, query: Query, left_side: bool) -> bool
+        requires { ⌜ (count * 8 ≤ length (now nodes)) × (self .slot < count) ⌝ }
+        ensures { λ r. ⌜ r ≡ deeper (rules (now (nodes .entry)) count query) «left_side» self ⌝ }
+    {
+        (self.levels < 32) & goes(nodes, count, query, self.slot, left_side)
+    }
+
+    // From 00: left, or mark 01.
+    fn left_or_mark(self, nodes: &[u64], count: u64, query: Query) -> Cursor
+        requires { ⌜ (count * 8 ≤ length (now nodes)) × Live count self ⌝ }
+        ensures { λ r. ⌜ r ≡ cond (deeper (rules (now (nodes .entry)) count query) true self) (down (now (nodes .entry)) true self) (mark 2 self) ⌝ }
+    {
+        if self.goes_down(nodes, count, query, true) {
+            self.down(nodes, true)
+        } else {
+            self.mark(2)
+        }
+    }
+
+    // From 10: right, or up. From 11: up.
+    fn right_or_up(self, nodes: &[u64], count: u64, query: Query, state: u64) -> Cursor
+        requires { ⌜ (count * 8 ≤ length (now nodes)) × Live count self ⌝ }
+        ensures { λ r. ⌜ r ≡ cond (eqb state 1 && deeper (rules (now (nodes .entry)) count query) false self)
+            (down (now (nodes .entry)) false self) (upTo (par (now (nodes .entry)) (self .slot)) self) ⌝ }
+    {
+        if (state == 1) & self.goes_down(nodes, count, query, false) {
+            self.down(nodes, false)
+        } else {
+            self.up(nodes)
+        }
+    }
+
+    // One move.
+    pub fn walk(self, nodes: &[u64], count: u64, query: Query) -> Cursor
+        requires { ⌜ (count * 8 ≤ length (now nodes)) × Live count self ⌝ }
+        ensures { λ r. ⌜ r ≡ move (now (nodes .entry)) (rules (now (nodes .entry)) count query) self ⌝ }
+    {
+        let state = self.state();
+        if state == 0 {
+            return self.left_or_mark(nodes, count, query);
+        }
+        if state == 2 {
+            return self.mark(1);
+        }
+        self.right_or_up(nodes, count, query, state)
+    }
+
+    // A live node is on top in state 00.
+    fn is_entered(self, count: u64) -> bool
+        requires { ⌜ Placed count self ⌝ }
+        ensures { λ r. ⌜ r ≡ enters count self ⌝ }
+    {
+        if count <= self.slot {
+            return false;
+        }
+        self.state() == 0
+    }
+
+    // What the place counts among the nodes entered.
+    pub fn counted(self, count: u64) -> u64
+        requires { ⌜ Placed count self ⌝ }
+        ensures { λ r. ⌜ (r ≡ counts count self) × (r ≤ 1) ⌝ }
+    {
+        if self.is_entered(count) { 1 } else { 0 }
+    }
+
+    // A live node is on top in state 10, and its entry is looked for.
+    pub fn is_hit(self, nodes: &[u64], count: u64, query: Query) -> bool
+        requires { ⌜ (count * 8 ≤ length (now nodes)) × Placed count self ⌝ }
+        ensures { λ r. ⌜ r ≡ hits count (rules (now (nodes .entry)) count query) self ⌝ }
+    {
+        if count <= self.slot {
+            return false;
+        }
+        (self.state() == 1) & matches(nodes, count, query, self.slot)
+    }
+}
