@@ -24,6 +24,24 @@ use Rattle.iset.specs.declared.remove.Removal.{Removal}
 use Rattle.iset.specs.declared.remove.Removal.the-variants as removal
 use Rattle.iset.proofs.Map.remove.Reads as remove-reads
 use Rattle.iset.proofs.Map.remove.Kinds as remove-kinds
+use Rattle.iter.specs.declared.Cursor.{Cursor}
+use Rattle.iter.specs.declared.seek.Step.{Step}
+use Rattle.iter.specs.declared.seek.Step.the-variants.{Hit, End}
+use Rattle.iset.specs.Lookup.{StartAnswer, startPaper, StepAnswer, stepPaper, DrainAnswer, drainPaper}
+use Rattle.iset.specs.declared.lookup.Started.{Started}
+use Rattle.iset.specs.declared.lookup.Started.the-variants as started
+use Rattle.iset.specs.declared.lookup.Stepped.{Stepped}
+use Rattle.iset.specs.declared.lookup.Stepped.the-variants as stepped
+use Rattle.iset.specs.declared.lookup.Emptied.{Emptied}
+use Rattle.iset.specs.declared.lookup.Emptied.the-variants as emptied
+use Rattle.iset.proofs.Map.fresh.Reads as fresh-reads
+use Rattle.iset.proofs.Map.fresh.Kinds as fresh-kinds
+use Rattle.iset.proofs.Map.fresh_exact.Reads as exact-reads
+use Rattle.iset.proofs.Map.fresh_exact.Kinds as exact-kinds
+use Rattle.iset.proofs.Map.step.Reads as step-reads
+use Rattle.iset.proofs.Map.step.Kinds as step-kinds
+use Rattle.iset.proofs.Map.drain.Reads as drain-reads
+use Rattle.iset.proofs.Map.drain.Kinds as drain-kinds
 use Rattle.iset.proofs.Map.build.Reads as build-reads
 use Rattle.iset.proofs.Map.build.Kinds as build-kinds
 use Rattle.iset.proofs.Map.check.Reads as check-reads
@@ -71,3 +89,51 @@ pub remove-determined :
     → remove-reads.Post κs a r s → remove-reads.Post κs a r′ s′ → (r ≡ r′) × (now (s .1 .0) ≡ now (s′ .1 .0)) × (now (s .1 .1 .0) ≡ now (s′ .1 .1 .0))
 remove-determined κs a r r′ s s′ p q =
     (sym (removal-back _ r) ∙ ap removalAt (p .0 ∙ sym (q .0)) ∙ removal-back _ r′, p .1 ∙ sym (q .1), p .2 ∙ sym (q .2))
+
+-- a fresh cursor's, a step's and a drain's
+abbrev startedAt : StartAnswer → Started
+startedAt x = cond (eqb (x .no) 0) (started.Done (x .cursor)) (started.Refused (refusalAt (x .no)))
+
+started-back : (r : Started) → startedAt (startPaper r) ≡ r
+started-back (started.Done c) = refl
+started-back (started.Refused y) = rw (ne-eqb (refusalNumber y) 0 (omega (arith, number-pos y)), at-number y)
+
+pub fresh-determined :
+    (κs : Lfts 0) (a : K.Dens κs fresh-kinds.ps) (r r′ : K.resT fresh-kinds.r κs .Denot) (s s′ : AtExit (K.endedOf 0 fresh-kinds.ps fresh-kinds.r) κs)
+    → fresh-reads.Post κs a r s → fresh-reads.Post κs a r′ s′ → r ≡ r′
+fresh-determined κs a r r′ s s′ p q = p ∙ sym q
+
+pub fresh-exact-determined :
+    (κs : Lfts 2) (a : K.Dens κs exact-kinds.ps) (r r′ : K.resT exact-kinds.r κs .Denot) (s s′ : AtExit (K.endedOf 2 exact-kinds.ps exact-kinds.r) κs)
+    → exact-reads.Post κs a r s → exact-reads.Post κs a r′ s′ → r ≡ r′
+fresh-exact-determined κs a r r′ s s′ p q = sym (started-back r) ∙ ap startedAt (p ∙ sym q) ∙ started-back r′
+
+abbrev stepAt : StepAnswer → Step
+stepAt x = cond (x .hit) (Hit (x .next) (x .entered)) (End (x .entered))
+
+abbrev steppedAt : StepAnswer → Stepped
+steppedAt x = cond (eqb (x .no) 0) (stepped.Done (stepAt x)) (stepped.Refused (refusalAt (x .no)))
+
+stepped-back : (c : Cursor) (r : Stepped) → steppedAt (stepPaper c r) ≡ r
+stepped-back c (stepped.Done (Hit d e)) = refl
+stepped-back c (stepped.Done (End e)) = refl
+stepped-back c (stepped.Refused y) = rw (ne-eqb (refusalNumber y) 0 (omega (arith, number-pos y)), at-number y)
+
+pub step-determined :
+    (κs : Lfts 2) (a : K.Dens κs step-kinds.ps) (r r′ : K.resT step-kinds.r κs .Denot) (s s′ : AtExit (K.endedOf 2 step-kinds.ps step-kinds.r) κs)
+    → step-reads.Post κs a r s → step-reads.Post κs a r′ s′ → r ≡ r′
+step-determined κs a r r′ s s′ p q = sym (stepped-back _ r) ∙ ap steppedAt (p ∙ sym q) ∙ stepped-back _ r′
+
+abbrev emptiedAt : DrainAnswer → Emptied
+emptiedAt x =
+    cond (eqb (x .no) 0) (emptied.Done (record { hits = x .hits; entered = x .entered; next = x .next })) (emptied.Refused (refusalAt (x .no)))
+
+emptied-back : (c : Cursor) (r : Emptied) → emptiedAt (drainPaper c r) ≡ r
+emptied-back c (emptied.Done d) = refl
+emptied-back c (emptied.Refused y) = rw (ne-eqb (refusalNumber y) 0 (omega (arith, number-pos y)), at-number y)
+
+pub drain-determined :
+    (κs : Lfts 3) (a : K.Dens κs drain-kinds.ps) (r r′ : K.resT drain-kinds.r κs .Denot) (s s′ : AtExit (K.endedOf 3 drain-kinds.ps drain-kinds.r) κs)
+    → drain-reads.Post κs a r s → drain-reads.Post κs a r′ s′ → (r ≡ r′) × (now (s .1 .1 .1 .1 .1 .1 .0) ≡ now (s′ .1 .1 .1 .1 .1 .1 .0))
+drain-determined κs a r r′ s s′ p q =
+    (sym (emptied-back _ r) ∙ ap emptiedAt (p .0 ∙ sym (q .0)) ∙ emptied-back _ r′, p .1 ∙ sym (q .1))

@@ -1,6 +1,6 @@
 -- What the code's tests and calls say of a rule, in the form that `search` takes.
 use mathlib.Core.Path.{_≡_, refl, ap, _∙_}
-use mathlib.Core.Bool.{Bool, true, false, cond, _&&_}
+use mathlib.Core.Bool.{Bool, true, false, _&&_}
 use mathlib.Core.List.{List}
 use Prim.Native.Nat.{ℕ, zero, suc, _-_, _*_, _/_, _^_, _<_, _≤_}
 use native.Mathlib.Omega.{arith}
@@ -15,11 +15,9 @@ use Rattle.words.specs.declared.interval.Interval.{Interval}
 use Rattle.words.specs.declared.ix.Link.{Link}
 use Rattle.words.specs.declared.ix.Link.the-variants.{Slot, Nil}
 use Rattle.words.proofs.Laws.{linked, unlinked}
-use Rattle.stack.specs.States.{marked, top}
+use Rattle.stack.specs.States.{marked}
 use Rattle.stack.specs.declared.ActionStack.{ActionStack}
 use Rattle.stack.proofs.Levels.{four-two}
-use Rattle.iter.specs.Walk.{Rules, enters, hits}
-use Rattle.iter.specs.Cursors.{stackOf}
 use Rattle.iter.specs.Overlap.{shouldGo, shouldGoLeft, shouldGoRight, meets}
 use Rattle.iter.specs.Exact.{shouldGoExact, equals, sorted, find}
 use Rattle.iter.specs.Queries.{rules}
@@ -128,9 +126,6 @@ module _ (n : ℕ) (c : Cursor) (p : Placed n c) (h : c .slot < n) where
 -- a test of the slot and another one
 pub outside : (n k : ℕ) (b : Bool) → n ≤ k → false ≡ (ltb k n && b)
 outside n k b h = rw (le-ltb k n h)
-
-pub inside : (n k : ℕ) (r b : Bool) → k < n → r ≡ b → r ≡ (ltb k n && b)
-inside n k r b h e = rw (lt-ltb k n h) e
 
 pub at-top : (n k t u v : ℕ) → k < n → t ≡ u → eqb t v ≡ (ltb k n && eqb u v)
 at-top n k t u v h e = rw (lt-ltb k n h, e)

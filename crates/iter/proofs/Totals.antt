@@ -1,5 +1,5 @@
 -- However many steps are taken, and whatever the words are, a walk enters no more nodes than a tree of 32 levels has ways down.
-use mathlib.Core.Path.{_≡_, refl, sym, ap, _∙_}
+use mathlib.Core.Path.{_≡_, refl, ap, _∙_}
 use mathlib.Core.Bool.{Bool, true, false, cond, _&&_}
 use mathlib.Core.List.{List, []}
 use Prim.Native.Nat.{ℕ, zero, suc, _+_, _-_, _*_, _^_, _<_, _≤_}
@@ -12,7 +12,7 @@ use Rattle.words.specs.Ix.{U}
 use Rattle.stack.specs.States.{stateAt, putState, top, marked, pushed, popped}
 use Rattle.stack.proofs.Levels.{state-put-same, state-put-other}
 use Rattle.iter.specs.Cursors.{stackOf, upTo, ended}
-use Rattle.iter.specs.Walk.{Rules, side, deeper, mark, down, move, enters, hits, counts, Answer, ending, hitting, seek, fuel, step}
+use Rattle.iter.specs.Walk.{Rules, side, deeper, mark, down, move, enters, hits, counts, ending, hitting, seek, fuel, step}
 use Rattle.iter.specs.Drains.{more, drain}
 use Rattle.iter.specs.Places.{Placed}
 use Rattle.iter.specs.declared.Cursor.{Cursor}

@@ -30,7 +30,8 @@ impl Cursor {
     ) -> Drained
         requires { ⌜ (count * 8 ≤ length (now nodes)) × (count ≤ 65535) × (limit ≤ length (now out)) × Placed count self ⌝ }
         ensures { λ r. ⌜ (r ≡ summary (drain (now (nodes .entry)) count (rules (now (nodes .entry)) count query) limit self))
-            × (now (out .exit) ≡ filled (drain (now (nodes .entry)) count (rules (now (nodes .entry)) count query) limit self .slots) (now (out .entry))) ⌝ }
+            × (now (out .exit)
+            ≡ filled (drain (now (nodes .entry)) count (rules (now (nodes .entry)) count query) limit self .slots) (now (out .entry))) ⌝ }
     {
         let mut cursor = self;
         let mut hits: u64 = 0;

@@ -13,8 +13,8 @@ ghost use mathlib.Core.Path.{_≡_};
 ghost use mathlib.Core.Bool.{true, false};
 ghost use Prim.Native.Nat.{_*_, _≤_, _<_};
 ghost use lib.ListN.{length};
-ghost use Rattle.iter.specs.Overlap.{shouldGoLeft, shouldGoRight, shouldGo, meets};
-ghost use Rattle.iter.specs.Exact.{shouldGoExact, equals, find, findFrom};
+ghost use Rattle.iter.specs.Overlap.{shouldGoLeft, shouldGoRight, shouldGo};
+ghost use Rattle.iter.specs.Exact.{shouldGoExact, find, findFrom};
 ghost use Rattle.iter.specs.Queries.{rules};
 
 // What is looked for: the entries that intersect a range, or those equal to an interval.

@@ -42,11 +42,12 @@ impl Cursor {
             if count <= cursor.slot {
                 return Step::End(entered);
             }
-            cursor = cursor.walk(nodes, count, query);
-            if cursor.is_hit(nodes, count, query) {
-                return Step::Hit(cursor, entered);
+            let next = cursor.walk(nodes, count, query);
+            if next.is_hit(nodes, count, query) {
+                return Step::Hit(next, entered);
             }
-            entered += cursor.counted(count);
+            entered += next.counted(count);
+            cursor = next;
             moves -= 1;
         }
         Step::End(entered)

@@ -101,7 +101,8 @@ impl Cursor {
     // From 00: left, or mark 01.
     fn left_or_mark(self, nodes: &[u64], count: u64, query: Query) -> Cursor
         requires { ⌜ (count * 8 ≤ length (now nodes)) × Live count self ⌝ }
-        ensures { λ r. ⌜ r ≡ cond (deeper (rules (now (nodes .entry)) count query) true self) (down (now (nodes .entry)) true self) (mark 2 self) ⌝ }
+        ensures { λ r. ⌜ r ≡ cond (deeper (rules (now (nodes .entry)) count query) true self)
+            (down (now (nodes .entry)) true self) (mark 2 self) ⌝ }
     {
         if self.goes_down(nodes, count, query, true) {
             self.down(nodes, true)

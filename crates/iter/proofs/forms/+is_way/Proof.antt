@@ -12,6 +12,7 @@ use Rattle.words.proofs.node.parent_of.Reads as parent-of-reads
 use Rattle.iter.proofs.forms.+is_way.{statement}
 use Rattle.iter.proofs.forms.+is_way.Tie.{close}
 
+-- the links that are left
 abbrev μ-is-way : Measures 1 is-way-kinds.ps ℕ
 μ-is-way κs a = a .1 .1 .1 .1 .0
 

@@ -13,6 +13,7 @@ use Rattle.words.proofs.node.interval_of.Reads as interval-of-reads
 use Rattle.iter.proofs.rules.+find_below.{statement}
 use Rattle.iter.proofs.rules.+find_below.Tie.{close}
 
+-- the height that is left
 abbrev μ-find-below : Measures 1 find-below-kinds.ps ℕ
 μ-find-below κs a = a .1 .1 .1 .1 .0
 
