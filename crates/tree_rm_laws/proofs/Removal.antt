@@ -2,7 +2,7 @@
 -- Shape and slots: Links, Stand, Turns, Nephew, Moves. Entries and order: Carried, Rows, Rename. Hulls: Beside, Walk.
 -- Colours: Paint, Fits, Recolour, Repaint.
 -- They are joined along the rule: Vacate, Steps, Spot and Prepare up to the repair, Weight, Loop and Repaired for the repair itself, Cut and
--- Landing for what comes after it, Pairs for the pairs. Low, Mended and Inside hold on any words, whatever tree there is.
+-- Landing for what comes after it, PairLaws for the pairs. Low, Mended and Inside hold on any words, whatever tree there is.
 use mathlib.Core.Path.{_≡_, refl, ap, _∙_}
 use mathlib.Core.Logic.{_≢_}
 use mathlib.Core.Bool.{Bool, true, false, cond}
