@@ -2,5 +2,6 @@ pub mod Checks
 pub mod Builds
 pub mod Removals
 pub mod Lookups
+pub mod Found
 pub mod Laws
 pub mod Determined
