@@ -107,7 +107,10 @@ class Drive:
     def do_fresh(self, numbers):
         query = numbers.query()
         numbers.end()
-        return f"0 {model.first(self.store, query)} 1 0"
+        if query[0] == "o":
+            return f"0 {self.store.root} 1 0"
+        no = model.refuse_store(self.store) or model.refuse_query(query)
+        return f"{no} {U} 0 0" if no else f"0 {model.first(self.store, query)} 1 0"
 
     def do_step(self, numbers):
         query, cursor = numbers.query(), numbers.cursor()
