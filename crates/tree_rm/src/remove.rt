@@ -114,7 +114,7 @@ fn leftmost_from(nodes: &[u64], count: u64, k: u64, height: u64) -> u64
 }
 
 // The slot to vacate for slot ix: the minimal node in the right subtree, where there is one. Document 01 keeps the file's
-// doubled test of the right link; that a test of both links gives the same store is proved of `removeRule′`.
+// doubled test of the right link; that a test of both links gives the same store is `harmless` of tree_rm_laws.
 fn slot_to_vacate(nodes: &[u64], count: u64, ix: u64) -> u64
     requires { ⌜ (count * 8 ≤ length (now nodes)) × (ix < count) ⌝ }
     ensures { λ r. ⌜ (r ≡ vacated count (now (nodes .entry)) ix) × (r < count) ⌝ }

@@ -1,5 +1,5 @@
 -- Links between slots, and the hulls up to the root, as `src/tree_rm.rs` writes them.
-use mathlib.Core.Bool.{Bool, true, false}
+use mathlib.Core.Bool.{Bool, true}
 use mathlib.Core.List.{List}
 use Prim.Native.Nat.{ℕ, zero, suc}
 use lib.Dec.{eqb}
