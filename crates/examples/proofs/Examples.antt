@@ -1,0 +1,31 @@
+-- The table, by computing each rule.
+use mathlib.Core.Path.{refl}
+use Rattle.words.specs.Ix.{onLink}
+use Rattle.words.specs.Nodes.{word, put, putEntry, putHull, swap, joined, hullOf, fix, putNode}
+use Rattle.bitvec.specs.Bits.{bit, put as putBit, bitAt, setBit}
+use Rattle.audit.specs.Survey.{survey, wholeOf}
+use Rattle.builder.specs.Input.{startOf, endOf, valueOf, every, properAt, inOrder, allProper, sorted as sortedList}
+use Rattle.builder.specs.Build.{spanHull, spanWords, painted, log, levels, buildWords, buildColours, buildRoot}
+use Rattle.tree_rm_laws.specs.Links.{adopt, setChild, redirected, removeChild, redirect, replaced, rootAfter, fixUp}
+use Rattle.tree_rm_laws.specs.Repair.{turn, turn-2, turn-4, dyeAt, choose, turnOf, turnAt, step, repair}
+use Rattle.tree_rm_laws.specs.Pairs.{instead, emptied, home, named, lower, upper, sorted, moved}
+use Rattle.tree_rm_laws.specs.Remove.{leftmost, vacated, exchanged, child, restructure, handed, above, cutWords, cutRoot, copied, relinked, cleared, swapRemove, finish, removeFrom, removeRule}
+use Rattle.stack.specs.States.{stateAt, putState, top, marked, pushed, popped}
+use Rattle.iter.specs.Cursors.{upTo}
+use Rattle.iter.specs.Walk.{deeper, mark, down, move, enters, hits, seek, step as stepOf}
+use Rattle.iter.specs.Drains.{drain, filled}
+use Rattle.iter.specs.Forms.{onSide, formed, heldForm, formOf}
+use Rattle.iter.specs.Overlap.{meets, shouldGo}
+use Rattle.iter.specs.Exact.{equals, sorted as sortedBy, shouldGoExact, find}
+use Rattle.iter.specs.Queries.{rules}
+use Rattle.iset.specs.Check.{checkRule}
+use Rattle.iset.specs.Build.{buildNumber, buildRule, buildNodes, buildColour}
+use Rattle.iset.specs.Remove.{removeNumber, removeCall, removeNodes, removeColours}
+use Rattle.iset.specs.Lookup.{startNumber, stepNumber, drainNumber, startCall, stepCall, drainCall, drainOutput}
+use Rattle.examples.specs.Stores.{buildIn, _minus_, treeAt, treeOf, touched, boundOf}
+use Rattle.examples.specs.Rows.{Each, outcome, stepsFrom, foundFrom, tell}
+use Rattle.examples.specs.Table.{storeA, storeB, table}
+
+pub examples : Each table
+unfolding onLink word put putEntry putHull swap joined hullOf fix putNode bit putBit bitAt setBit survey wholeOf startOf endOf valueOf every properAt inOrder allProper sortedList spanHull spanWords painted log levels buildWords buildColours buildRoot adopt setChild redirected removeChild redirect replaced rootAfter fixUp turn turn-2 turn-4 dyeAt choose turnOf turnAt step repair instead emptied home named lower upper sorted moved leftmost vacated exchanged child restructure handed above cutWords cutRoot copied relinked cleared swapRemove finish removeFrom removeRule stateAt putState top marked pushed popped upTo deeper mark down move enters hits seek stepOf drain filled onSide formed heldForm formOf meets shouldGo equals sortedBy shouldGoExact find rules checkRule buildNumber buildRule buildNodes buildColour removeNumber removeCall removeNodes removeColours startNumber stepNumber drainNumber startCall stepCall drainCall drainOutput buildIn _minus_ treeAt treeOf touched boundOf outcome stepsFrom foundFrom tell storeA storeB
+examples = (refl, (refl, (refl, (refl, (refl, (refl, (refl, (refl, (refl, (refl, (refl, (refl, (refl, (refl, (refl, (refl, (refl, (refl, (refl, (refl, record {}))))))))))))))))))))

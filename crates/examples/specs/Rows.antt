@@ -1,0 +1,137 @@
+-- A row of the table: what is asked of the public calls' rules, and what they tell.
+use mathlib.Core.Path.{_≡_}
+use mathlib.Core.Bool.{false, cond}
+use mathlib.Core.List.{List, [], _∷_}
+use Prim.Native.Nat.{ℕ, zero, suc}
+use lib.Dec.{eqb}
+use lib.ListN.{replicate, take}
+use Rattle.words.specs.Nodes.{kid}
+use Rattle.words.specs.declared.interval.Bound.{Bound}
+use Rattle.words.specs.declared.interval.Interval.{Interval}
+use Rattle.words.specs.declared.interval.Span.{Span}
+use Rattle.tree.specs.Tree.{Tree, height}
+use Rattle.tree_rm_laws.specs.Pairs.{none}
+use Rattle.tree_rm_laws.specs.declared.pairs.Pair.{Pair}
+use Rattle.tree_rm_laws.specs.declared.pairs.Pairs.{Pairs}
+use Rattle.iter.specs.Cursors.{fresh}
+use Rattle.iter.specs.declared.Cursor.{Cursor}
+use Rattle.iter.specs.declared.rules.Query.{Query}
+use Rattle.iter.specs.declared.rules.Query.the-variants.{Overlap, Exact}
+use Rattle.iset.specs.Build.{BuildAnswer, buildRule}
+use Rattle.iset.specs.Remove.{RemoveAnswer, removeCall, removeColours}
+use Rattle.iset.specs.Lookup.{StartAnswer, StepAnswer, DrainAnswer, startCall, stepCall, drainCall, drainOutput}
+use Rattle.examples.specs.Stores.{Store, buildIn, treeOf, touched, boundOf}
+
+infix 70 _to_
+infix 70 _entering_
+infix 68 _gives_
+
+-- a pair (old slot, new slot); and three pairs from those that are used: "unused pairs are (U, U)"
+abbrev pub _to_ : ℕ → ℕ → Pair
+_to_ a b = record { old = a; new = b }
+
+abbrev pub pairs : List Pair → Pairs
+pairs [] = record { first = none; second = none; third = none }
+pairs (a ∷ []) = record { first = a; second = none; third = none }
+pairs (a ∷ b ∷ []) = record { first = a; second = b; third = none }
+pairs (a ∷ b ∷ c ∷ l) = record { first = a; second = b; third = c }
+
+-- "Each step answers a hit with its slot, or the end, with .. the nodes entered in this call"; or it is refused, with the refusal's number
+pub data Outcome : Type 0 where
+  hit : ℕ → Outcome
+  end : Outcome
+  refused : ℕ → Outcome
+
+pub data Step : Type 0 where
+  _entering_ : Outcome → ℕ → Step
+
+-- What is asked. A build has so many words and so many bytes, all of them 0. A lookup runs from its fresh cursor to the end; a step is its first
+-- step. `right` asks for the right link of a slot.
+pub data Call : Type 0 where
+  build : ℕ → ℕ → List ℕ → Call
+  remove : Store → ℕ → Call
+  right : Store → ℕ → Call
+  overlap : Store → Bound → Bound → Call
+  step : Store → Bound → Bound → Call
+  exact : Store → Interval → Call
+
+-- what a build leaves: its tree says each node's children
+pub record Left : Type 0 where
+  pub tree : Tree
+  pub colours : List ℕ
+  pub h : ℕ
+  pub words : List ℕ
+
+-- what a lookup finds: step by step, and by a drain with the limit 0, the slots that it writes and the nodes that it enters
+pub record Found : Type 0 where
+  pub steps : List Step
+  pub hits : List ℕ
+  pub entered : ℕ
+
+-- t, and the bound
+pub record Limits : Type 0 where
+  pub t : ℕ
+  pub bound : ℕ
+
+-- What is told: whole answers, and what is left of the store.
+pub data Told : Type 0 where
+  built : BuildAnswer → Left → Told
+  removed : RemoveAnswer → List ℕ → Told
+  link : ℕ → Told
+  found : Found → Limits → Told
+  stepped : StepAnswer → Told
+  equals : StartAnswer → Found → Told
+
+pub data Row : Type 0 where
+  _gives_ : Call → Told → Row
+
+-- of a step's answer: what it is
+unfoldable pub outcome : StepAnswer → Outcome
+outcome a = cond (eqb (a .no) 0) (cond (a .hit) (hit (a .slot)) end) (refused (a .no))
+
+-- the steps from a cursor on, up to the first that is no hit, and k at the most
+unfoldable pub stepsFrom : Store → Query → ℕ → Cursor → List Step
+stepsFrom t q zero c = []
+stepsFrom t q (suc k) c =
+    let a : StepAnswer = stepCall (t .map) (t .words) (t .colours) q c in
+    let rest : List Step = stepsFrom t q k (a .next) in
+    (outcome a entering a .entered) ∷ cond (a .hit) rest []
+
+-- from a cursor on; "limit 0 means 64", so the output has 64 places
+unfoldable pub foundFrom : Store → Query → Cursor → Found
+foundFrom t q c =
+    let d : DrainAnswer = drainCall (t .map) (t .words) (t .colours) q c 0 64 in
+    record {
+      steps = stepsFrom t q (suc (t .map .count)) c;
+      hits = take (d .hits) (drainOutput (t .map) (t .words) (t .colours) q c 0 (replicate 64 0));
+      entered = d .entered;
+    }
+
+abbrev pub span : Bound → Bound → Span
+span lo hi = record { lo = lo; hi = hi }
+
+-- what the rules of the public calls tell
+unfoldable pub tell : Call → Told
+tell (build words bytes S) =
+    let t : Store = buildIn words bytes S in
+    built
+    (buildRule (replicate words 0) (replicate bytes 0) S)
+    (record { tree = treeOf t; colours = t .colours; h = height (treeOf t); words = t .words })
+tell (remove t s) = removed (removeCall (t .map) (t .words) (t .colours) s) (removeColours (t .map) (t .words) (t .colours) s)
+tell (right t s) = link (kid (t .words) false s)
+tell (overlap t lo hi) =
+    found
+    (foundFrom t (Overlap (span lo hi)) (fresh (t .map .root)))
+    (record { t = touched t (span lo hi); bound = boundOf t (span lo hi) })
+tell (step t lo hi) = stepped (stepCall (t .map) (t .words) (t .colours) (Overlap (span lo hi)) (fresh (t .map .root)))
+tell (exact t x) =
+    let a : StartAnswer = startCall (t .map) (t .words) (t .colours) x in
+    equals a (foundFrom t (Exact x) (a .cursor))
+
+-- a row holds if the rules tell what it says; a table, if each of its rows holds
+abbrev pub Holds : Row → Type 0
+Holds (c gives a) = tell c ≡ a
+
+abbrev pub Each : List Row → Type 0
+Each [] = Unit {0}
+Each (r ∷ rows) = Holds r × Each rows

@@ -1,0 +1,108 @@
+-- "Examples to hold it against": every case that is marked (*), in the document's order and beside its words.
+use mathlib.Core.Bool.{false}
+use mathlib.Core.List.{List, [], _∷_}
+use Prim.Native.Nat.{ℕ}
+use Rattle.words.specs.Ix.{U}
+use Rattle.words.specs.Refusals.{refusalNumber}
+use Rattle.words.specs.declared.interval.Bound.the-variants.{Included, Excluded, Unbounded}
+use Rattle.words.specs.declared.interval.Interval.{Interval}
+use Rattle.words.specs.declared.refusal.Refusal.the-variants.{NoSuch, BadRange}
+use Rattle.tree.specs.Tree.{Tree, leaf, node}
+use Rattle.iter.specs.Cursors.{fresh, ended}
+use Rattle.examples.specs.Stores.{Store, buildIn, _minus_}
+use Rattle.examples.specs.Rows.{Row, _gives_, _to_, pairs, _entering_, hit, end, build, remove, right, overlap, step, exact, built, removed, link, found, stepped, equals}
+
+infix 70 _until_
+
+-- "Store A, built from [10,20) 1, [10,30) 2, [25,40) 3, [40,50) 4, [45,60) 5", in 40 words and a byte
+abbrev pub listA : List ℕ
+listA = 10 ∷ 20 ∷ 1 ∷ 10 ∷ 30 ∷ 2 ∷ 25 ∷ 40 ∷ 3 ∷ 40 ∷ 50 ∷ 4 ∷ 45 ∷ 60 ∷ 5 ∷ []
+
+unfoldable pub storeA : Store
+storeA = buildIn 40 1 listA
+
+-- "Store B, three times [5,9) with values 1, 2, 3", in 24 words and a byte
+abbrev pub listB : List ℕ
+listB = 5 ∷ 9 ∷ 1 ∷ 5 ∷ 9 ∷ 2 ∷ 5 ∷ 9 ∷ 3 ∷ []
+
+unfoldable pub storeB : Store
+storeB = buildIn 24 1 listB
+
+-- a node without children
+abbrev pub only : ℕ → Tree
+only s = node leaf s leaf
+
+-- the interval [a, b)
+abbrev pub _until_ : ℕ → ℕ → Interval
+_until_ a b = record { start = a; end = b }
+
+abbrev pub table : List Row
+table =
+    -- "root 2; 2 has 1 and 4; 1 has left 0; 4 has left 3; colours 9; h = 3." A line of words a slot.
+    build 40 1 listA gives built (record { no = 0; count = 5; root = 2 }) (record {
+      tree = node (node (only 0) 1 leaf) 2 (node (only 3) 4 leaf);
+      colours = 9 ∷ [];
+      h = 3;
+      words =
+        10 ∷ 20 ∷ 1 ∷ 10 ∷ 20 ∷ U ∷ U ∷ 1 ∷
+        10 ∷ 30 ∷ 2 ∷ 10 ∷ 30 ∷ 0 ∷ U ∷ 2 ∷
+        25 ∷ 40 ∷ 3 ∷ 10 ∷ 60 ∷ 1 ∷ 4 ∷ U ∷
+        40 ∷ 50 ∷ 4 ∷ 40 ∷ 50 ∷ U ∷ U ∷ 4 ∷
+        45 ∷ 60 ∷ 5 ∷ 40 ∷ 60 ∷ 3 ∷ U ∷ 2 ∷ [];
+    }) ∷
+    -- "remove 0: value 1, pairs (4,0), colours 8, root 2."
+    remove storeA 0 gives removed (record { no = 0; value = 1; count = 4; root = 2; pairs = pairs (4 to 0 ∷ []) }) (8 ∷ []) ∷
+    -- "remove 1: value 2, pairs (0,1), (4,0), colours 8."
+    remove storeA 1 gives removed (record { no = 0; value = 2; count = 4; root = 2; pairs = pairs (0 to 1 ∷ 4 to 0 ∷ []) }) (8 ∷ []) ∷
+    -- "remove 2: value 3, pairs (3,2), (4,3), colours 1."
+    remove storeA 2 gives removed (record { no = 0; value = 3; count = 4; root = 2; pairs = pairs (3 to 2 ∷ 4 to 3 ∷ []) }) (1 ∷ []) ∷
+    -- "remove 4: value 5, no pairs, colours 1, the root's right link is 3."
+    remove storeA 4 gives removed (record { no = 0; value = 5; count = 4; root = 2; pairs = pairs [] }) (1 ∷ []) ∷
+    right (storeA minus 4) 2 gives link 3 ∷
+    -- "remove 5 or U: NoSuch."
+    remove storeA 5 gives removed (record { no = refusalNumber NoSuch; value = 0; count = 5; root = 2; pairs = pairs [] }) (9 ∷ []) ∷
+    remove storeA U gives removed (record { no = refusalNumber NoSuch; value = 0; count = 5; root = 2; pairs = pairs [] }) (9 ∷ []) ∷
+    -- "Included 20, Excluded 25: hit 1 with 3 entered, then end with 0; t = 2, bound 9."
+    overlap storeA (Included 20) (Excluded 25) gives
+      found (record { steps = hit 1 entering 3 ∷ end entering 0 ∷ []; hits = 1 ∷ []; entered = 3 }) (record { t = 2; bound = 9 }) ∷
+    -- "Included 60, Excluded 70: end with 2 entered; t = 1, bound 6."
+    overlap storeA (Included 60) (Excluded 70) gives
+      found (record { steps = end entering 2 ∷ []; hits = []; entered = 2 }) (record { t = 1; bound = 6 }) ∷
+    -- "Excluded 20, Included 25: hits 1, 2; 3 entered."
+    overlap storeA (Excluded 20) (Included 25) gives
+      found (record { steps = hit 1 entering 3 ∷ hit 2 entering 0 ∷ end entering 0 ∷ []; hits = 1 ∷ 2 ∷ []; entered = 3 }) (record { t = 3; bound = 12 }) ∷
+    -- "Unbounded both: 0, 1, 2, 3, 4; 5 entered; bound 18."
+    overlap storeA Unbounded Unbounded gives
+      found (record {
+        steps =
+          hit 0 entering 3 ∷ hit 1 entering 0 ∷ hit 2 entering 0 ∷ hit 3 entering 2 ∷ hit 4 entering 0 ∷ end entering 0 ∷ [];
+        hits = 0 ∷ 1 ∷ 2 ∷ 3 ∷ 4 ∷ [];
+        entered = 5;
+      }) (record { t = 5; bound = 18 }) ∷
+    -- "Excluded 7, Included 7: BadRange; Included both: accepted."
+    step storeA (Excluded 7) (Included 7) gives stepped (record { no = refusalNumber BadRange; hit = false; slot = U; next = fresh 2; entered = 0 }) ∷
+    step storeA (Included 7) (Included 7) gives stepped (record { no = 0; hit = false; slot = U; next = ended; entered = 3 }) ∷
+    -- "Store B .. root 1, all black."
+    build 24 1 listB gives built (record { no = 0; count = 3; root = 1 }) (record {
+      tree = node (only 0) 1 (only 2);
+      colours = 0 ∷ [];
+      h = 2;
+      words =
+        5 ∷ 9 ∷ 1 ∷ 5 ∷ 9 ∷ U ∷ U ∷ 1 ∷
+        5 ∷ 9 ∷ 2 ∷ 5 ∷ 9 ∷ 0 ∷ 2 ∷ U ∷
+        5 ∷ 9 ∷ 3 ∷ 5 ∷ 9 ∷ U ∷ U ∷ 1 ∷ [];
+    }) ∷
+    -- "exact [5,9): 0, 1, 2. Exact [5,8): end at once."
+    exact storeB (5 until 9) gives equals (record { no = 0; cursor = fresh 1 }) (record {
+      steps = hit 0 entering 2 ∷ hit 1 entering 0 ∷ hit 2 entering 1 ∷ end entering 0 ∷ [];
+      hits = 0 ∷ 1 ∷ 2 ∷ [];
+      entered = 3;
+    }) ∷
+    exact storeB (5 until 8) gives equals (record { no = 0; cursor = fresh U }) (record { steps = end entering 0 ∷ []; hits = []; entered = 0 }) ∷
+    -- "remove 0: value 1, pair (2,0), colour byte 5, count 2."
+    remove storeB 0 gives removed (record { no = 0; value = 1; count = 2; root = 1; pairs = pairs (2 to 0 ∷ []) }) (5 ∷ []) ∷
+    -- "Then remove 1: value 2, no pairs, root 0, byte 4."
+    remove (storeB minus 0) 1 gives removed (record { no = 0; value = 2; count = 1; root = 0; pairs = pairs [] }) (4 ∷ []) ∷
+    -- "Then remove 0: value 3, root U."
+    remove (storeB minus 0 minus 1) 0 gives removed (record { no = 0; value = 3; count = 0; root = U; pairs = pairs [] }) (4 ∷ []) ∷
+    []
