@@ -25,7 +25,6 @@ use Rattle.examples.specs.Stores.{Store, buildIn, treeOf, touched, bound
 infix 70 _to_
 infix 70 _entering_
 infix 68 _gives_
-
 -- a pair (old slot, new slot); and three pairs from those that are used: "unused pairs are (U, U)"
 abbrev pub _to_ : ℕ → ℕ → Pair
 _to_ a b = record { old = a; new = b }

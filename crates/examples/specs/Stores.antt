@@ -14,7 +14,6 @@ use Rattle.iset.specs.Remove.{removeCall, removeNodes, removeColours}
 use Rattle.iset.specs.declared.Map.{Map}
 
 infixl 75 _minus_
-
 -- "A map is a count and a root by value, with two lent slices."
 pub record Store : Type 0 where
   pub map : Map

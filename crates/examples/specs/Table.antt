@@ -13,7 +13,6 @@ use Rattle.examples.specs.Stores.{Store, buildIn, _minus_}
 use Rattle.examples.specs.Rows.{Row, _gives_, _to_, pairs, _entering_, hit, end, build, remove, right, overlap, step, exact, built, removed, link, found, stepped, equals}
 
 infix 70 _until_
-
 -- "Store A, built from [10,20) 1, [10,30) 2, [25,40) 3, [40,50) 4, [45,60) 5", in 40 words and a byte
 abbrev pub listA : List ℕ
 listA = 10 ∷ 20 ∷ 1 ∷ 10 ∷ 30 ∷ 2 ∷ 25 ∷ 40 ∷ 3 ∷ 40 ∷ 50 ∷ 4 ∷ 45 ∷ 60 ∷ 5 ∷ []
@@ -44,11 +43,11 @@ table =
       colours = 9 ∷ [];
       h = 3;
       words =
-        10 ∷ 20 ∷ 1 ∷ 10 ∷ 20 ∷ U ∷ U ∷ 1 ∷
-        10 ∷ 30 ∷ 2 ∷ 10 ∷ 30 ∷ 0 ∷ U ∷ 2 ∷
-        25 ∷ 40 ∷ 3 ∷ 10 ∷ 60 ∷ 1 ∷ 4 ∷ U ∷
-        40 ∷ 50 ∷ 4 ∷ 40 ∷ 50 ∷ U ∷ U ∷ 4 ∷
-        45 ∷ 60 ∷ 5 ∷ 40 ∷ 60 ∷ 3 ∷ U ∷ 2 ∷ [];
+          10 ∷ 20 ∷ 1 ∷ 10 ∷ 20 ∷ U ∷ U ∷ 1 ∷
+          10 ∷ 30 ∷ 2 ∷ 10 ∷ 30 ∷ 0 ∷ U ∷ 2 ∷
+          25 ∷ 40 ∷ 3 ∷ 10 ∷ 60 ∷ 1 ∷ 4 ∷ U ∷
+          40 ∷ 50 ∷ 4 ∷ 40 ∷ 50 ∷ U ∷ U ∷ 4 ∷
+          45 ∷ 60 ∷ 5 ∷ 40 ∷ 60 ∷ 3 ∷ U ∷ 2 ∷ [];
     }) ∷
     -- "remove 0: value 1, pairs (4,0), colours 8, root 2."
     remove storeA 0 gives removed (record { no = 0; value = 1; count = 4; root = 2; pairs = pairs (4 to 0 ∷ []) }) (8 ∷ []) ∷
@@ -64,21 +63,21 @@ table =
     remove storeA U gives removed (record { no = refusalNumber NoSuch; value = 0; count = 5; root = 2; pairs = pairs [] }) (9 ∷ []) ∷
     -- "Included 20, Excluded 25: hit 1 with 3 entered, then end with 0; t = 2, bound 9."
     overlap storeA (Included 20) (Excluded 25) gives
-      found (record { steps = hit 1 entering 3 ∷ end entering 0 ∷ []; hits = 1 ∷ []; entered = 3 }) (record { t = 2; bound = 9 }) ∷
+    found (record { steps = hit 1 entering 3 ∷ end entering 0 ∷ []; hits = 1 ∷ []; entered = 3 }) (record { t = 2; bound = 9 }) ∷
     -- "Included 60, Excluded 70: end with 2 entered; t = 1, bound 6."
     overlap storeA (Included 60) (Excluded 70) gives
-      found (record { steps = end entering 2 ∷ []; hits = []; entered = 2 }) (record { t = 1; bound = 6 }) ∷
+    found (record { steps = end entering 2 ∷ []; hits = []; entered = 2 }) (record { t = 1; bound = 6 }) ∷
     -- "Excluded 20, Included 25: hits 1, 2; 3 entered."
     overlap storeA (Excluded 20) (Included 25) gives
-      found (record { steps = hit 1 entering 3 ∷ hit 2 entering 0 ∷ end entering 0 ∷ []; hits = 1 ∷ 2 ∷ []; entered = 3 }) (record { t = 3; bound = 12 }) ∷
+    found (record { steps = hit 1 entering 3 ∷ hit 2 entering 0 ∷ end entering 0 ∷ []; hits = 1 ∷ 2 ∷ []; entered = 3 }) (record { t = 3; bound = 12 }) ∷
     -- "Unbounded both: 0, 1, 2, 3, 4; 5 entered; bound 18."
     overlap storeA Unbounded Unbounded gives
-      found (record {
-        steps =
+    found (record {
+      steps =
           hit 0 entering 3 ∷ hit 1 entering 0 ∷ hit 2 entering 0 ∷ hit 3 entering 2 ∷ hit 4 entering 0 ∷ end entering 0 ∷ [];
-        hits = 0 ∷ 1 ∷ 2 ∷ 3 ∷ 4 ∷ [];
-        entered = 5;
-      }) (record { t = 5; bound = 18 }) ∷
+      hits = 0 ∷ 1 ∷ 2 ∷ 3 ∷ 4 ∷ [];
+      entered = 5;
+    }) (record { t = 5; bound = 18 }) ∷
     -- "Excluded 7, Included 7: BadRange; Included both: accepted."
     step storeA (Excluded 7) (Included 7) gives stepped (record { no = refusalNumber BadRange; hit = false; slot = U; next = fresh 2; entered = 0 }) ∷
     step storeA (Included 7) (Included 7) gives stepped (record { no = 0; hit = false; slot = U; next = ended; entered = 3 }) ∷
@@ -88,9 +87,9 @@ table =
       colours = 0 ∷ [];
       h = 2;
       words =
-        5 ∷ 9 ∷ 1 ∷ 5 ∷ 9 ∷ U ∷ U ∷ 1 ∷
-        5 ∷ 9 ∷ 2 ∷ 5 ∷ 9 ∷ 0 ∷ 2 ∷ U ∷
-        5 ∷ 9 ∷ 3 ∷ 5 ∷ 9 ∷ U ∷ U ∷ 1 ∷ [];
+          5 ∷ 9 ∷ 1 ∷ 5 ∷ 9 ∷ U ∷ U ∷ 1 ∷
+          5 ∷ 9 ∷ 2 ∷ 5 ∷ 9 ∷ 0 ∷ 2 ∷ U ∷
+          5 ∷ 9 ∷ 3 ∷ 5 ∷ 9 ∷ U ∷ U ∷ 1 ∷ [];
     }) ∷
     -- "exact [5,9): 0, 1, 2. Exact [5,8): end at once."
     exact storeB (5 until 9) gives equals (record { no = 0; cursor = fresh 1 }) (record {
