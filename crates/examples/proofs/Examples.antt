@@ -26,6 +26,43 @@ use Rattle.examples.specs.Stores.{buildIn, _minus_, treeAt, treeOf, touc
 use Rattle.examples.specs.Rows.{Each, outcome, stepsFrom, foundFrom, tell}
 use Rattle.examples.specs.Table.{storeA, storeB, table}
 
+-- What the rows compute with, layer by layer: to unfold one of these is to unfold all that its line names.
+words : Unit {0}
+unfolding onLink word put putEntry putHull swap joined hullOf fix putNode bit putBit bitAt setBit
+words = record {}
+
+building : Unit {0}
+unfolding startOf endOf valueOf every properAt inOrder allProper sortedList spanHull spanWords painted log levels buildWords buildColours buildRoot
+building = record {}
+
+linking : Unit {0}
+unfolding adopt setChild redirected removeChild redirect replaced rootAfter fixUp turn turn-2 turn-4 dyeAt choose turnOf turnAt step repair
+linking = record {}
+
+removing : Unit {0}
+unfolding leftmost vacated exchanged child restructure handed above cutWords cutRoot copied relinked cleared swapRemove finish removeFrom removeRule
+removing = record {}
+
+naming : Unit {0}
+unfolding instead emptied home named lower upper sorted moved
+naming = record {}
+
+walking : Unit {0}
+unfolding stateAt putState top marked pushed popped upTo deeper mark down move enters hits seek stepOf drain filled onSide formed heldForm formOf
+walking = record {}
+
+looking : Unit {0}
+unfolding meets shouldGo equals sortedBy shouldGoExact find rules
+looking = record {}
+
+calling : Unit {0}
+unfolding survey wholeOf checkRule buildNumber buildRule buildNodes buildColour removeNumber removeCall removeNodes removeColours
+calling = record {}
+
+finding : Unit {0}
+unfolding startNumber stepNumber drainNumber startCall stepCall drainCall drainOutput
+finding = record {}
+
 pub examples : Each table
-unfolding onLink word put putEntry putHull swap joined hullOf fix putNode bit putBit bitAt setBit survey wholeOf startOf endOf valueOf every properAt inOrder allProper sortedList spanHull spanWords painted log levels buildWords buildColours buildRoot adopt setChild redirected removeChild redirect replaced rootAfter fixUp turn turn-2 turn-4 dyeAt choose turnOf turnAt step repair instead emptied home named lower upper sorted moved leftmost vacated exchanged child restructure handed above cutWords cutRoot copied relinked cleared swapRemove finish removeFrom removeRule stateAt putState top marked pushed popped upTo deeper mark down move enters hits seek stepOf drain filled onSide formed heldForm formOf meets shouldGo equals sortedBy shouldGoExact find rules checkRule buildNumber buildRule buildNodes buildColour removeNumber removeCall removeNodes removeColours startNumber stepNumber drainNumber startCall stepCall drainCall drainOutput buildIn _minus_ treeAt treeOf touched boundOf outcome stepsFrom foundFrom tell storeA storeB
+unfolding words building linking removing naming walking looking calling finding buildIn _minus_ treeAt treeOf touched boundOf outcome stepsFrom foundFrom tell storeA storeB
 examples = (refl, (refl, (refl, (refl, (refl, (refl, (refl, (refl, (refl, (refl, (refl, (refl, (refl, (refl, (refl, (refl, (refl, (refl, (refl, (refl, record {}))))))))))))))))))))

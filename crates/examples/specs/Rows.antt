@@ -22,18 +22,21 @@ use Rattle.iset.specs.Remove.{RemoveAnswer, removeCall, removeColours}
 use Rattle.iset.specs.Lookup.{StartAnswer, StepAnswer, DrainAnswer, startCall, stepCall, drainCall, drainOutput}
 use Rattle.examples.specs.Stores.{Store, buildIn, treeOf, touched, boundOf}
 
+-- a pair (old slot, new slot)
 infix 70 _to_
-infix 70 _entering_
-infix 68 _gives_
--- a pair (old slot, new slot); and three pairs from those that are used: "unused pairs are (U, U)"
 abbrev pub _to_ : ℕ → ℕ → Pair
 _to_ a b = record { old = a; new = b }
 
-abbrev pub pairs : List Pair → Pairs
-pairs [] = record { first = none; second = none; third = none }
-pairs (a ∷ []) = record { first = a; second = none; third = none }
-pairs (a ∷ b ∷ []) = record { first = a; second = b; third = none }
-pairs (a ∷ b ∷ c ∷ l) = record { first = a; second = b; third = c }
+-- the three pairs from those that are used: "unused pairs are (U, U)"
+abbrev pub moved : List Pair → Pairs
+moved [] = record { first = none; second = none; third = none }
+moved (a ∷ []) = record { first = a; second = none; third = none }
+moved (a ∷ b ∷ []) = record { first = a; second = b; third = none }
+moved (a ∷ b ∷ c ∷ l) = record { first = a; second = b; third = c }
+
+-- the colour bytes, where there is one
+abbrev pub colours : ℕ → List ℕ
+colours b = b ∷ []
 
 -- "Each step answers a hit with its slot, or the end, with .. the nodes entered in this call"; or it is refused, with the refusal's number
 pub data Outcome : Type 0 where
@@ -41,15 +44,16 @@ pub data Outcome : Type 0 where
   end : Outcome
   refused : ℕ → Outcome
 
+infix 70 _entering_
 pub data Step : Type 0 where
   _entering_ : Outcome → ℕ → Step
 
--- What is asked. A build has so many words and so many bytes, all of them 0. A lookup runs from its fresh cursor to the end; a step is its first
--- step. `right` asks for the right link of a slot.
+-- What is asked. A build has so many words and so many bytes, all of them 0. `rootRight` asks for the root's right link. A lookup runs from its
+-- fresh cursor to the end; a step is its first step.
 pub data Call : Type 0 where
   build : ℕ → ℕ → List ℕ → Call
   remove : Store → ℕ → Call
-  right : Store → ℕ → Call
+  rootRight : Store → Call
   overlap : Store → Bound → Bound → Call
   step : Store → Bound → Bound → Call
   exact : Store → Interval → Call
@@ -57,7 +61,7 @@ pub data Call : Type 0 where
 -- what a build leaves: its tree says each node's children
 pub record Left : Type 0 where
   pub tree : Tree
-  pub colours : List ℕ
+  pub bytes : List ℕ
   pub h : ℕ
   pub words : List ℕ
 
@@ -72,15 +76,16 @@ pub record Limits : Type 0 where
   pub t : ℕ
   pub bound : ℕ
 
--- What is told: whole answers, and what is left of the store.
+-- What is told. Of a removal: its answer, and the colour bytes that it leaves. Of an exact lookup: the answer of `fresh_exact`, and what is found.
 pub data Told : Type 0 where
   built : BuildAnswer → Left → Told
   removed : RemoveAnswer → List ℕ → Told
   link : ℕ → Told
   found : Found → Limits → Told
   stepped : StepAnswer → Told
-  equals : StartAnswer → Found → Told
+  started : StartAnswer → Found → Told
 
+infix 68 _gives_
 pub data Row : Type 0 where
   _gives_ : Call → Told → Row
 
@@ -115,9 +120,9 @@ tell (build words bytes S) =
     let t : Store = buildIn words bytes S in
     built
     (buildRule (replicate words 0) (replicate bytes 0) S)
-    (record { tree = treeOf t; colours = t .colours; h = height (treeOf t); words = t .words })
+    (record { tree = treeOf t; bytes = t .colours; h = height (treeOf t); words = t .words })
 tell (remove t s) = removed (removeCall (t .map) (t .words) (t .colours) s) (removeColours (t .map) (t .words) (t .colours) s)
-tell (right t s) = link (kid (t .words) false s)
+tell (rootRight t) = link (kid (t .words) false (t .map .root))
 tell (overlap t lo hi) =
     found
     (foundFrom t (Overlap (span lo hi)) (fresh (t .map .root)))
@@ -125,7 +130,7 @@ tell (overlap t lo hi) =
 tell (step t lo hi) = stepped (stepCall (t .map) (t .words) (t .colours) (Overlap (span lo hi)) (fresh (t .map .root)))
 tell (exact t x) =
     let a : StartAnswer = startCall (t .map) (t .words) (t .colours) x in
-    equals a (foundFrom t (Exact x) (a .cursor))
+    started a (foundFrom t (Exact x) (a .cursor))
 
 -- a row holds if the rules tell what it says; a table, if each of its rows holds
 abbrev pub Holds : Row → Type 0

@@ -13,7 +13,6 @@ use Rattle.iset.specs.Build.{buildRule, buildNodes, buildColour}
 use Rattle.iset.specs.Remove.{removeCall, removeNodes, removeColours}
 use Rattle.iset.specs.declared.Map.{Map}
 
-infixl 75 _minus_
 -- "A map is a count and a root by value, with two lent slices."
 pub record Store : Type 0 where
   pub map : Map
@@ -32,6 +31,7 @@ buildIn words bytes S =
     }
 
 -- the store after the removal of slot s
+infixl 75 _minus_
 unfoldable pub _minus_ : Store → ℕ → Store
 _minus_ t s =
     let m : Map = t .map in

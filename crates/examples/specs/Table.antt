@@ -10,9 +10,8 @@ use Rattle.words.specs.declared.refusal.Refusal.the-variants.{NoSuch, BadRange}
 use Rattle.tree.specs.Tree.{Tree, leaf, node}
 use Rattle.iter.specs.Cursors.{fresh, ended}
 use Rattle.examples.specs.Stores.{Store, buildIn, _minus_}
-use Rattle.examples.specs.Rows.{Row, _gives_, _to_, pairs, _entering_, hit, end, build, remove, right, overlap, step, exact, built, removed, link, found, stepped, equals}
+use Rattle.examples.specs.Rows.{Row, _gives_, _to_, moved, colours, _entering_, hit, end, build, remove, rootRight, overlap, step, exact, built, removed, link, found, stepped, started}
 
-infix 70 _until_
 -- "Store A, built from [10,20) 1, [10,30) 2, [25,40) 3, [40,50) 4, [45,60) 5", in 40 words and a byte
 abbrev pub listA : List ℕ
 listA = 10 ∷ 20 ∷ 1 ∷ 10 ∷ 30 ∷ 2 ∷ 25 ∷ 40 ∷ 3 ∷ 40 ∷ 50 ∷ 4 ∷ 45 ∷ 60 ∷ 5 ∷ []
@@ -32,6 +31,7 @@ abbrev pub only : ℕ → Tree
 only s = node leaf s leaf
 
 -- the interval [a, b)
+infix 70 _until_
 abbrev pub _until_ : ℕ → ℕ → Interval
 _until_ a b = record { start = a; end = b }
 
@@ -40,7 +40,7 @@ table =
     -- "root 2; 2 has 1 and 4; 1 has left 0; 4 has left 3; colours 9; h = 3." A line of words a slot.
     build 40 1 listA gives built (record { no = 0; count = 5; root = 2 }) (record {
       tree = node (node (only 0) 1 leaf) 2 (node (only 3) 4 leaf);
-      colours = 9 ∷ [];
+      bytes = colours 9;
       h = 3;
       words =
           10 ∷ 20 ∷ 1 ∷ 10 ∷ 20 ∷ U ∷ U ∷ 1 ∷
@@ -50,17 +50,17 @@ table =
           45 ∷ 60 ∷ 5 ∷ 40 ∷ 60 ∷ 3 ∷ U ∷ 2 ∷ [];
     }) ∷
     -- "remove 0: value 1, pairs (4,0), colours 8, root 2."
-    remove storeA 0 gives removed (record { no = 0; value = 1; count = 4; root = 2; pairs = pairs (4 to 0 ∷ []) }) (8 ∷ []) ∷
+    remove storeA 0 gives removed (record { no = 0; value = 1; count = 4; root = 2; pairs = moved (4 to 0 ∷ []) }) (colours 8) ∷
     -- "remove 1: value 2, pairs (0,1), (4,0), colours 8."
-    remove storeA 1 gives removed (record { no = 0; value = 2; count = 4; root = 2; pairs = pairs (0 to 1 ∷ 4 to 0 ∷ []) }) (8 ∷ []) ∷
+    remove storeA 1 gives removed (record { no = 0; value = 2; count = 4; root = 2; pairs = moved (0 to 1 ∷ 4 to 0 ∷ []) }) (colours 8) ∷
     -- "remove 2: value 3, pairs (3,2), (4,3), colours 1."
-    remove storeA 2 gives removed (record { no = 0; value = 3; count = 4; root = 2; pairs = pairs (3 to 2 ∷ 4 to 3 ∷ []) }) (1 ∷ []) ∷
+    remove storeA 2 gives removed (record { no = 0; value = 3; count = 4; root = 2; pairs = moved (3 to 2 ∷ 4 to 3 ∷ []) }) (colours 1) ∷
     -- "remove 4: value 5, no pairs, colours 1, the root's right link is 3."
-    remove storeA 4 gives removed (record { no = 0; value = 5; count = 4; root = 2; pairs = pairs [] }) (1 ∷ []) ∷
-    right (storeA minus 4) 2 gives link 3 ∷
+    remove storeA 4 gives removed (record { no = 0; value = 5; count = 4; root = 2; pairs = moved [] }) (colours 1) ∷
+    rootRight (storeA minus 4) gives link 3 ∷
     -- "remove 5 or U: NoSuch."
-    remove storeA 5 gives removed (record { no = refusalNumber NoSuch; value = 0; count = 5; root = 2; pairs = pairs [] }) (9 ∷ []) ∷
-    remove storeA U gives removed (record { no = refusalNumber NoSuch; value = 0; count = 5; root = 2; pairs = pairs [] }) (9 ∷ []) ∷
+    remove storeA 5 gives removed (record { no = refusalNumber NoSuch; value = 0; count = 5; root = 2; pairs = moved [] }) (colours 9) ∷
+    remove storeA U gives removed (record { no = refusalNumber NoSuch; value = 0; count = 5; root = 2; pairs = moved [] }) (colours 9) ∷
     -- "Included 20, Excluded 25: hit 1 with 3 entered, then end with 0; t = 2, bound 9."
     overlap storeA (Included 20) (Excluded 25) gives
     found (record { steps = hit 1 entering 3 ∷ end entering 0 ∷ []; hits = 1 ∷ []; entered = 3 }) (record { t = 2; bound = 9 }) ∷
@@ -84,7 +84,7 @@ table =
     -- "Store B .. root 1, all black."
     build 24 1 listB gives built (record { no = 0; count = 3; root = 1 }) (record {
       tree = node (only 0) 1 (only 2);
-      colours = 0 ∷ [];
+      bytes = colours 0;
       h = 2;
       words =
           5 ∷ 9 ∷ 1 ∷ 5 ∷ 9 ∷ U ∷ U ∷ 1 ∷
@@ -92,16 +92,16 @@ table =
           5 ∷ 9 ∷ 3 ∷ 5 ∷ 9 ∷ U ∷ U ∷ 1 ∷ [];
     }) ∷
     -- "exact [5,9): 0, 1, 2. Exact [5,8): end at once."
-    exact storeB (5 until 9) gives equals (record { no = 0; cursor = fresh 1 }) (record {
+    exact storeB (5 until 9) gives started (record { no = 0; cursor = fresh 1 }) (record {
       steps = hit 0 entering 2 ∷ hit 1 entering 0 ∷ hit 2 entering 1 ∷ end entering 0 ∷ [];
       hits = 0 ∷ 1 ∷ 2 ∷ [];
       entered = 3;
     }) ∷
-    exact storeB (5 until 8) gives equals (record { no = 0; cursor = fresh U }) (record { steps = end entering 0 ∷ []; hits = []; entered = 0 }) ∷
+    exact storeB (5 until 8) gives started (record { no = 0; cursor = fresh U }) (record { steps = end entering 0 ∷ []; hits = []; entered = 0 }) ∷
     -- "remove 0: value 1, pair (2,0), colour byte 5, count 2."
-    remove storeB 0 gives removed (record { no = 0; value = 1; count = 2; root = 1; pairs = pairs (2 to 0 ∷ []) }) (5 ∷ []) ∷
+    remove storeB 0 gives removed (record { no = 0; value = 1; count = 2; root = 1; pairs = moved (2 to 0 ∷ []) }) (colours 5) ∷
     -- "Then remove 1: value 2, no pairs, root 0, byte 4."
-    remove (storeB minus 0) 1 gives removed (record { no = 0; value = 2; count = 1; root = 0; pairs = pairs [] }) (4 ∷ []) ∷
+    remove (storeB minus 0) 1 gives removed (record { no = 0; value = 2; count = 1; root = 0; pairs = moved [] }) (colours 4) ∷
     -- "Then remove 0: value 3, root U."
-    remove (storeB minus 0 minus 1) 0 gives removed (record { no = 0; value = 3; count = 0; root = U; pairs = pairs [] }) (4 ∷ []) ∷
+    remove (storeB minus 0 minus 1) 0 gives removed (record { no = 0; value = 3; count = 0; root = U; pairs = moved [] }) (colours 4) ∷
     []
