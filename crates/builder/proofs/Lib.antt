@@ -2,4 +2,3 @@ pub mod Spans
 pub mod Levels
 pub mod Parts
 pub mod Tests
-pub mod Cases

@@ -37,13 +37,15 @@ module _ (t : Store) (small : t .map .count ≤ 65535) (P : Passes (t .words) (t
   pub read-tree : treeOf t ≡ P .tree
   unfolding treeOf
   read-tree =
-      read-at (t .words) (t .map .count) small U (t .map .root) 32 (P .tree) (P .shape) (tree-low (t .words) (t .colours) (t .map .count) (t .map .root) P small)
+      read-at (t .words) (t .map .count) small U (t .map .root) 32 (P .tree) (P .shape)
+      (tree-low (t .words) (t .colours) (t .map .count) (t .map .root) P small)
 
   pub touched-is : (q : Span) → touched t q ≡ touching (t .words) q (P .tree)
   unfolding touched
   touched-is q = rw read-tree refl
 
   -- the table's bound is a bound, for a drain with any limit
-  pub bounded : (q : Span) (limit : ℕ) → drain (t .words) (t .map .count) (overlap (t .words) (t .map .count) q) limit (fresh (t .map .root)) .entered ≤ boundOf t q
+  pub bounded : (q : Span) (limit : ℕ)
+      → drain (t .words) (t .map .count) (overlap (t .words) (t .map .count) q) limit (fresh (t .map .root)) .entered ≤ boundOf t q
   unfolding boundOf touched
   bounded q limit = rw read-tree (overlap-bound (t .words) (t .colours) (t .map .count) (t .map .root) q small P limit)

@@ -26,43 +26,54 @@ use Rattle.examples.specs.Stores.{buildIn, _minus_, treeAt, treeOf, touc
 use Rattle.examples.specs.Rows.{Each, outcome, stepsFrom, foundFrom, tell}
 use Rattle.examples.specs.Table.{storeA, storeB, table}
 
--- What the rows compute with, layer by layer: to unfold one of these is to unfold all that its line names.
-words : Unit {0}
+-- What the rows compute with, layer by layer: to unfold one of these names is to unfold all that its line names.
+reading : Unit {0}
 unfolding onLink word put putEntry putHull swap joined hullOf fix putNode bit putBit bitAt setBit
-words = record {}
+reading = record {}
+
+checking : Unit {0}
+unfolding survey wholeOf checkRule
+checking = record {}
 
 building : Unit {0}
 unfolding startOf endOf valueOf every properAt inOrder allProper sortedList spanHull spanWords painted log levels buildWords buildColours buildRoot
 building = record {}
 
-linking : Unit {0}
+repairing : Unit {0}
 unfolding adopt setChild redirected removeChild redirect replaced rootAfter fixUp turn turn-2 turn-4 dyeAt choose turnOf turnAt step repair
-linking = record {}
-
-removing : Unit {0}
-unfolding leftmost vacated exchanged child restructure handed above cutWords cutRoot copied relinked cleared swapRemove finish removeFrom removeRule
-removing = record {}
+repairing = record {}
 
 naming : Unit {0}
 unfolding instead emptied home named lower upper sorted moved
 naming = record {}
+
+removing : Unit {0}
+unfolding leftmost vacated exchanged child restructure handed above cutWords cutRoot copied relinked cleared swapRemove finish removeFrom removeRule
+removing = record {}
 
 walking : Unit {0}
 unfolding stateAt putState top marked pushed popped upTo deeper mark down move enters hits seek stepOf drain filled onSide formed heldForm formOf
 walking = record {}
 
 looking : Unit {0}
-unfolding meets shouldGo equals sortedBy shouldGoExact find rules
+unfolding meets shouldGo equals sortedBy shouldGoExact find rules startNumber stepNumber drainNumber startCall stepCall drainCall drainOutput
 looking = record {}
 
-calling : Unit {0}
-unfolding survey wholeOf checkRule buildNumber buildRule buildNodes buildColour removeNumber removeCall removeNodes removeColours
-calling = record {}
+changing : Unit {0}
+unfolding buildNumber buildRule buildNodes buildColour removeNumber removeCall removeNodes removeColours
+changing = record {}
 
-finding : Unit {0}
-unfolding startNumber stepNumber drainNumber startCall stepCall drainCall drainOutput
-finding = record {}
+telling : Unit {0}
+unfolding buildIn _minus_ treeAt treeOf touched boundOf outcome stepsFrom foundFrom tell storeA storeB
+telling = record {}
+
+-- a row holds, and so do the rows below it
+infixr 20 _&_
+abbrev _&_ : {A B : Type 0} → A → B → A × B
+_&_ a b = (a, b)
 
 pub examples : Each table
-unfolding words building linking removing naming walking looking calling finding buildIn _minus_ treeAt treeOf touched boundOf outcome stepsFrom foundFrom tell storeA storeB
-examples = (refl, (refl, (refl, (refl, (refl, (refl, (refl, (refl, (refl, (refl, (refl, (refl, (refl, (refl, (refl, (refl, (refl, (refl, (refl, (refl, record {}))))))))))))))))))))
+unfolding reading checking building repairing naming removing walking looking changing telling
+examples =
+    refl & refl & refl & refl & refl & refl & refl & refl & refl & refl &
+    refl & refl & refl & refl & refl & refl & refl & refl & refl & refl & record {}

@@ -69,12 +69,15 @@ table =
     found (record { steps = end entering 2 ∷ []; hits = []; entered = 2 }) (record { t = 1; bound = 6 }) ∷
     -- "Excluded 20, Included 25: hits 1, 2; 3 entered."
     overlap storeA (Excluded 20) (Included 25) gives
-    found (record { steps = hit 1 entering 3 ∷ hit 2 entering 0 ∷ end entering 0 ∷ []; hits = 1 ∷ 2 ∷ []; entered = 3 }) (record { t = 3; bound = 12 }) ∷
+    found (record {
+      steps = hit 1 entering 3 ∷ hit 2 entering 0 ∷ end entering 0 ∷ [];
+      hits = 1 ∷ 2 ∷ [];
+      entered = 3;
+    }) (record { t = 3; bound = 12 }) ∷
     -- "Unbounded both: 0, 1, 2, 3, 4; 5 entered; bound 18."
     overlap storeA Unbounded Unbounded gives
     found (record {
-      steps =
-          hit 0 entering 3 ∷ hit 1 entering 0 ∷ hit 2 entering 0 ∷ hit 3 entering 2 ∷ hit 4 entering 0 ∷ end entering 0 ∷ [];
+      steps = hit 0 entering 3 ∷ hit 1 entering 0 ∷ hit 2 entering 0 ∷ hit 3 entering 2 ∷ hit 4 entering 0 ∷ end entering 0 ∷ [];
       hits = 0 ∷ 1 ∷ 2 ∷ 3 ∷ 4 ∷ [];
       entered = 5;
     }) (record { t = 5; bound = 18 }) ∷

@@ -29,4 +29,3 @@ pub mod Low
 pub mod Mended
 pub mod Inside
 pub mod Sequence
-pub mod Examples

@@ -5,4 +5,3 @@ pub mod Remove
 pub mod Names
 pub mod Removed
 pub mod Sequence
-pub mod Examples
