@@ -67,13 +67,7 @@ telling : Unit {0}
 unfolding buildIn _minus_ treeAt treeOf touched boundOf outcome stepsFrom foundFrom tell storeA storeB
 telling = record {}
 
--- a row holds, and so do the rows below it
-infixr 20 _&_
-abbrev _&_ : {A B : Type 0} → A → B → A × B
-_&_ a b = (a, b)
-
+-- one `refl` a row, in the table's order
 pub examples : Each table
 unfolding reading checking building repairing naming removing walking looking changing telling
-examples =
-    refl & refl & refl & refl & refl & refl & refl & refl & refl & refl &
-    refl & refl & refl & refl & refl & refl & refl & refl & refl & refl & record {}
+examples = (refl, (refl, (refl, (refl, (refl, (refl, (refl, (refl, (refl, (refl, (refl, (refl, (refl, (refl, (refl, (refl, (refl, (refl, (refl, (refl, record {}))))))))))))))))))))

@@ -58,8 +58,8 @@ pub data Call : Type 0 where
   step : Store → Bound → Bound → Call
   exact : Store → Interval → Call
 
--- what a build leaves: its tree says each node's children
-pub record Left : Type 0 where
+-- what a build leaves; the tree says which node has which children
+pub record BuiltStore : Type 0 where
   pub tree : Tree
   pub bytes : List ℕ
   pub h : ℕ
@@ -76,9 +76,10 @@ pub record Limits : Type 0 where
   pub t : ℕ
   pub bound : ℕ
 
--- What is told. Of a removal: its answer, and the colour bytes that it leaves. Of an exact lookup: the answer of `fresh_exact`, and what is found.
+-- What is told. Of a build and a removal: the answer, and what it leaves, of a removal the colour bytes. Of an overlap lookup: what is found, t and
+-- the bound; of its first step: the whole answer. Of an exact lookup: the answer of `fresh_exact`, and what is found from its cursor on.
 pub data Told : Type 0 where
-  built : BuildAnswer → Left → Told
+  built : BuildAnswer → BuiltStore → Told
   removed : RemoveAnswer → List ℕ → Told
   link : ℕ → Told
   found : Found → Limits → Told
