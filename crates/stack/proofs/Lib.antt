@@ -1,3 +1,4 @@
 pub mod Levels
 pub mod Laws
 pub mod Determined
+pub mod Stores

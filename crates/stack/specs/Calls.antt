@@ -7,6 +7,8 @@ use Rattle.stack.specs.States.{top, marked, pushed, popped}
 use Rattle.stack.specs.declared.ActionStack.{ActionStack}
 use Rattle.stack.specs.declared.Answer.{Answer}
 use Rattle.stack.specs.declared.Answer.the-variants.{Done, Refused}
+use Rattle.stack.specs.declared.lent.Outcome.{Outcome}
+use Rattle.stack.specs.declared.lent.Outcome.the-variants as Lent
 
 -- an answer by this paper's numbers: the refusal's, 0 for none; what was tested; the stack
 pub record Told : Type 0 where
@@ -59,3 +61,12 @@ popRule s = cond (some s) (done false (popped s)) (badBit s)
 
 unfoldable pub isEmptyRule : ActionStack → Told
 isEmptyRule s = cond (leb (s .levels) 32) (done (eqb (s .levels) 0) s) (badBit s)
+
+-- "push, pop and the state marks change the stack record itself": what such a call answers is the answer without its stack, and its number
+abbrev pub outcomeOf : Answer → Outcome
+outcomeOf (Done b s) = Lent.Done
+outcomeOf (Refused y) = Lent.Refused y
+
+abbrev pub outcomeNumber : Outcome → ℕ
+outcomeNumber Lent.Done = 0
+outcomeNumber (Lent.Refused y) = refusalNumber y

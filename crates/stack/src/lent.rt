@@ -1,0 +1,73 @@
+// The five calls that change a stack, on the record itself, as the Rust's `&mut self` does. Each hands a copy of the record to the call by
+// value, and stores back the stack after it: after a refusal, the one that was there.
+use crate::ActionStack;
+use crate::Answer;
+use words::refusal::Refusal;
+ghost use mathlib.Core.Path.{_≡_};
+ghost use Rattle.stack.specs.Calls.{paper, outcomeOf, outcomeNumber, markRule, pushRule, popRule, wentLeft};
+
+// What such a call answers; the stack after it is the record.
+pub enum Outcome {
+    Done,
+    Refused(Refusal),
+}
+
+// The stack after a call by value on a given one.
+pub fn stack_after(a: Answer, given: ActionStack) -> ActionStack
+    ensures { λ r. ⌜ r ≡ paper given a .stack ⌝ }
+{
+    match a {
+        Answer::Done(_, stack) => stack,
+        Answer::Refused(_) => given,
+    }
+}
+
+// An answer without its stack, and without what was tested: the calls here test nothing.
+pub fn without_stack(a: Answer) -> Outcome
+    ensures { λ r. ⌜ r ≡ outcomeOf a ⌝ }
+{
+    match a {
+        Answer::Done(_, _) => Outcome::Done,
+        Answer::Refused(why) => Outcome::Refused(why),
+    }
+}
+
+pub fn push(s: &mut ActionStack) -> Outcome
+    ensures { λ r. ⌜ (outcomeNumber r ≡ pushRule (now (s .entry)) .no) × (now (s .exit) ≡ pushRule (now (s .entry)) .stack) ⌝ }
+{
+    let a = ActionStack::push(*s);
+    *s = stack_after(a, *s);
+    without_stack(a)
+}
+
+pub fn go_left(s: &mut ActionStack) -> Outcome
+    ensures { λ r. ⌜ (outcomeNumber r ≡ markRule wentLeft (now (s .entry)) .no) × (now (s .exit) ≡ markRule wentLeft (now (s .entry)) .stack) ⌝ }
+{
+    let a = ActionStack::go_left(*s);
+    *s = stack_after(a, *s);
+    without_stack(a)
+}
+
+pub fn make_match(s: &mut ActionStack) -> Outcome
+    ensures { λ r. ⌜ (outcomeNumber r ≡ markRule (λ _. 1) (now (s .entry)) .no) × (now (s .exit) ≡ markRule (λ _. 1) (now (s .entry)) .stack) ⌝ }
+{
+    let a = ActionStack::make_match(*s);
+    *s = stack_after(a, *s);
+    without_stack(a)
+}
+
+pub fn go_right(s: &mut ActionStack) -> Outcome
+    ensures { λ r. ⌜ (outcomeNumber r ≡ markRule (λ _. 3) (now (s .entry)) .no) × (now (s .exit) ≡ markRule (λ _. 3) (now (s .entry)) .stack) ⌝ }
+{
+    let a = ActionStack::go_right(*s);
+    *s = stack_after(a, *s);
+    without_stack(a)
+}
+
+pub fn pop(s: &mut ActionStack) -> Outcome
+    ensures { λ r. ⌜ (outcomeNumber r ≡ popRule (now (s .entry)) .no) × (now (s .exit) ≡ popRule (now (s .entry)) .stack) ⌝ }
+{
+    let a = ActionStack::pop(*s);
+    *s = stack_after(a, *s);
+    without_stack(a)
+}
