@@ -1,14 +1,14 @@
 -- What the code's arithmetic and tests say of a rule, in the form that `search` takes.
 use mathlib.Core.Path.{_≡_, refl, sym, _∙_}
-use mathlib.Core.Bool.{Bool, true, false, _&&_, true≢false}
+use mathlib.Core.Bool.{Bool, true, false, cond, _&&_, true≢false}
 use Prim.Native.Nat.{ℕ, _+_, _-_, _*_, _/_, _%_, _^_, _<_, _≤_}
 use native.Mathlib.Omega.{arith}
 use native.Mathlib.Nat.{div-le-self}
 use lib.Pow.{shl-exact}
 use lib.Dec.{leb}
 use borrow.Author.Tests.{leb-true}
-use Rattle.stack.specs.States.{stateAt, putState, marked}
-use Rattle.stack.specs.Calls.{done, some, justEntered, notReturned, notRight, wentLeft}
+use Rattle.stack.specs.States.{stateAt, putState, top, marked, pushed, popped}
+use Rattle.stack.specs.Calls.{Told, done, badBit, some, markRule, pushRule, popRule, justEntered, notReturned, notRight, wentLeft}
 use Rattle.stack.specs.declared.ActionStack.{ActionStack}
 use Rattle.stack.proofs.Levels.{four, four-two, put-low}
 
@@ -74,3 +74,20 @@ module _ (v u : ℕ) (s : ActionStack) (e : v ≡ u) where
 
 pub done-stack : (s t : ActionStack) → s ≡ t → done false s ≡ done false t
 done-stack s t e = rw e
+
+-- `push`, `pop` and the state marks test nothing
+both-quiet : (b : Bool) (x y : Told) → x .yes ≡ false → y .yes ≡ false → cond b x y .yes ≡ false
+both-quiet true x y e f = e
+both-quiet false x y e f = f
+
+pub push-quiet : (s : ActionStack) → pushRule s .yes ≡ false
+unfolding pushRule
+push-quiet s = both-quiet (leb 32 (s .levels)) (badBit s) (done false (pushed s)) refl refl
+
+pub pop-quiet : (s : ActionStack) → popRule s .yes ≡ false
+unfolding popRule
+pop-quiet s = both-quiet (some s) (done false (popped s)) (badBit s) refl refl
+
+pub mark-quiet : (gives : ℕ → ℕ) (s : ActionStack) → markRule gives s .yes ≡ false
+unfolding markRule
+mark-quiet gives s = both-quiet (some s) (done false (marked (gives (top s)) s)) (badBit s) refl refl

@@ -62,11 +62,13 @@ popRule s = cond (some s) (done false (popped s)) (badBit s)
 unfoldable pub isEmptyRule : ActionStack → Told
 isEmptyRule s = cond (leb (s .levels) 32) (done (eqb (s .levels) 0) s) (badBit s)
 
--- "push, pop and the state marks change the stack record itself": what such a call answers is the answer without its stack, and its number
+-- "The functions push, pop and the state marks change the stack record itself": by this paper's numbers, the answer of such a call, which tests
+-- nothing, and the record after it
+abbrev pub lent : Outcome → ActionStack → Told
+lent Lent.Done s = done false s
+lent (Lent.Refused y) s = record { no = refusalNumber y; yes = false; stack = s }
+
+-- an answer without its stack
 abbrev pub outcomeOf : Answer → Outcome
 outcomeOf (Done b s) = Lent.Done
 outcomeOf (Refused y) = Lent.Refused y
-
-abbrev pub outcomeNumber : Outcome → ℕ
-outcomeNumber Lent.Done = 0
-outcomeNumber (Lent.Refused y) = refusalNumber y

@@ -4,7 +4,7 @@ use crate::ActionStack;
 use crate::Answer;
 use words::refusal::Refusal;
 ghost use mathlib.Core.Path.{_≡_};
-ghost use Rattle.stack.specs.Calls.{paper, outcomeOf, outcomeNumber, markRule, pushRule, popRule, wentLeft};
+ghost use Rattle.stack.specs.Calls.{paper, lent, outcomeOf, markRule, pushRule, popRule, wentLeft};
 
 // What such a call answers; the stack after it is the record.
 pub enum Outcome {
@@ -33,7 +33,7 @@ pub fn without_stack(a: Answer) -> Outcome
 }
 
 pub fn push(s: &mut ActionStack) -> Outcome
-    ensures { λ r. ⌜ (outcomeNumber r ≡ pushRule (now (s .entry)) .no) × (now (s .exit) ≡ pushRule (now (s .entry)) .stack) ⌝ }
+    ensures { λ r. ⌜ lent r (now (s .exit)) ≡ pushRule (now (s .entry)) ⌝ }
 {
     let a = ActionStack::push(*s);
     *s = stack_after(a, *s);
@@ -41,7 +41,7 @@ pub fn push(s: &mut ActionStack) -> Outcome
 }
 
 pub fn go_left(s: &mut ActionStack) -> Outcome
-    ensures { λ r. ⌜ (outcomeNumber r ≡ markRule wentLeft (now (s .entry)) .no) × (now (s .exit) ≡ markRule wentLeft (now (s .entry)) .stack) ⌝ }
+    ensures { λ r. ⌜ lent r (now (s .exit)) ≡ markRule wentLeft (now (s .entry)) ⌝ }
 {
     let a = ActionStack::go_left(*s);
     *s = stack_after(a, *s);
@@ -49,7 +49,7 @@ pub fn go_left(s: &mut ActionStack) -> Outcome
 }
 
 pub fn make_match(s: &mut ActionStack) -> Outcome
-    ensures { λ r. ⌜ (outcomeNumber r ≡ markRule (λ _. 1) (now (s .entry)) .no) × (now (s .exit) ≡ markRule (λ _. 1) (now (s .entry)) .stack) ⌝ }
+    ensures { λ r. ⌜ lent r (now (s .exit)) ≡ markRule (λ _. 1) (now (s .entry)) ⌝ }
 {
     let a = ActionStack::make_match(*s);
     *s = stack_after(a, *s);
@@ -57,7 +57,7 @@ pub fn make_match(s: &mut ActionStack) -> Outcome
 }
 
 pub fn go_right(s: &mut ActionStack) -> Outcome
-    ensures { λ r. ⌜ (outcomeNumber r ≡ markRule (λ _. 3) (now (s .entry)) .no) × (now (s .exit) ≡ markRule (λ _. 3) (now (s .entry)) .stack) ⌝ }
+    ensures { λ r. ⌜ lent r (now (s .exit)) ≡ markRule (λ _. 3) (now (s .entry)) ⌝ }
 {
     let a = ActionStack::go_right(*s);
     *s = stack_after(a, *s);
@@ -65,7 +65,7 @@ pub fn go_right(s: &mut ActionStack) -> Outcome
 }
 
 pub fn pop(s: &mut ActionStack) -> Outcome
-    ensures { λ r. ⌜ (outcomeNumber r ≡ popRule (now (s .entry)) .no) × (now (s .exit) ≡ popRule (now (s .entry)) .stack) ⌝ }
+    ensures { λ r. ⌜ lent r (now (s .exit)) ≡ popRule (now (s .entry)) ⌝ }
 {
     let a = ActionStack::pop(*s);
     *s = stack_after(a, *s);
