@@ -78,7 +78,6 @@ in-parts : (h : ActionStack) (a : Answer) → paper h a .yes ≡ false → lent 
 in-parts h (Done b s) e = rw e
 in-parts h (Refused y) e = refl
 
-
 abbrev stayed : Stays (own.ended .signature .params) (own.ended .kept)
 stayed = (stay-ref (0 ∷ []) tt (plain (λ _. S.the-row)), tt)
 
