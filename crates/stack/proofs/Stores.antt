@@ -86,7 +86,7 @@ module _ (rule : ActionStack → Told) {M : Type 1} (𝓤 : URA M) (H : Heap �
   abbrev pub valued : Spec 𝓤 by-value.signature
   valued = closing 𝓤 H A by-value.ended (λ κs a. record { ghost = Unit {0}; requires = λ _. emp 𝓤; ensures = λ _ r end. fact 𝓤 (paper (a .0) r ≡ rule (a .0)) })
 
-  abbrev stored : Clauses 𝓤 own.ended
+  abbrev pub stored : Clauses 𝓤 own.ended
   stored κs a = record { ghost = Unit {0}; requires = λ _. emp 𝓤; ensures = λ _ r end. fact 𝓤 (lent r (now (end .0)) ≡ rule (now (a .0))) }
 
   abbrev pub Lent : Spec 𝓤 own.signature

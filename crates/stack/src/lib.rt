@@ -1,5 +1,6 @@
 // The stack of a walk: a port of `ActionStack` in src/iter.rs. Each level has a state of two bits, and level j uses the bits 2j and
 // 2j + 1 of one number. The stack goes in by value; a call that changes it hands the new one back.
+pub mod lending;
 pub mod lent;
 
 use words::refusal::Refusal;

@@ -1,0 +1,58 @@
+// For a caller that holds a stack by value: the stack is lent to the call on the record, and handed back as that call left it.
+use crate::ActionStack;
+use crate::lent;
+use crate::lent::Outcome;
+ghost use mathlib.Core.Path.{_≡_};
+ghost use Rattle.stack.specs.Calls.{lent, markRule, pushRule, popRule, wentLeft};
+
+// What the call answered, and the record after it.
+pub struct After {
+    pub outcome: Outcome,
+    pub stack: ActionStack,
+}
+
+pub fn both(outcome: Outcome, stack: ActionStack) -> After
+    ensures { λ r. ⌜ (r .outcome ≡ outcome) × (r .stack ≡ stack) ⌝ }
+{
+    After { outcome, stack }
+}
+
+pub fn push(s: ActionStack) -> After
+    ensures { λ r. ⌜ lent (r .outcome) (r .stack) ≡ pushRule s ⌝ }
+{
+    let mut t = s;
+    let r = lent::push(&mut t);
+    both(r, t)
+}
+
+pub fn go_left(s: ActionStack) -> After
+    ensures { λ r. ⌜ lent (r .outcome) (r .stack) ≡ markRule wentLeft s ⌝ }
+{
+    let mut t = s;
+    let r = lent::go_left(&mut t);
+    both(r, t)
+}
+
+pub fn make_match(s: ActionStack) -> After
+    ensures { λ r. ⌜ lent (r .outcome) (r .stack) ≡ markRule (λ _. 1) s ⌝ }
+{
+    let mut t = s;
+    let r = lent::make_match(&mut t);
+    both(r, t)
+}
+
+pub fn go_right(s: ActionStack) -> After
+    ensures { λ r. ⌜ lent (r .outcome) (r .stack) ≡ markRule (λ _. 3) s ⌝ }
+{
+    let mut t = s;
+    let r = lent::go_right(&mut t);
+    both(r, t)
+}
+
+pub fn pop(s: ActionStack) -> After
+    ensures { λ r. ⌜ lent (r .outcome) (r .stack) ≡ popRule s ⌝ }
+{
+    let mut t = s;
+    let r = lent::pop(&mut t);
+    both(r, t)
+}
