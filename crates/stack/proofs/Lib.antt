@@ -1,5 +1,7 @@
 pub mod Levels
 pub mod Laws
 pub mod Determined
+pub mod LentDetermined
+pub mod Walking
 pub mod Stores
 pub mod Lends
