@@ -227,5 +227,7 @@ stores-back rule quiet name callee called env p p-after p-without 𝓤 H 𝓜 �
     (tables 𝓤 H 𝓜 𝓡 env .C) (tables 𝓤 H 𝓜 𝓡 env .Λ) name (stores callee) closed
     (meets rule 𝓤 H (𝓖 .A) W (𝓜 .mem) (𝓡 .run) callee quiet (tablesOf 𝓤 H 𝓜 (tables 𝓤 H 𝓜 𝓡 env))
     (cited 𝓤 H (Called rule 𝓤 H (𝓖 .A)) 𝓜 𝓡 env callee called p met)
-    (cited 𝓤 H (After rule 𝓤 H (𝓖 .A) W (𝓜 .mem) (𝓡 .run) callee quiet) 𝓜 𝓡 env after-def.name after-def.routine p-after (after-thm.met 𝓤 H 𝓜 𝓖 𝓡))
-    (cited 𝓤 H (Without rule 𝓤 H (𝓖 .A) W (𝓜 .mem) (𝓡 .run) callee quiet) 𝓜 𝓡 env without-def.name without-def.routine p-without (without-thm.met 𝓤 H 𝓜 𝓖 𝓡)))
+    (cited 𝓤 H (After rule 𝓤 H (𝓖 .A) W (𝓜 .mem) (𝓡 .run) callee quiet) 𝓜 𝓡 env
+    after-def.name after-def.routine p-after (after-thm.met 𝓤 H 𝓜 𝓖 𝓡))
+    (cited 𝓤 H (Without rule 𝓤 H (𝓖 .A) W (𝓜 .mem) (𝓡 .run) callee quiet) 𝓜 𝓡 env
+    without-def.name without-def.routine p-without (without-thm.met 𝓤 H 𝓜 𝓖 𝓡)))

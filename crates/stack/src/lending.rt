@@ -11,6 +11,7 @@ pub struct After {
     pub stack: ActionStack,
 }
 
+// The two in one record.
 pub fn both(outcome: Outcome, stack: ActionStack) -> After
     ensures { λ r. ⌜ (r .outcome ≡ outcome) × (r .stack ≡ stack) ⌝ }
 {

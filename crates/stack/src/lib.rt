@@ -1,5 +1,6 @@
 // The stack of a walk: a port of `ActionStack` in src/iter.rs. Each level has a state of two bits, and level j uses the bits 2j and
-// 2j + 1 of one number. The stack goes in by value; a call that changes it hands the new one back.
+// 2j + 1 of one number. Here the stack goes in by value, and a call that changes it hands the new one back; `lent` has those calls on the
+// record itself, and `lending` lends them a stack that is held by value.
 pub mod lending;
 pub mod lent;
 

@@ -8,4 +8,6 @@ use Rattle.stack.proofs.lending.go_right.Statement.{statement}
 
 pub go-right-spec : {M : Type 1} → statement M
 unfolding code.routine
-go-right-spec 𝓤 H 𝓜 𝓖 𝓡 = lends-to (markRule (λ _. 3)) name on-record.name on-record.routine code.env code.calls-stack·lent·go-right code.calls-stack·lending·both 𝓤 H 𝓜 𝓖 𝓡 (code.unfolded 𝓤 H 𝓜 𝓡) (on-record-met.met 𝓤 H 𝓜 𝓖 𝓡)
+go-right-spec 𝓤 H 𝓜 𝓖 𝓡 =
+    lends-to (markRule (λ _. 3)) name on-record.name on-record.routine code.env code.calls-stack·lent·go-right code.calls-stack·lending·both 𝓤 H 𝓜 𝓖 𝓡
+    (code.unfolded 𝓤 H 𝓜 𝓡) (on-record-met.met 𝓤 H 𝓜 𝓖 𝓡)

@@ -8,4 +8,6 @@ use Rattle.stack.proofs.lending.make_match.Statement.{statement}
 
 pub make-match-spec : {M : Type 1} → statement M
 unfolding code.routine
-make-match-spec 𝓤 H 𝓜 𝓖 𝓡 = lends-to (markRule (λ _. 1)) name on-record.name on-record.routine code.env code.calls-stack·lent·make-match code.calls-stack·lending·both 𝓤 H 𝓜 𝓖 𝓡 (code.unfolded 𝓤 H 𝓜 𝓡) (on-record-met.met 𝓤 H 𝓜 𝓖 𝓡)
+make-match-spec 𝓤 H 𝓜 𝓖 𝓡 =
+    lends-to (markRule (λ _. 1)) name on-record.name on-record.routine code.env code.calls-stack·lent·make-match code.calls-stack·lending·both 𝓤 H 𝓜 𝓖 𝓡
+    (code.unfolded 𝓤 H 𝓜 𝓡) (on-record-met.met 𝓤 H 𝓜 𝓖 𝓡)

@@ -9,4 +9,6 @@ use Rattle.stack.proofs.lent.go_left.Statement.{statement}
 
 pub go-left-spec : {M : Type 1} → statement M
 unfolding code.routine
-go-left-spec 𝓤 H 𝓜 𝓖 𝓡 = stores-back (markRule wentLeft) (mark-quiet wentLeft) name by-value.name by-value.routine code.env code.calls-stack·ActionStack·go-left code.calls-stack·lent·stack-after code.calls-stack·lent·without-stack 𝓤 H 𝓜 𝓖 𝓡 (code.unfolded 𝓤 H 𝓜 𝓡) (by-value-met.met 𝓤 H 𝓜 𝓖 𝓡)
+go-left-spec 𝓤 H 𝓜 𝓖 𝓡 =
+    stores-back (markRule wentLeft) (mark-quiet wentLeft) name by-value.name by-value.routine code.env code.calls-stack·ActionStack·go-left code.calls-stack·lent·stack-after
+    code.calls-stack·lent·without-stack 𝓤 H 𝓜 𝓖 𝓡 (code.unfolded 𝓤 H 𝓜 𝓡) (by-value-met.met 𝓤 H 𝓜 𝓖 𝓡)

@@ -9,4 +9,6 @@ use Rattle.stack.proofs.lent.go_right.Statement.{statement}
 
 pub go-right-spec : {M : Type 1} → statement M
 unfolding code.routine
-go-right-spec 𝓤 H 𝓜 𝓖 𝓡 = stores-back (markRule (λ _. 3)) (mark-quiet (λ _. 3)) name by-value.name by-value.routine code.env code.calls-stack·ActionStack·go-right code.calls-stack·lent·stack-after code.calls-stack·lent·without-stack 𝓤 H 𝓜 𝓖 𝓡 (code.unfolded 𝓤 H 𝓜 𝓡) (by-value-met.met 𝓤 H 𝓜 𝓖 𝓡)
+go-right-spec 𝓤 H 𝓜 𝓖 𝓡 =
+    stores-back (markRule (λ _. 3)) (mark-quiet (λ _. 3)) name by-value.name by-value.routine code.env code.calls-stack·ActionStack·go-right code.calls-stack·lent·stack-after
+    code.calls-stack·lent·without-stack 𝓤 H 𝓜 𝓖 𝓡 (code.unfolded 𝓤 H 𝓜 𝓡) (by-value-met.met 𝓤 H 𝓜 𝓖 𝓡)

@@ -9,4 +9,6 @@ use Rattle.stack.proofs.lent.make_match.Statement.{statement}
 
 pub make-match-spec : {M : Type 1} → statement M
 unfolding code.routine
-make-match-spec 𝓤 H 𝓜 𝓖 𝓡 = stores-back (markRule (λ _. 1)) (mark-quiet (λ _. 1)) name by-value.name by-value.routine code.env code.calls-stack·ActionStack·make-match code.calls-stack·lent·stack-after code.calls-stack·lent·without-stack 𝓤 H 𝓜 𝓖 𝓡 (code.unfolded 𝓤 H 𝓜 𝓡) (by-value-met.met 𝓤 H 𝓜 𝓖 𝓡)
+make-match-spec 𝓤 H 𝓜 𝓖 𝓡 =
+    stores-back (markRule (λ _. 1)) (mark-quiet (λ _. 1)) name by-value.name by-value.routine code.env code.calls-stack·ActionStack·make-match code.calls-stack·lent·stack-after
+    code.calls-stack·lent·without-stack 𝓤 H 𝓜 𝓖 𝓡 (code.unfolded 𝓤 H 𝓜 𝓡) (by-value-met.met 𝓤 H 𝓜 𝓖 𝓡)
