@@ -1,4 +1,2 @@
-pub mod LinkLaws
-pub mod Turns
 pub mod Removes
 pub mod Determined

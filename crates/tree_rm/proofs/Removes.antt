@@ -1,4 +1,4 @@
--- The steps of a removal and the moved pairs, in the form that `search` takes.
+-- The steps of a removal, in the form that `search` takes.
 use mathlib.Core.Path.{_≡_, refl, ap, _∙_}
 use mathlib.Core.Bool.{Bool, true, false, cond, _||_}
 use mathlib.Core.List.{List}
@@ -15,12 +15,11 @@ use Rattle.words.specs.declared.ix.Link.the-variants.{Slot, Nil}
 use Rattle.words.specs.declared.node.Entry.{Entry}
 use Rattle.words.proofs.Laws.{linked, unlinked, slot-live}
 use Rattle.bitvec.specs.Colours.{red, dye}
-use Rattle.tree_rm_laws.specs.declared.pairs.Pair.{Pair}
 use Rattle.tree_rm_laws.specs.declared.pairs.Pairs.{Pairs}
 use Rattle.tree_rm_laws.specs.Links.{adopt, removeChild, redirect, fixUp}
-use Rattle.tree_rm_laws.specs.Pairs.{none, instead, emptied, home, named, sorted, moved}
+use Rattle.tree_rm_laws.specs.Pairs.{instead, emptied, moved}
 use Rattle.tree_rm_laws.specs.Remove.{leftmost, vacated, store, restructure, exchanged, child, handed, above, cutWords, cutRoot, copied, relinked, cleared, swapRemove, Removal, finish, removeFrom, removeRule}
-use Rattle.tree_rm.proofs.LinkLaws.{slot-is, nil-is, read-linked}
+use Rattle.tree_rm_links.proofs.LinkLaws.{slot-is, nil-is, read-linked}
 
 -- the leftmost slot
 module _ (n : ℕ) (W : List ℕ) (k : ℕ) where
@@ -131,10 +130,3 @@ from-is n r s x y top W C X W₁ C₁ R f g h i = rw (← f, ← g, ← h) i
 pub remove-is : (n r s x : ℕ) (W C : List ℕ) (R : Removal) → x ≡ vacated n W s → R ≡ removeFrom W C n r s x → R ≡ removeRule W C n r s
 unfolding removeRule
 remove-is n r s x W C R e i = rw (← e) i
-
--- the pairs
-pub moved-is : (n z s x y a b c : ℕ) (p q o : Pair) (R : Pairs) → a ≡ home n z s x y x → b ≡ home n z s x y y → c ≡ home n z s x y z
-    → p ≡ cond (eqb x s) none (named x a) → q ≡ cond (leb n y) none (named y b)
-    → o ≡ cond (eqb z s || eqb z x || eqb z y) none (named z c) → R ≡ sorted p q o → R ≡ moved n z s x y
-unfolding moved
-moved-is n z s x y a b c p q o R d e f g h i j = rw (← d, ← e, ← f, ← g, ← h, ← i) j

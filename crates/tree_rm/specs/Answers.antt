@@ -1,25 +1,8 @@
--- What the code's answers stand for. Each of these definitions tells any two answers apart.
+-- What the code's answer stands for. This definition tells any two answers apart (`removal-told` of proofs/Determined).
 use mathlib.Core.List.{List}
 use Prim.Native.Nat.{ℕ}
-use Rattle.tree_rm_laws.specs.Repair as rule
 use Rattle.tree_rm_laws.specs.Remove.{store, Removal}
 use Rattle.tree_rm.specs.declared.remove.Removed.{Removed}
-use Rattle.tree_rm.specs.declared.repair.Case.{Case}
-use Rattle.tree_rm.specs.declared.repair.Case.the-variants.{One, Two, Three, Four, Five}
-use Rattle.tree_rm.specs.declared.repair.Turn.{Turn}
-use Rattle.tree_rm.specs.declared.repair.Turn.the-variants.{Done, Again}
-
-abbrev pub caseOf : Case → rule.Case
-caseOf One = rule.one
-caseOf Two = rule.two
-caseOf Three = rule.three
-caseOf Four = rule.four
-caseOf Five = rule.five
-
--- a turn's answer, with the words and the colours that it leaves
-abbrev pub next : Turn → List ℕ → List ℕ → rule.Next
-next (Done r) W C = rule.done W C r
-next (Again r ix) W C = rule.again W C r ix
 
 -- the whole answer of a removal, with the words and the colours that it leaves
 abbrev pub removal : Removed → List ℕ → List ℕ → Removal

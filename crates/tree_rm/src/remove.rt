@@ -1,13 +1,13 @@
 // The removal of one entry.
-use crate::links::adopt_child;
-use crate::links::fix_intervals_up;
-use crate::links::remove_child;
-use crate::links::replace_child_at;
-use crate::pairs::after_move;
-use crate::pairs::moved_pairs;
-use crate::repair::copy_colour;
-use crate::repair::restructure_rm;
 use tree_rm_laws::pairs::Pairs;
+use tree_rm_links::adopt_child;
+use tree_rm_links::fix_intervals_up;
+use tree_rm_links::remove_child;
+use tree_rm_links::replace_child_at;
+use tree_rm_pairs::after_move;
+use tree_rm_pairs::moved_pairs;
+use tree_rm_repair::copy_colour;
+use tree_rm_repair::restructure_rm;
 use words::interval::Interval;
 use words::interval::smaller;
 use words::ix::Link;

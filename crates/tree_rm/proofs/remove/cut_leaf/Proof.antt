@@ -1,4 +1,4 @@
-use Rattle.tree_rm.proofs.LinkLaws.{read-linked, read-unlinked}
+use Rattle.tree_rm_links.proofs.LinkLaws.{read-linked, read-unlinked}
 use Rattle.tree_rm.proofs.Removes.{cut-is}
 use Rattle.tree_rm_laws.specs.Remove.{cutRoot, cutWords}
 use Rattle.words.proofs.Laws.{slot-room}

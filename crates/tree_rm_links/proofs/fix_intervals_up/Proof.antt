@@ -1,0 +1,36 @@
+use Rattle.tree_rm_links.proofs.LinkLaws.{room-after, up-again, up-ends, up-stops}
+use Rattle.words.proofs.Laws.{slot-live}
+use borrow.Author.Needs.{needs}
+use mathlib.Core.Path.{refl}
+use native.Mathlib.Omega.{arith}
+use Rattle.tree_rm_laws.specs.Links.{fixUp}
+use lib.ListN.{length}
+use mathlib.Core.Path.{_≡_}
+use Rattle.tree_rm_links.proofs.fix_intervals_up.Statement.{statement}
+use Rattle.tree_rm_links.proofs.fix_intervals_up.Tie as tie
+
+abbrev Inv-loop : tie.InvT-loop
+Inv-loop nodes₀ count from at₀ height₀ nodes at height = (fixUp count 32 nodes₀ from ≡ fixUp count height nodes at) × (length nodes ≡ length nodes₀)
+
+abbrev μ-loop : tie.MeasureT-loop
+μ-loop nodes₀ count from at₀ height₀ nodes at height = height
+
+pub fix-intervals-up-spec : {M : Type 1} → statement M
+fix-intervals-up-spec =
+    tie.close
+    (tie.spec
+    Inv-loop
+    μ-loop
+    (λ c. (refl, refl))
+    (λ c κs. search needs)
+    (λ c. search needs)
+    (λ c. search needs)
+    (λ c. omega arith)
+    (λ c. search up-stops)
+    (λ c κs. (omega arith, search slot-live))
+    (λ c κs. search room-after)
+    (λ c. omega arith)
+    (λ c. omega arith)
+    (λ c. (search up-again, omega arith))
+    (λ c. omega arith)
+    (λ c. search up-ends))

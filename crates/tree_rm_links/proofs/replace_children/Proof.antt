@@ -1,0 +1,16 @@
+use Rattle.tree_rm_laws.specs.Links.{replaced, rootAfter}
+use borrow.Author.Needs.{needs}
+use Rattle.tree_rm_links.proofs.replace_children.Statement.{statement}
+use Rattle.tree_rm_links.proofs.replace_children.Tie as tie
+
+pub replace-children-spec : {M : Type 1} → statement M
+unfolding replaced rootAfter
+replace-children-spec =
+    tie.close
+    (tie.spec
+    (λ c κs. search needs)
+    (λ c κs. search needs)
+    (λ c κs. search needs)
+    (λ c κs. search needs)
+    (λ c. search needs)
+    (λ c. (cc, cc)))

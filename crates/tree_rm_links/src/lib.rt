@@ -1,0 +1,98 @@
+// Links between slots, and the hulls up to the root: what the repair and the removal of src/tree_rm.rs both write.
+use words::ix::Link;
+use words::ix::U;
+use words::node::child_of;
+use words::node::parent_of;
+use words::node::put_child;
+use words::node::put_parent;
+use words::node::update_subtree_interval;
+ghost use mathlib.Core.Path.{_≡_};
+ghost use Prim.Native.Nat.{_+_, _*_, _<_, _≤_};
+ghost use lib.ListN.{length};
+ghost use Rattle.words.specs.Ix.{onLink};
+ghost use Rattle.tree_rm_laws.specs.Links.{adopt, setChild, redirected, removeChild, redirect, replaced, rootAfter, fixUp};
+
+// A child that is there gets `parent` for its parent.
+pub fn adopt_child(nodes: &mut [u64], count: u64, child: u64, parent: u64)
+    requires { ⌜ count * 8 ≤ length (now nodes) ⌝ }
+    ensures { λ _. ⌜ now (nodes .exit) ≡ adopt count (now (nodes .entry)) child parent ⌝ }
+{
+    let Link::Slot(s) = Link::new(child, count) else {
+        return;
+    };
+    put_parent(nodes, s, parent);
+}
+
+// The link of slot `parent` that leads to `old` leads to `new`: the left one if that is it, else the right one.
+fn replace_child(nodes: &mut [u64], parent: u64, old: u64, new: u64)
+    requires { ⌜ parent * 8 + 8 ≤ length (now nodes) ⌝ }
+    ensures { λ _. ⌜ now (nodes .exit) ≡ redirected (now (nodes .entry)) parent old new ⌝ }
+{
+    let is_left = child_of(nodes, parent, true) == old;
+    put_child(nodes, parent, is_left, new);
+}
+
+// The same for a parent that is there.
+pub fn replace_child_at(nodes: &mut [u64], count: u64, parent: u64, old: u64, new: u64)
+    requires { ⌜ count * 8 ≤ length (now nodes) ⌝ }
+    ensures { λ _. ⌜ now (nodes .exit) ≡ redirect count (now (nodes .entry)) parent old new ⌝ }
+{
+    let Link::Slot(s) = Link::new(parent, count) else {
+        return;
+    };
+    replace_child(nodes, s, old, new);
+}
+
+pub fn remove_child(nodes: &mut [u64], parent: u64, child: u64)
+    requires { ⌜ parent * 8 + 8 ≤ length (now nodes) ⌝ }
+    ensures { λ _. ⌜ now (nodes .exit) ≡ removeChild (now (nodes .entry)) parent child ⌝ }
+{
+    replace_child(nodes, parent, child, U);
+}
+
+pub fn set_child(nodes: &mut [u64], count: u64, parent: u64, child: u64, left_side: bool)
+    requires { ⌜ (count * 8 ≤ length (now nodes)) × (parent < count) ⌝ }
+    ensures { λ _. ⌜ now (nodes .exit) ≡ setChild count (now (nodes .entry)) parent child «left_side» ⌝ }
+{
+    adopt_child(nodes, count, child, parent);
+    put_child(nodes, parent, left_side, child);
+}
+
+// The root after `new` has taken the place of a slot below the link word `parent`.
+fn root_below(count: u64, root: u64, parent: u64, new: u64) -> u64
+    ensures { λ r. ⌜ r ≡ onLink count parent (λ s. root) new ⌝ }
+{
+    let Link::Slot(_) = Link::new(parent, count) else {
+        return new;
+    };
+    root
+}
+
+// What led to `old` leads to `new`; the answer is the root. A parent link that leads to no slot is handed on as it is: in a
+// store that passes the check it is U.
+pub fn replace_children(nodes: &mut [u64], count: u64, root: u64, old: u64, new: u64) -> u64
+    requires { ⌜ (count * 8 ≤ length (now nodes)) × (old < count) × (new < count) ⌝ }
+    ensures { λ r. ⌜ (r ≡ rootAfter count (now (nodes .entry)) root old new) × (now (nodes .exit) ≡ replaced count (now (nodes .entry)) old new) ⌝ }
+{
+    let parent = parent_of(nodes, old);
+    replace_child_at(nodes, count, parent, old, new);
+    put_parent(nodes, new, parent);
+    root_below(count, root, parent, new)
+}
+
+// The hulls from the link word `from` up to the root. No way up is longer than 32 in a store that passes the check.
+pub fn fix_intervals_up(nodes: &mut [u64], count: u64, from: u64)
+    requires { ⌜ count * 8 ≤ length (now nodes) ⌝ }
+    ensures { λ _. ⌜ now (nodes .exit) ≡ fixUp count 32 (now (nodes .entry)) from ⌝ }
+{
+    let mut at = from;
+    let mut height: u64 = 32;
+    while height > 0 {
+        let Link::Slot(ix) = Link::new(at, count) else {
+            return;
+        };
+        update_subtree_interval(nodes, count, ix);
+        at = parent_of(nodes, ix);
+        height -= 1;
+    }
+}

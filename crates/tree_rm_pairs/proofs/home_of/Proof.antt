@@ -1,0 +1,15 @@
+use Rattle.tree_rm_laws.specs.Pairs.{home}
+use borrow.Author.Needs.{needs}
+use Rattle.tree_rm_pairs.proofs.home_of.Statement.{statement}
+use Rattle.tree_rm_pairs.proofs.home_of.Tie as tie
+
+pub home-of-spec : {M : Type 1} → statement M
+unfolding home
+home-of-spec =
+    tie.close
+    (tie.spec
+    (λ c κs. search needs)
+    (λ c κs. search needs)
+    (λ c κs. search needs)
+    (λ c κs. search needs)
+    (λ c. cc))

@@ -1,0 +1,17 @@
+use Rattle.tree_rm_laws.specs.Pairs.{sorted}
+use borrow.Author.Needs.{needs}
+use Rattle.tree_rm_pairs.proofs.sorted_pairs.Statement.{statement}
+use Rattle.tree_rm_pairs.proofs.sorted_pairs.Tie as tie
+
+pub sorted-pairs-spec : {M : Type 1} → statement M
+unfolding sorted
+sorted-pairs-spec =
+    tie.close
+    (tie.spec
+    (λ c κs. search needs)
+    (λ c κs. search needs)
+    (λ c κs. search needs)
+    (λ c κs. search needs)
+    (λ c κs. search needs)
+    (λ c κs. search needs)
+    (λ c. cc))

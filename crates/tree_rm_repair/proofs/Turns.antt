@@ -1,0 +1,185 @@
+-- The turns of the repair, in the form that `search` takes.
+use mathlib.Core.Path.{_≡_, refl, sym, ap, _∙_}
+use mathlib.Core.Bool.{Bool, true, false, cond, not, _&&_, Bool·not-not, true≢false}
+use mathlib.Core.List.{List}
+use Prim.Native.Nat.{ℕ, zero, suc, _-_, _*_, _<_, _≤_}
+use native.Mathlib.Omega.{arith}
+use native.Mathlib.Numerals.{sub-one}
+use lib.ListN.{length}
+use lib.Dec.{eqb, leb}
+use borrow.Author.Tests.{leb-false}
+use Rattle.words.specs.Ix.{linkOf, onLink}
+use Rattle.words.specs.Nodes.{kid, par, fix}
+use Rattle.words.specs.declared.ix.Link.{Link}
+use Rattle.words.specs.declared.ix.Link.the-variants.{Slot}
+use Rattle.bitvec.specs.Colours.{red, redAt, dye}
+use Rattle.tree_rm_laws.specs.Links.{rootAfter}
+use Rattle.tree_rm_laws.specs.Repair.{turn, turn-4, dyeAt, Case, one, two, three, four, five, choose, Next, done, again, act, goOn, turnOf, turnAt, step, repair}
+use Rattle.tree_rm_laws.specs.Remove.{Store, store, ending, restructure}
+use Rattle.tree_rm_repair.specs.Answers.{caseOf, next}
+use Rattle.tree_rm_repair.specs.declared.Case as K
+use Rattle.tree_rm_repair.specs.declared.Case.the-variants as ks
+use Rattle.tree_rm_repair.specs.declared.Turn as T
+use Rattle.tree_rm_repair.specs.declared.Turn.the-variants as ts
+use Rattle.tree_rm_links.proofs.LinkLaws.{read-linked}
+
+-- the choice among the cases, by which of the four are black
+pub choose-black : (p s c d : Bool)
+    → choose (not p) (not s) (not c) (not d)
+    ≡ cond (p && c && d) (cond s one two) (cond (not p && s && c && d) three (cond (s && d && not c) four five))
+unfolding choose
+choose-black p true c d = simp Bool·not-not
+choose-black p false c d = simp Bool·not-not
+
+pub case-is : (k : K.Case) (p s c d a b e f : Bool) → p ≡ not a → s ≡ not b → c ≡ not e → d ≡ not f
+    → caseOf k ≡ choose (not p) (not s) (not c) (not d) → caseOf k ≡ choose a b e f
+case-is k p s c d a b e f g h i j q =
+    let x : not p ≡ a = ap not g ∙ Bool·not-not a in
+    let y : not s ≡ b = ap not h ∙ Bool·not-not b in
+    let z : not c ≡ e = ap not i ∙ Bool·not-not e in
+    let w : not d ≡ f = ap not j ∙ Bool·not-not f in
+    q ∙ cc
+
+-- the close nephew is red in case 4
+only-four : (p s c d : Bool) → choose p s c d ≡ four → c ≡ true
+unfolding choose
+only-four p s true d e = refl
+only-four true true false d e = let z : _≡_ {A = ℕ} 0 1 = cc in absurd (omega arith)
+only-four true false false true e = let z : _≡_ {A = ℕ} 0 1 = cc in absurd (omega arith)
+only-four true false false false e = let z : _≡_ {A = ℕ} 0 1 = cc in absurd (omega arith)
+only-four false true false true e = let z : _≡_ {A = ℕ} 0 1 = cc in absurd (omega arith)
+only-four false true false false e = let z : _≡_ {A = ℕ} 0 1 = cc in absurd (omega arith)
+only-four false false false true e = let z : _≡_ {A = ℕ} 0 1 = cc in absurd (omega arith)
+only-four false false false false e = let z : _≡_ {A = ℕ} 0 1 = cc in absurd (omega arith)
+
+red-there : (n : ℕ) (C : List ℕ) (k : ℕ) → redAt n C k ≡ true → k < n
+unfolding onLink
+red-there n C k e = go (leb n k) refl e
+  where
+    go : (t : Bool) → leb n k ≡ t → cond t false (red C k) ≡ true → k < n
+    go true q z = absurd (true≢false (sym z))
+    go false q z = leb-false n k q
+
+pub close-there : (n : ℕ) (C : List ℕ) (p s d : Bool) (c : ℕ) (k : Case) → k ≡ choose p s (redAt n C c) d → k ≡ four → c < n
+close-there n C p s d c k e f = red-there n C c (only-four p s (redAt n C c) d (sym e ∙ f))
+
+pub four-fits : (n c : ℕ) (k : K.Case) → (caseOf k ≡ four → c < n) → k ≡ ks.Four → c < n
+four-fits n c k h e = h (ap caseOf e)
+
+-- what each case writes
+module _ (n : ℕ) (W C : List ℕ) (r ix : ℕ) (b : Bool) (P S c d : ℕ) (k : K.Case) where
+  pub as-one : (D : List ℕ) → k ≡ ks.One → D ≡ dye C S true → again W D r P ≡ act n (caseOf k) W C r ix b P S c d
+  as-one D e q = rw e (ap (λ (X : List ℕ). again W X r P) q)
+
+  pub as-two : (N : Next) → k ≡ ks.Two → N ≡ act n two W C r ix b P S 0 0 → N ≡ act n (caseOf k) W C r ix b P S c d
+  as-two N e q = rw e q
+
+  pub as-three : (D E : List ℕ) → k ≡ ks.Three → D ≡ dye C P false → E ≡ dye D S true → done W E r ≡ act n (caseOf k) W C r ix b P S c d
+  as-three D E e p q = rw (e, ← p) (ap (λ (X : List ℕ). done W X r) q)
+
+  pub as-four : (N : Next) → k ≡ ks.Four → N ≡ act n four W C r ix b P S c 0 → N ≡ act n (caseOf k) W C r ix b P S c d
+  as-four N e q = rw e q
+
+  pub as-five : (N : Next) → k ≡ ks.Five → N ≡ act n five W C r 0 b P S 0 d → N ≡ act n (caseOf k) W C r ix b P S c d
+  as-five N e q = rw e q
+
+pub four-is : (n : ℕ) (W C : List ℕ) (r ix : ℕ) (b : Bool) (P S c : ℕ) (C₁ C₂ W₁ W₂ W₃ : List ℕ) → C₁ ≡ dye C c false → C₂ ≡ dye C₁ S true
+    → W₁ ≡ turn-4 n W b P S c → W₂ ≡ fix n W₁ S → W₃ ≡ fix n W₂ c → again W₃ C₂ r ix ≡ act n four W C r ix b P S c 0
+four-is n W C r ix b P S c C₁ C₂ W₁ W₂ W₃ e f g h i = rw (← e, ← f, ← g, ← h, ← i)
+
+pub five-is : (n : ℕ) (W C : List ℕ) (r : ℕ) (b : Bool) (P S d : ℕ) (C₁ C₂ C₃ X : List ℕ) (top : ℕ) → C₁ ≡ dye C S (red C P) → C₂ ≡ dye C₁ P false
+    → C₃ ≡ dyeAt n C₂ d false → top ≡ rootAfter n W r P S → X ≡ turn n W b P S → done X C₃ top ≡ act n five W C r 0 b P S 0 d
+five-is n W C r b P S d C₁ C₂ C₃ X top e f g h i = rw (← e, ← f, ← g, ← h, ← i)
+
+pub turn-is : (n : ℕ) (W C : List ℕ) (r ix P : ℕ) (b : Bool) (S c d : ℕ) (k : K.Case) (N : Next) → c ≡ kid W b S → d ≡ kid W (not b) S
+    → caseOf k ≡ choose (red C P) (red C S) (redAt n C c) (redAt n C d) → N ≡ act n (caseOf k) W C r ix b P S c d → N ≡ turnOf n W C r ix P b S
+unfolding turnOf
+turn-is n W C r ix P b S c d k N e f g h = rw (← e, ← f, ← g) h
+
+pub at-parent : (n : ℕ) (W C : List ℕ) (r ix : ℕ) (N : Next) (w p x : ℕ) (l : Link) → w ≡ par W ix → l ≡ linkOf n w → l ≡ Slot p
+    → x ≡ kid W true p → N ≡ turnAt n W C r ix p (eqb x ix) → N ≡ step n W C r ix
+unfolding step
+at-parent n W C r ix N w p x l e q k f h =
+    read-linked N n (par W ix) w l (λ (P : ℕ). turnAt n W C r ix P (eqb (kid W true P) ix)) (done W C r) e q p k
+    (h ∙ ap (λ (y : ℕ). turnAt n W C r ix p (eqb y ix)) f)
+
+-- the loop stands at a slot
+act-stays : (n : ℕ) (k : Case) (W C : List ℕ) (r ix : ℕ) (b : Bool) (P S c d : ℕ) (X D : List ℕ) (q i : ℕ) → ix < n → P < n
+    → act n k W C r ix b P S c d ≡ again X D q i → i < n
+act-stays n one W C r ix b P S c d X D q i h l e = let z : P ≡ i = cc in omega arith
+act-stays n two W C r ix b P S c d X D q i h l e = let z : ix ≡ i = cc in omega arith
+act-stays n three W C r ix b P S c d X D q i h l e = let z : _≡_ {A = ℕ} 0 1 = cc in absurd (omega arith)
+act-stays n four W C r ix b P S c d X D q i h l e = let z : ix ≡ i = cc in omega arith
+act-stays n five W C r ix b P S c d X D q i h l e = let z : _≡_ {A = ℕ} 0 1 = cc in absurd (omega arith)
+
+-- what leaves the loop standing at a slot, by cases on a link word
+link-stays : (n w : ℕ) (f : ℕ → Next) (W C : List ℕ) (r : ℕ) (X D : List ℕ) (q i : ℕ) → ((s : ℕ) → s < n → f s ≡ again X D q i → i < n)
+    → onLink n w f (done W C r) ≡ again X D q i → i < n
+unfolding onLink
+link-stays n w f W C r X D q i h e = go (leb n w) refl e
+  where
+    go : (t : Bool) → leb n w ≡ t → cond t (done W C r) (f w) ≡ again X D q i → i < n
+    go true p z = let y : _≡_ {A = ℕ} 0 1 = cc in absurd (omega arith)
+    go false p z = h w (leb-false n w p) z
+
+step-stays : (n : ℕ) (W C : List ℕ) (r ix : ℕ) (X D : List ℕ) (q i : ℕ) → ix < n → step n W C r ix ≡ again X D q i → i < n
+unfolding step turnAt turnOf
+step-stays n W C r ix X D q i h e =
+    link-stays n (par W ix) (λ (P : ℕ). turnAt n W C r ix P (eqb (kid W true P) ix)) W C r X D q i
+    (λ P l z. link-stays n (kid W (not (eqb (kid W true P) ix)) P) (λ (S : ℕ). turnOf n W C r ix P (eqb (kid W true P) ix) S) W C r X D q i
+    (λ S m y. at-turn P (eqb (kid W true P) ix) S l y) z)
+    e
+  where
+    at-turn : (P : ℕ) (b : Bool) (S : ℕ) → P < n → turnOf n W C r ix P b S ≡ again X D q i → i < n
+    at-turn P b S l z =
+        act-stays n (choose (red C P) (red C S) (redAt n C (kid W b S)) (redAt n C (kid W (not b) S))) W C r ix b P S (kid W b S) (kid W (not b) S) X D q i h l z
+
+-- the loop's turns
+repair-again : (n f : ℕ) (W C : List ℕ) (r ix : ℕ) (X D : List ℕ) (q i : ℕ) → 0 < f → step n W C r ix ≡ again X D q i
+    → repair n f W C r ix ≡ repair n (f - 1) X D q i
+unfolding repair
+repair-again n zero W C r ix X D q i h e = absurd (omega arith)
+repair-again n (suc f) W C r ix X D q i h e = rw (sub-one (suc f)) (ap (λ (s : Next). goOn s (λ A B a j. repair n f A B a j)) e)
+
+repair-done : (n f : ℕ) (W C : List ℕ) (r ix : ℕ) (X D : List ℕ) (q : ℕ) → 0 < f → step n W C r ix ≡ done X D q → repair n f W C r ix ≡ done X D q
+unfolding repair
+repair-done n zero W C r ix X D q h e = absurd (omega arith)
+repair-done n (suc f) W C r ix X D q h e = ap (λ (s : Next). goOn s (λ A B a j. repair n f A B a j)) e
+
+repair-none : (n f : ℕ) (W C : List ℕ) (r ix : ℕ) → f ≤ 0 → repair n f W C r ix ≡ again W C r ix
+unfolding repair
+repair-none n zero W C r ix h = refl
+repair-none n (suc f) W C r ix h = absurd (omega arith)
+
+module _ (n f : ℕ) (N : Next) (W C : List ℕ) (r ix : ℕ) (X D : List ℕ) (t : T.Turn) (q : ℕ) where
+  pub loop-on : (i : ℕ) → N ≡ repair n f W C r ix → next t X D ≡ step n W C r ix → t ≡ ts.Again q i → 0 < f → N ≡ repair n (f - 1) X D q i
+  loop-on i e p z h = e ∙ repair-again n f W C r ix X D q i h (sym p ∙ ap (λ (s : T.Turn). next s X D) z)
+
+  pub loop-done : N ≡ repair n f W C r ix → next t X D ≡ step n W C r ix → t ≡ ts.Done q → 0 < f → store X D q ≡ ending N
+  loop-done e p z h = sym (ap ending (e ∙ repair-done n f W C r ix X D q h (sym p ∙ ap (λ (s : T.Turn). next s X D) z)))
+
+pub loop-stays : (n : ℕ) (W C : List ℕ) (r ix : ℕ) (X D : List ℕ) (t : T.Turn) (q i : ℕ) → t ≡ ts.Again q i → next t X D ≡ step n W C r ix → ix < n → i < n
+loop-stays n W C r ix X D t q i z p h = step-stays n W C r ix X D q i h (sym p ∙ ap (λ (s : T.Turn). next s X D) z)
+
+pub loop-none : (n f : ℕ) (N : Next) (W C : List ℕ) (r ix : ℕ) → N ≡ repair n f W C r ix → f ≤ 0 → store W C r ≡ ending N
+loop-none n f N W C r ix e h = sym (ap ending (e ∙ repair-none n f W C r ix h))
+
+-- before a slot is vacated
+red-child : (w a t : Bool) → w ≡ not a → not w ≡ t → a ≡ t
+red-child w a t f z = sym (Bool·not-not a) ∙ ap not (sym f) ∙ z
+
+pub red-fits : (n : ℕ) (C : List ℕ) (k : ℕ) (w : Bool) → n ≤ length C * 8 → w ≡ not (redAt n C k) → not w ≡ true → k < length C * 8
+red-fits n C k w h e q = let l : k < n = red-there n C k (red-child w (redAt n C k) true e q) in omega arith
+
+module _ (n : ℕ) (W C : List ℕ) (r x y : ℕ) (v : Bool) (e : v ≡ red C x) where
+  pub ready-red : v ≡ true → store W C r ≡ restructure n W C r x y
+  unfolding restructure
+  ready-red q = rw (sym e ∙ q)
+
+  pub ready-child : (w : Bool) (D : List ℕ) → v ≡ false → w ≡ not (redAt n C y) → not w ≡ true → D ≡ dye C y true → store W D r ≡ restructure n W C r x y
+  unfolding restructure
+  ready-child w D q f z d = rw (sym e ∙ q, red-child w (redAt n C y) true f z, d)
+
+  pub ready-repair : (w : Bool) (S : Store) → v ≡ false → w ≡ not (redAt n C y) → not w ≡ false → S ≡ ending (repair n 36 W C r x) → S ≡ restructure n W C r x y
+  unfolding restructure
+  ready-repair w S q f z d = rw (sym e ∙ q, red-child w (redAt n C y) false f z) d

@@ -1,0 +1,12 @@
+use borrow.Author.Needs.{needs}
+use Rattle.tree_rm_repair.proofs.copy_colour.Statement.{statement}
+use Rattle.tree_rm_repair.proofs.copy_colour.Tie as tie
+
+pub copy-colour-spec : {M : Type 1} → statement M
+copy-colour-spec =
+    tie.close
+    (tie.spec
+    (λ c κs. search needs)
+    (λ c κs. search needs)
+    (λ c. search needs)
+    (λ c. cc))

@@ -1,0 +1,23 @@
+use Rattle.tree_rm_links.proofs.LinkLaws.{read-linked, read-unlinked}
+use Rattle.tree_rm_laws.specs.Repair.{turnAt}
+use Rattle.words.proofs.Laws.{slot-live}
+use borrow.Author.Needs.{needs}
+use native.Mathlib.Omega.{arith}
+use Rattle.tree_rm_repair.proofs.turn_at.Statement.{statement}
+use Rattle.tree_rm_repair.proofs.turn_at.Tie as tie
+
+pub turn-at-spec : {M : Type 1} → statement M
+unfolding turnAt
+turn-at-spec =
+    tie.close
+    (tie.spec
+    (λ c κs. search needs)
+    (λ c κs. search needs)
+    (λ c. search needs)
+    (λ c. search needs)
+    (λ c. search needs)
+    (λ c. search read-unlinked)
+    (λ c κs. (omega arith, omega arith, omega arith, search slot-live))
+    (λ c. search needs)
+    (λ c. search needs)
+    (λ c. search read-linked))

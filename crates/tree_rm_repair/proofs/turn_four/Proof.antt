@@ -1,0 +1,16 @@
+use Rattle.tree_rm_laws.specs.Repair.{turn-4}
+use borrow.Author.Needs.{needs}
+use Rattle.tree_rm_repair.proofs.turn_four.Statement.{statement}
+use Rattle.tree_rm_repair.proofs.turn_four.Tie as tie
+
+pub turn-four-spec : {M : Type 1} → statement M
+unfolding turn-4
+turn-four-spec =
+    tie.close
+    (tie.spec
+    (λ c κs. search needs)
+    (λ c κs. search needs)
+    (λ c κs. search needs)
+    (λ c κs. search needs)
+    (λ c. search needs)
+    (λ c. cc))

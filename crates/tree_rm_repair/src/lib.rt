@@ -1,0 +1,392 @@
+// The repair before a removal: the root test and the five cases of `restructure_rm_complex_cases`, in the file's order.
+use bitvec::colours::is_black;
+use bitvec::colours::is_black_or_nil;
+use bitvec::colours::is_red;
+use bitvec::colours::set_black;
+use bitvec::colours::set_red;
+use tree_rm_links::replace_children;
+use tree_rm_links::set_child;
+use words::ix::Link;
+use words::node::child_of;
+use words::node::parent_of;
+use words::node::update_subtree_interval;
+ghost use mathlib.Core.Path.{_≡_};
+ghost use mathlib.Core.Bool.{true, false, not};
+ghost use Prim.Native.Nat.{_*_, _<_, _≤_};
+ghost use lib.ListN.{length};
+ghost use Rattle.bitvec.specs.Colours.{red, redAt, dye};
+ghost use Rattle.tree_rm_laws.specs.Links.{rootAfter};
+ghost use Rattle.tree_rm_laws.specs.Repair.{turn, turn-2, turn-4, dyeAt, two, four, five, choose, act, turnOf, turnAt, step, repair};
+ghost use Rattle.tree_rm_laws.specs.Remove.{store, ending, restructure};
+ghost use Rattle.tree_rm_repair.specs.Answers.{caseOf, next};
+
+pub enum Case {
+    // Node has black parent and black sibling, both nephews are black.
+    One,
+    // Node has black parent and red sibling, both nephews are black.
+    Two,
+    // Terminal: node has red parent, sibling and both nephews are black.
+    Three,
+    // Node has any parent, sibling and distant nephew are black, but close nephew is red.
+    Four,
+    // Terminal: any parent, black sibling, any close nephew and red distant nephew.
+    Five,
+}
+
+// The root; and where the loop goes on, the slot that it stands at.
+pub enum Turn {
+    Done(u64),
+    Again(u64, u64),
+}
+
+// Which of parent, sibling, close and distant nephew are black decides the case.
+fn case_of(parent: bool, sibling: bool, close: bool, distant: bool) -> Case
+    ensures { λ r. ⌜ caseOf r ≡ choose (not parent) (not sibling) (not close) (not distant) ⌝ }
+{
+    if parent & close & distant {
+        if sibling { Case::One } else { Case::Two }
+    } else if !parent & sibling & close & distant {
+        Case::Three
+    } else if sibling & distant & !close {
+        Case::Four
+    } else {
+        Case::Five
+    }
+}
+
+// The case of a parent, a sibling and the link words of its children.
+fn case_at(colours: &[u8], count: u64, parent: u64, sibling: u64, close: u64, distant: u64) -> Case
+    requires { ⌜ (count ≤ length (now colours) * 8) × (parent < count) × (sibling < count) ⌝ }
+    ensures { λ r. ⌜ caseOf r ≡ choose (red (now (colours .entry)) parent) (red (now (colours .entry)) sibling) (redAt count (now (colours .entry)) close) (redAt count (now (colours .entry)) distant) ⌝ }
+{
+    let parent_black = is_black(colours, parent);
+    let sibling_black = is_black(colours, sibling);
+    let close_nephew_black = is_black_or_nil(colours, count, close);
+    let distant_nephew_black = is_black_or_nil(colours, count, distant);
+    case_of(
+        parent_black,
+        sibling_black,
+        close_nephew_black,
+        distant_nephew_black,
+    )
+}
+
+// Case two's links: the sibling turns into the place of the parent; the answer is the root.
+fn turn_two(
+    nodes: &mut [u64],
+    count: u64,
+    root: u64,
+    node_is_left: bool,
+    parent: u64,
+    sibling: u64,
+) -> u64
+    requires { ⌜ (count * 8 ≤ length (now nodes)) × (parent < count) × (sibling < count) ⌝ }
+    ensures { λ r. ⌜ (r ≡ rootAfter count (now (nodes .entry)) root parent sibling) × (now (nodes .exit) ≡ turn-2 count (now (nodes .entry)) «node_is_left» parent sibling) ⌝ }
+{
+    let close = child_of(nodes, sibling, node_is_left);
+    let top = replace_children(nodes, count, root, parent, sibling);
+    set_child(nodes, count, sibling, parent, node_is_left);
+    set_child(nodes, count, parent, close, !node_is_left);
+    top
+}
+
+// Case four's links: the close nephew turns into the place of the sibling.
+fn turn_four(
+    nodes: &mut [u64],
+    count: u64,
+    node_is_left: bool,
+    parent: u64,
+    sibling: u64,
+    close: u64,
+)
+    requires { ⌜ (count * 8 ≤ length (now nodes)) × (parent < count) × (sibling < count) × (close < count) ⌝ }
+    ensures { λ _. ⌜ now (nodes .exit) ≡ turn-4 count (now (nodes .entry)) «node_is_left» parent sibling close ⌝ }
+{
+    let child = child_of(nodes, close, !node_is_left);
+    set_child(nodes, count, sibling, child, node_is_left);
+    set_child(nodes, count, close, sibling, !node_is_left);
+    set_child(nodes, count, parent, close, !node_is_left);
+}
+
+// Case five's links: as in case two, with the last two writes in the other order.
+fn turn_five(
+    nodes: &mut [u64],
+    count: u64,
+    root: u64,
+    node_is_left: bool,
+    parent: u64,
+    sibling: u64,
+) -> u64
+    requires { ⌜ (count * 8 ≤ length (now nodes)) × (parent < count) × (sibling < count) ⌝ }
+    ensures { λ r. ⌜ (r ≡ rootAfter count (now (nodes .entry)) root parent sibling) × (now (nodes .exit) ≡ turn count (now (nodes .entry)) «node_is_left» parent sibling) ⌝ }
+{
+    let close = child_of(nodes, sibling, node_is_left);
+    let top = replace_children(nodes, count, root, parent, sibling);
+    set_child(nodes, count, parent, close, !node_is_left);
+    set_child(nodes, count, sibling, parent, node_is_left);
+    top
+}
+
+// Slot `to` gets the colour of slot `from`.
+pub fn copy_colour(colours: &mut [u8], from: u64, to: u64)
+    requires { ⌜ (from < length (now colours) * 8) × (to < length (now colours) * 8) ⌝ }
+    ensures { λ _. ⌜ now (colours .exit) ≡ dye (now (colours .entry)) to (red (now (colours .entry)) from) ⌝ }
+{
+    let v = is_red(colours, from);
+    bitvec::put_bit(colours, to as usize, v);
+}
+
+// A link that leads to a slot has it made black.
+fn set_black_at(colours: &mut [u8], count: u64, word: u64)
+    requires { ⌜ count ≤ length (now colours) * 8 ⌝ }
+    ensures { λ _. ⌜ now (colours .exit) ≡ dyeAt count (now (colours .entry)) word false ⌝ }
+{
+    let Link::Slot(ix) = Link::new(word, count) else {
+        return;
+    };
+    set_black(colours, ix);
+}
+
+fn case_two(
+    nodes: &mut [u64],
+    colours: &mut [u8],
+    count: u64,
+    root: u64,
+    ix: u64,
+    node_is_left: bool,
+    parent: u64,
+    sibling: u64,
+) -> Turn
+    requires { ⌜ (count * 8 ≤ length (now nodes)) × (count ≤ length (now colours) * 8) × (parent < count) × (sibling < count) ⌝ }
+    ensures { λ r. ⌜ next r (now (nodes .exit)) (now (colours .exit)) ≡ act count two (now (nodes .entry)) (now (colours .entry)) root ix «node_is_left» parent sibling 0 0 ⌝ }
+{
+    set_red(colours, parent);
+    set_black(colours, sibling);
+    let top = turn_two(nodes, count, root, node_is_left, parent, sibling);
+    Turn::Again(top, ix)
+}
+
+fn case_four(
+    nodes: &mut [u64],
+    colours: &mut [u8],
+    count: u64,
+    root: u64,
+    ix: u64,
+    node_is_left: bool,
+    parent: u64,
+    sibling: u64,
+    close: u64,
+) -> Turn
+    requires { ⌜ (count * 8 ≤ length (now nodes)) × (count ≤ length (now colours) * 8) × (parent < count) × (sibling < count) × (close < count) ⌝ }
+    ensures { λ r. ⌜ next r (now (nodes .exit)) (now (colours .exit)) ≡ act count four (now (nodes .entry)) (now (colours .entry)) root ix «node_is_left» parent sibling close 0 ⌝ }
+{
+    set_black(colours, close);
+    set_red(colours, sibling);
+    turn_four(nodes, count, node_is_left, parent, sibling, close);
+    update_subtree_interval(nodes, count, sibling);
+    update_subtree_interval(nodes, count, close);
+    Turn::Again(root, ix)
+}
+
+fn case_five(
+    nodes: &mut [u64],
+    colours: &mut [u8],
+    count: u64,
+    root: u64,
+    node_is_left: bool,
+    parent: u64,
+    sibling: u64,
+    distant: u64,
+) -> Turn
+    requires { ⌜ (count * 8 ≤ length (now nodes)) × (count ≤ length (now colours) * 8) × (parent < count) × (sibling < count) ⌝ }
+    ensures { λ r. ⌜ next r (now (nodes .exit)) (now (colours .exit)) ≡ act count five (now (nodes .entry)) (now (colours .entry)) root 0 «node_is_left» parent sibling 0 distant ⌝ }
+{
+    copy_colour(colours, parent, sibling);
+    set_black(colours, parent);
+    set_black_at(colours, count, distant);
+    let top = turn_five(nodes, count, root, node_is_left, parent, sibling);
+    Turn::Done(top)
+}
+
+// What the case writes, for the node ix with its parent, its sibling and the link words of the nephews.
+fn act_on(
+    nodes: &mut [u64],
+    colours: &mut [u8],
+    count: u64,
+    root: u64,
+    ix: u64,
+    node_is_left: bool,
+    parent: u64,
+    sibling: u64,
+    close: u64,
+    distant: u64,
+    case: Case,
+) -> Turn
+    requires { ⌜ (count * 8 ≤ length (now nodes)) × (count ≤ length (now colours) * 8) × (parent < count) × (sibling < count) × (caseOf case ≡ four → close < count) ⌝ }
+    ensures { λ r. ⌜ next r (now (nodes .exit)) (now (colours .exit)) ≡ act count (caseOf case) (now (nodes .entry)) (now (colours .entry)) root ix «node_is_left» parent sibling close distant ⌝ }
+{
+    match case {
+        Case::One => {
+            set_red(colours, sibling);
+            Turn::Again(root, parent)
+        }
+        Case::Two => case_two(
+            nodes,
+            colours,
+            count,
+            root,
+            ix,
+            node_is_left,
+            parent,
+            sibling,
+        ),
+        Case::Three => {
+            set_black(colours, parent);
+            set_red(colours, sibling);
+            Turn::Done(root)
+        }
+        Case::Four => case_four(
+            nodes,
+            colours,
+            count,
+            root,
+            ix,
+            node_is_left,
+            parent,
+            sibling,
+            close,
+        ),
+        Case::Five => case_five(
+            nodes,
+            colours,
+            count,
+            root,
+            node_is_left,
+            parent,
+            sibling,
+            distant,
+        ),
+    }
+}
+
+// One turn of the loop, with the parent, the side and the sibling at hand.
+fn turn_of(
+    nodes: &mut [u64],
+    colours: &mut [u8],
+    count: u64,
+    root: u64,
+    ix: u64,
+    parent: u64,
+    node_is_left: bool,
+    sibling: u64,
+) -> Turn
+    requires { ⌜ (count * 8 ≤ length (now nodes)) × (count ≤ length (now colours) * 8) × (parent < count) × (sibling < count) ⌝ }
+    ensures { λ r. ⌜ next r (now (nodes .exit)) (now (colours .exit)) ≡ turnOf count (now (nodes .entry)) (now (colours .entry)) root ix parent «node_is_left» sibling ⌝ }
+{
+    let close = child_of(nodes, sibling, node_is_left);
+    let distant = child_of(nodes, sibling, !node_is_left);
+    let case = case_at(colours, count, parent, sibling, close, distant);
+    act_on(
+        nodes,
+        colours,
+        count,
+        root,
+        ix,
+        node_is_left,
+        parent,
+        sibling,
+        close,
+        distant,
+        case,
+    )
+}
+
+// With the parent at hand. In a store that passes the check there is a sibling.
+fn turn_at(
+    nodes: &mut [u64],
+    colours: &mut [u8],
+    count: u64,
+    root: u64,
+    ix: u64,
+    parent: u64,
+    node_is_left: bool,
+) -> Turn
+    requires { ⌜ (count * 8 ≤ length (now nodes)) × (count ≤ length (now colours) * 8) × (parent < count) ⌝ }
+    ensures { λ r. ⌜ next r (now (nodes .exit)) (now (colours .exit)) ≡ turnAt count (now (nodes .entry)) (now (colours .entry)) root ix parent «node_is_left» ⌝ }
+{
+    let Link::Slot(sibling) = Link::new(child_of(nodes, parent, !node_is_left), count) else {
+        return Turn::Done(root);
+    };
+    turn_of(
+        nodes,
+        colours,
+        count,
+        root,
+        ix,
+        parent,
+        node_is_left,
+        sibling,
+    )
+}
+
+fn one_turn(nodes: &mut [u64], colours: &mut [u8], count: u64, root: u64, ix: u64) -> Turn
+    requires { ⌜ (count * 8 ≤ length (now nodes)) × (count ≤ length (now colours) * 8) × (ix < count) ⌝ }
+    ensures { λ r. ⌜ next r (now (nodes .exit)) (now (colours .exit)) ≡ step count (now (nodes .entry)) (now (colours .entry)) root ix ⌝ }
+{
+    // Case (terminal): Node is the root of the tree.
+    let Link::Slot(parent) = Link::new(parent_of(nodes, ix), count) else {
+        return Turn::Done(root);
+    };
+    let node_is_left = child_of(nodes, parent, true) == ix;
+    turn_at(nodes, colours, count, root, ix, parent, node_is_left)
+}
+
+// Restructure the tree before removing ix; the answer is the root. In a store that passes the check 36 turns suffice.
+fn restructure_rm_complex_cases(
+    nodes: &mut [u64],
+    colours: &mut [u8],
+    count: u64,
+    root: u64,
+    ix: u64,
+) -> u64
+    requires { ⌜ (count * 8 ≤ length (now nodes)) × (count ≤ length (now colours) * 8) × (ix < count) ⌝ }
+    ensures { λ r. ⌜ store (now (nodes .exit)) (now (colours .exit)) r ≡ ending (repair count 36 (now (nodes .entry)) (now (colours .entry)) root ix) ⌝ }
+{
+    let mut at = ix;
+    let mut top = root;
+    let mut turns: u64 = 36;
+    while turns > 0 {
+        match one_turn(nodes, colours, count, top, at) {
+            Turn::Done(r) => return r,
+            Turn::Again(r, i) => {
+                top = r;
+                at = i;
+                turns -= 1;
+            }
+        }
+    }
+    top
+}
+
+// Restructure the tree before removing ix with the child link `child`; the answer is the root.
+pub fn restructure_rm(
+    nodes: &mut [u64],
+    colours: &mut [u8],
+    count: u64,
+    root: u64,
+    ix: u64,
+    child: u64,
+) -> u64
+    requires { ⌜ (count * 8 ≤ length (now nodes)) × (count ≤ length (now colours) * 8) × (ix < count) ⌝ }
+    ensures { λ r. ⌜ store (now (nodes .exit)) (now (colours .exit)) r ≡ restructure count (now (nodes .entry)) (now (colours .entry)) root ix child ⌝ }
+{
+    if is_red(colours, ix) {
+        return root;
+    }
+    if !is_black_or_nil(colours, count, child) {
+        // The child will be removed later.
+        set_red(colours, child);
+        return root;
+    }
+    restructure_rm_complex_cases(nodes, colours, count, root, ix)
+}
