@@ -17,7 +17,7 @@ mod state;
 mod step;
 mod store;
 
-use crate::state::State;
+use driver_state::state::State;
 use libc::STDIN_FILENO;
 use lines::input::Line;
 use lines::output;

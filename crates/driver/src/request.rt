@@ -1,12 +1,12 @@
 // A complete line: passed over, refused, or handed to the request that it names.
-use crate::answer::what;
-use crate::arena;
 use crate::build;
 use crate::lookups;
 use crate::remove;
 use crate::settings;
-use crate::state::State;
 use crate::store;
+use driver_state::answer::what;
+use driver_state::arena;
+use driver_state::state::State;
 use lines::input::Line;
 
 // The requests. A family of requests answers `what` to a line that it does not know, or hands it to the next family.

@@ -1,15 +1,15 @@
 // The settings: the store, the bytes of the bit calls, and taking over what the last request left.
-use crate::answer::what;
-use crate::arena;
-use crate::arena::BYTES;
-use crate::arena::MOST_BYTES;
-use crate::arena::MOST_WORDS;
-use crate::arena::NEW_BYTES;
-use crate::arena::NEW_COLOURS;
-use crate::arena::NEW_WORDS;
-use crate::given;
-use crate::state::Left;
-use crate::state::State;
+use driver_state::answer::what;
+use driver_state::arena;
+use driver_state::arena::BYTES;
+use driver_state::arena::MOST_BYTES;
+use driver_state::arena::MOST_WORDS;
+use driver_state::arena::NEW_BYTES;
+use driver_state::arena::NEW_COLOURS;
+use driver_state::arena::NEW_WORDS;
+use driver_state::given;
+use driver_state::state::Left;
+use driver_state::state::State;
 
 // `store COUNT ROOT LIST LIST`
 pub fn store(

@@ -1,0 +1,124 @@
+// The answers: their numbers, what a request changed, and the answer to a line that fits nothing.
+use crate::arena;
+use crate::arena::NEW_WORDS;
+use crate::state::State;
+use lines::output;
+ghost use Prim.Native.Nat.{_≤_};
+
+// A line that fits nothing: nothing changes.
+pub fn what(s: State, out: &mut [u8]) -> State {
+    let to = output::put_text(out, s.to, b"what\n");
+    let left = s.left;
+    s.after(left, to)
+}
+
+// How a bool is printed.
+pub fn bit_number(v: bool) -> u64 {
+    if v { 1 } else { 0 }
+}
+
+// Each number of a list.
+pub fn put_each(list: &[u64], out: &mut [u8], to: usize) -> usize {
+    let mut at = to;
+    let mut i = 0;
+    while i < list.len() {
+        at = output::put_next(out, at, list[i]);
+        i += 1;
+    }
+    at
+}
+
+// The numbers that an answer begins with: the refusal's, 0 for none, and the others.
+pub fn put_numbers(no: u64, others: &[u64], out: &mut [u8], to: usize) -> usize {
+    let first = output::put_number(out, to, no);
+    put_each(others, out, first)
+}
+
+// An answer that is its numbers alone, and leaves nothing: `commit` takes what the request before it left.
+pub fn line(s: State, no: u64, others: &[u64], out: &mut [u8]) -> State {
+    let to = put_numbers(no, others, out, s.to);
+    let left = s.left;
+    s.after(left, output::put_byte(out, to, b'\n'))
+}
+
+// 1 where the two differ, else 0.
+fn differ(a: u64, b: u64) -> u64
+    ensures { λ r. ⌜ r ≤ 1 ⌝ }
+{
+    if a == b { 0 } else { 1 }
+}
+
+// Place i with its new content, if that differs from the old one.
+fn put_change(out: &mut [u8], to: usize, i: usize, old: u64, new: u64) -> usize {
+    if old == new {
+        to
+    } else {
+        let next = output::put_next(out, to, i as u64);
+        output::put_next(out, next, new)
+    }
+}
+
+// How many of the first n node words differ from the store's.
+fn count_words(words: &[u64], n: usize) -> u64 {
+    let mut k: u64 = 0;
+    let mut i = 0;
+    while i < n {
+        k += differ(arena::word(words, 0, i), arena::word(words, NEW_WORDS, i));
+        i += 1;
+    }
+    k
+}
+
+// What differs in the first n node words: how many places, then each.
+pub fn put_words(words: &[u64], n: usize, out: &mut [u8], to: usize) -> usize {
+    let mut at = output::put_next(out, to, count_words(words, n));
+    let mut i = 0;
+    while i < n {
+        at = put_change(
+            out,
+            at,
+            i,
+            arena::word(words, 0, i),
+            arena::word(words, NEW_WORDS, i),
+        );
+        i += 1;
+    }
+    at
+}
+
+fn wide(b: u8) -> u64 {
+    b as u64
+}
+
+fn byte(octets: &[u8], base: usize, i: usize) -> u64 {
+    wide(arena::byte(octets, base, i))
+}
+
+// How many of n bytes differ between two parts.
+fn count_bytes(octets: &[u8], old: usize, new: usize, n: usize) -> u64 {
+    let mut k: u64 = 0;
+    let mut i = 0;
+    while i < n {
+        k += differ(byte(octets, old, i), byte(octets, new, i));
+        i += 1;
+    }
+    k
+}
+
+// What differs in n bytes of two parts: how many places, then each.
+pub fn put_bytes(
+    octets: &[u8],
+    old: usize,
+    new: usize,
+    n: usize,
+    out: &mut [u8],
+    to: usize,
+) -> usize {
+    let mut at = output::put_next(out, to, count_bytes(octets, old, new, n));
+    let mut i = 0;
+    while i < n {
+        at = put_change(out, at, i, byte(octets, old, i), byte(octets, new, i));
+        i += 1;
+    }
+    at
+}
