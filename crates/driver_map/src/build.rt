@@ -7,8 +7,6 @@ use driver_state::copy;
 use driver_state::state::State;
 use iset::Map;
 use iset::build::Built;
-use lines::output;
-use words::ix::U;
 
 // The build into the copy.
 fn built(s: State, list: &[u64], words: &mut [u64], octets: &mut [u8]) -> Built {
@@ -19,25 +17,29 @@ fn built(s: State, list: &[u64], words: &mut [u64], octets: &mut [u8]) -> Built 
     Map::build(&mut words[w..w + nodes], &mut octets[c..c + colours], list)
 }
 
-fn put_built(s: State, no: u64, m: Map, words: &[u64], octets: &[u8], out: &mut [u8]) -> State {
-    let first = output::put_number(out, s.to, no);
-    let second = output::put_next(out, first, m.count);
-    let third = output::put_next(out, second, m.root);
-    copy::end(s, m.count, m.root, words, octets, out, third)
+// What is printed of an answer: the refusal's number and the map.
+struct Shown {
+    no: u64,
+    map: Map,
 }
 
-fn answered(s: State, a: Built, words: &[u64], octets: &[u8], out: &mut [u8]) -> State {
+// A refused build has the map of no entries.
+fn shown_of(a: Built) -> Shown {
     match a {
-        Built::Done(m) => put_built(s, 0, m, words, octets, out),
-        Built::Refused(why) => put_built(
-            s,
-            why.number(),
-            Map { count: 0, root: U },
-            words,
-            octets,
-            out,
-        ),
+        Built::Done(map) => Shown { no: 0, map },
+        Built::Refused(why) => Shown {
+            no: why.number(),
+            map: Map::new(),
+        },
     }
+}
+
+fn answered(s: State, list: &[u64], words: &mut [u64], octets: &mut [u8], out: &mut [u8]) -> State {
+    copy::begin(s, words, octets);
+    let a = shown_of(built(s, list, words, octets));
+    let m = a.map;
+    let others = [m.count, m.root];
+    copy::line(s, m.count, m.root, a.no, &others, words, octets, out)
 }
 
 // The first number of the line says how many follow, at most 12,288.
@@ -50,9 +52,7 @@ fn build_list(
     out: &mut [u8],
 ) -> State {
     if (n <= 12288) & (n == list.len() as u64) {
-        copy::begin(s, words, octets);
-        let a = built(s, list, words, octets);
-        answered(s, a, words, octets, out)
+        answered(s, list, words, octets, out)
     } else {
         what(s, out)
     }

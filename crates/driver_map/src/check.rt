@@ -6,7 +6,6 @@ use driver_state::copy;
 use driver_state::state::State;
 use iset::Checked;
 use iset::Map;
-use lines::output;
 
 // The refusal's number, 0 for none.
 fn check_answer(count: u64, root: u64, nodes: &[u64], colours: &[u8]) -> u64 {
@@ -33,6 +32,5 @@ fn checked(s: State, words: &[u64], octets: &[u8]) -> u64 {
 pub fn check(s: State, words: &mut [u64], octets: &mut [u8], out: &mut [u8]) -> State {
     copy::begin(s, words, octets);
     let no = checked(s, words, octets);
-    let to = output::put_number(out, s.to, no);
-    copy::end(s, s.count, s.root, words, octets, out, to)
+    copy::line(s, s.count, s.root, no, &[], words, octets, out)
 }

@@ -8,7 +8,6 @@ use driver_state::state::State;
 use iset::Map;
 use iset::remove::Gone;
 use iset::remove::Removal;
-use lines::output;
 use tree_rm_laws::pairs::Pair;
 use tree_rm_laws::pairs::Pairs;
 use words::ix::U;
@@ -26,24 +25,30 @@ fn removed(s: State, slot: u64, words: &mut [u64], octets: &mut [u8]) -> Removal
     m.remove(&mut words[w..w + nodes], &mut octets[c..c + colours], slot)
 }
 
-fn put_pair(p: Pair, out: &mut [u8], to: usize) -> usize {
-    let old = output::put_next(out, to, p.old);
-    output::put_next(out, old, p.new)
+// What is printed of an answer: the refusal's number and what is gone.
+struct Shown {
+    no: u64,
+    gone: Gone,
 }
 
-fn put_pairs(p: Pairs, out: &mut [u8], to: usize) -> usize {
-    let first = put_pair(p.first, out, to);
-    let second = put_pair(p.second, out, first);
-    put_pair(p.third, out, second)
-}
-
-fn put_gone(no: u64, g: Gone, out: &mut [u8], to: usize) -> usize {
+// The value, the map and the pairs, as numbers.
+fn numbers_of(g: Gone) -> [u64; 9] {
     let m = g.map;
-    let first = output::put_number(out, to, no);
-    let value = output::put_next(out, first, g.value);
-    let count = output::put_next(out, value, m.count);
-    let root = output::put_next(out, count, m.root);
-    put_pairs(g.pairs, out, root)
+    let p = g.pairs;
+    let first = p.first;
+    let second = p.second;
+    let third = p.third;
+    [
+        g.value,
+        m.count,
+        m.root,
+        first.old,
+        first.new,
+        second.old,
+        second.new,
+        third.old,
+        third.new,
+    ]
 }
 
 // What a refusal answers in the places of the rest: the map as given, value 0, no pairs.
@@ -63,17 +68,27 @@ fn nothing_gone(s: State) -> Gone {
     }
 }
 
-fn put_removed(s: State, no: u64, g: Gone, words: &[u64], octets: &[u8], out: &mut [u8]) -> State {
-    let m = g.map;
-    let to = put_gone(no, g, out, s.to);
-    copy::end(s, m.count, m.root, words, octets, out, to)
+fn shown_of(a: Removal, s: State) -> Shown {
+    match a {
+        Removal::Done(gone) => Shown { no: 0, gone },
+        Removal::Refused(why) => Shown {
+            no: why.number(),
+            gone: nothing_gone(s),
+        },
+    }
 }
 
-fn answered(s: State, a: Removal, words: &[u64], octets: &[u8], out: &mut [u8]) -> State {
-    match a {
-        Removal::Done(g) => put_removed(s, 0, g, words, octets, out),
-        Removal::Refused(why) => put_removed(s, why.number(), nothing_gone(s), words, octets, out),
-    }
+fn line(s: State, a: Shown, words: &[u64], octets: &[u8], out: &mut [u8]) -> State {
+    let g = a.gone;
+    let m = g.map;
+    let others = numbers_of(g);
+    copy::line(s, m.count, m.root, a.no, &others, words, octets, out)
+}
+
+fn answered(s: State, slot: u64, words: &mut [u64], octets: &mut [u8], out: &mut [u8]) -> State {
+    copy::begin(s, words, octets);
+    let a = shown_of(removed(s, slot, words, octets), s);
+    line(s, a, words, octets, out)
 }
 
 pub fn remove(
@@ -84,10 +99,7 @@ pub fn remove(
     out: &mut [u8],
 ) -> State {
     if numbers.len() == 1 {
-        let slot = numbers[0];
-        copy::begin(s, words, octets);
-        let a = removed(s, slot, words, octets);
-        answered(s, a, words, octets, out)
+        answered(s, numbers[0], words, octets, out)
     } else {
         what(s, out)
     }
