@@ -1,5 +1,5 @@
 // `drain QUERY CURSOR LIMIT ROOM`: many hits at once, into an output of ROOM places.
-use crate::query;
+use driver_state::answer;
 use driver_state::arena;
 use driver_state::arena::NEW_COLOURS;
 use driver_state::arena::NEW_WORDS;
@@ -50,37 +50,38 @@ fn drained(s: State, a: Asked, words: &[u64], octets: &[u8], hits: &mut [u64]) -
     )
 }
 
-fn put_drained(no: u64, d: Drained, out: &mut [u8], to: usize) -> usize {
-    let first = output::put_number(out, to, no);
-    let hits = output::put_next(out, first, d.hits);
-    let entered = output::put_next(out, hits, d.entered);
-    query::put_cursor(d.next, out, entered)
+// What is printed of an answer before the output: the refusal's number and what the drain says of itself.
+struct Shown {
+    no: u64,
+    done: Drained,
 }
 
 // A refused drain has no hits and the cursor as given.
-fn put_answer(a: Emptied, given: Cursor, out: &mut [u8], to: usize) -> usize {
+fn shown_of(a: Emptied, given: Cursor) -> Shown {
     match a {
-        Emptied::Done(d) => put_drained(0, d, out, to),
-        Emptied::Refused(why) => {
-            let none = Drained {
+        Emptied::Done(done) => Shown { no: 0, done },
+        Emptied::Refused(why) => Shown {
+            no: why.number(),
+            done: Drained {
                 hits: 0,
                 entered: 0,
                 next: given,
-            };
-            put_drained(why.number(), none, out, to)
-        }
+            },
+        },
     }
+}
+
+fn put_shown(a: Shown, out: &mut [u8], to: usize) -> usize {
+    let d = a.done;
+    let next = d.next;
+    let others = [d.hits, d.entered, next.slot, next.levels, next.bits];
+    answer::put_numbers(a.no, &others, out, to)
 }
 
 // The length of a list, then its numbers.
 fn put_list(list: &[u64], out: &mut [u8], to: usize) -> usize {
-    let mut at = output::put_next(out, to, list.len() as u64);
-    let mut i = 0;
-    while i < list.len() {
-        at = output::put_next(out, at, list[i]);
-        i += 1;
-    }
-    at
+    let first = output::put_next(out, to, list.len() as u64);
+    answer::put_each(list, out, first)
 }
 
 // The drain into this output, and all of the output.
@@ -92,8 +93,8 @@ fn answered(
     hits: &mut [u64],
     out: &mut [u8],
 ) -> State {
-    let done = drained(s, a, words, octets, hits);
-    let shown = put_answer(done, a.cursor, out, s.to);
+    let done = shown_of(drained(s, a, words, octets, hits), a.cursor);
+    let shown = put_shown(done, out, s.to);
     let to = put_list(hits, out, shown);
     copy::end(s, s.count, s.root, words, octets, out, to)
 }

@@ -3,7 +3,6 @@ use driver_state::arena;
 use driver_state::given;
 use iter::Cursor;
 use iter::rules::Query;
-use lines::output;
 use words::interval::Bound;
 use words::interval::Interval;
 use words::interval::Span;
@@ -54,10 +53,4 @@ pub fn cursor(numbers: &[u64], k: usize) -> Cursor {
         levels: arena::word(numbers, k, 1),
         bits: arena::word(numbers, k, 2),
     }
-}
-
-pub fn put_cursor(c: Cursor, out: &mut [u8], to: usize) -> usize {
-    let slot = output::put_next(out, to, c.slot);
-    let levels = output::put_next(out, slot, c.levels);
-    output::put_next(out, levels, c.bits)
 }

@@ -1,5 +1,4 @@
 // `step QUERY CURSOR`: the next hit after a cursor, or the end.
-use crate::query;
 use driver_state::arena;
 use driver_state::arena::NEW_COLOURS;
 use driver_state::arena::NEW_WORDS;
@@ -10,7 +9,6 @@ use iset::lookup::Stepped;
 use iter::Cursor;
 use iter::rules::Query;
 use iter::seek::Step;
-use lines::output;
 use words::ix::U;
 
 // What is printed of an answer: the refusal's number, the slot of the hit, the next cursor and the nodes entered.
@@ -64,11 +62,10 @@ fn shown_of(a: Stepped, given: Cursor) -> Shown {
     }
 }
 
-fn put_shown(a: Shown, out: &mut [u8], to: usize) -> usize {
-    let no = output::put_number(out, to, a.no);
-    let slot = output::put_next(out, no, a.slot);
-    let next = query::put_cursor(a.next, out, slot);
-    output::put_next(out, next, a.entered)
+fn line(s: State, a: Shown, words: &[u64], octets: &[u8], out: &mut [u8]) -> State {
+    let next = a.next;
+    let others = [a.slot, next.slot, next.levels, next.bits, a.entered];
+    copy::line(s, s.count, s.root, a.no, &others, words, octets, out)
 }
 
 pub fn step(
@@ -81,6 +78,5 @@ pub fn step(
 ) -> State {
     copy::begin(s, words, octets);
     let a = shown_of(stepped(s, q, c, words, octets), c);
-    let to = put_shown(a, out, s.to);
-    copy::end(s, s.count, s.root, words, octets, out, to)
+    line(s, a, words, octets, out)
 }
