@@ -1,21 +1,6 @@
 // Every public call by its numbers: one line in, one line out. docs/DRIVE.md says what it reads and writes.
-mod answer;
-mod arena;
-mod bits;
-mod build;
-mod copy;
-mod drain;
-mod fresh;
-mod given;
-mod lookups;
-mod query;
-mod remove;
 mod request;
 mod settings;
-mod stacks;
-mod state;
-mod step;
-mod store;
 
 use driver_state::state::State;
 use libc::STDIN_FILENO;

@@ -1,9 +1,9 @@
 // A complete line: passed over, refused, or handed to the request that it names.
-use crate::build;
-use crate::lookups;
-use crate::remove;
 use crate::settings;
-use crate::store;
+use driver_lookups::lookups;
+use driver_map::build;
+use driver_map::remove;
+use driver_map::store;
 use driver_state::answer::what;
 use driver_state::arena;
 use driver_state::state::State;

@@ -5,6 +5,7 @@ use crate::fresh;
 use crate::query;
 use crate::step;
 use driver_calls::stacks;
+use driver_state::answer::what;
 use driver_state::arena;
 use driver_state::given;
 use driver_state::state::State;
@@ -21,11 +22,11 @@ enum Call {
 }
 
 // A drain whose cursor, limit and room stand from place k on. There are at most 4,096 places of output.
-fn drain_from(query: Query, numbers: &[u64], k: usize) -> Call {
+fn drain_from(q: Query, numbers: &[u64], k: usize) -> Call {
     let room = arena::word(numbers, k, 4);
     if room <= 4096 {
         Call::Drain(Asked {
-            query,
+            query: q,
             cursor: query::cursor(numbers, k),
             limit: arena::word(numbers, k, 3),
             room: room as usize,
@@ -66,6 +67,16 @@ fn call_of(name: &[u8], numbers: &[u64]) -> Call {
     }
 }
 
+fn answered(s: State, call: Call, words: &mut [u64], octets: &mut [u8], out: &mut [u8]) -> State {
+    match call {
+        Call::FreshOverlap => fresh::overlap(s, out),
+        Call::FreshExact(x) => fresh::exact(s, x, words, octets, out),
+        Call::Step(q, c) => step::step(s, q, c, words, octets, out),
+        Call::Drain(a) => drain::drain(s, a, words, octets, out),
+        Call::Unknown => what(s, out),
+    }
+}
+
 pub fn request(
     s: State,
     name: &[u8],
@@ -76,10 +87,7 @@ pub fn request(
 ) -> State {
     let call = call_of(name, numbers);
     match call {
-        Call::FreshOverlap => fresh::overlap(s, out),
-        Call::FreshExact(x) => fresh::exact(s, x, words, octets, out),
-        Call::Step(q, c) => step::step(s, q, c, words, octets, out),
-        Call::Drain(a) => drain::drain(s, a, words, octets, out),
         Call::Unknown => stacks::request(s, name, numbers, octets, out),
+        _ => answered(s, call, words, octets, out),
     }
 }

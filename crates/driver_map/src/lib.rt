@@ -1,4 +1,4 @@
 // The requests of docs/DRIVE.md that check, build and remove.
 pub mod build;
-pub mod check;
 pub mod remove;
+pub mod store;
