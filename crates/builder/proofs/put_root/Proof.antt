@@ -14,4 +14,6 @@ put-root-spec =
     (λ c κs. search needs)
     (λ c κs. search needs)
     (λ c. search needs)
-    (λ c. cc))
+    (λ c. let put = c .before .before in
+    let told = put .before .before in
+    rw (← told .before .before .entry-at .ensures, ← told .before .root-of .ensures, ← told .root-of2 .ensures) (put .put-node .ensures)))

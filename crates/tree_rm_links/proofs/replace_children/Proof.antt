@@ -13,4 +13,7 @@ replace-children-spec =
     (λ c κs. search needs)
     (λ c κs. search needs)
     (λ c. search needs)
-    (λ c. (cc, cc)))
+    (λ c. let put = c .before .before .before in
+    let at = put .before .before .before .before in
+    let parent = at .before .before .parent-of .ensures in
+    (rw (← parent) (c .root-below .ensures), rw (← parent, ← at .replace-child-at .ensures) (put .put-parent .ensures))))

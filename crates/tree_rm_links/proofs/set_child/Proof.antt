@@ -11,4 +11,5 @@ set-child-spec =
     (λ c κs. search needs)
     (λ c κs. search needs)
     (λ c. search needs)
-    (λ c. cc))
+    (λ c. let put = c .before .before in
+    rw (← put .before .before .before .before .adopt-child .ensures) (put .put-child .ensures)))

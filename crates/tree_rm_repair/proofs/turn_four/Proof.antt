@@ -13,4 +13,7 @@ turn-four-spec =
     (λ c κs. search needs)
     (λ c κs. search needs)
     (λ c. search needs)
-    (λ c. cc))
+    (λ c. let third = c .before .before in
+    let second = third .before .before .before .before in
+    let first = second .before .before .before .before in
+    rw (← first .before .before .child-of .ensures, ← first .set-child .ensures, ← second .set-child2 .ensures) (third .set-child3 .ensures)))

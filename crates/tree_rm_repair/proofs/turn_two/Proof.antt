@@ -13,4 +13,9 @@ turn-two-spec =
     (λ c κs. search needs)
     (λ c κs. search needs)
     (λ c. search needs)
-    (λ c. (cc, cc)))
+    (λ c. let second = c .before .before in
+    let first = second .before .before .before .before in
+    let swung = first .before .before .before .before in (
+      swung .replace-children .ensures .0,
+      rw (← swung .before .before .child-of .ensures, ← swung .replace-children .ensures .1, ← first .set-child .ensures) (second .set-child2 .ensures),
+    )))

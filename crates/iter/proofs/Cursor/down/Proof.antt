@@ -14,4 +14,4 @@ down-spec =
     (λ c κs. search needs)
     (λ c κs. search marked-room)
     (λ c κs. search needs)
-    (λ c. cc))
+    (λ c. rw (← c .before .before .before .before .stack .ensures .0, ← c .before .before .before .side-mark .ensures .0, ← c .before .before .mark .ensures, ← c .before .deepen .ensures, ← c .child-of .ensures)))

@@ -9,4 +9,4 @@ is-reached-spec =
     (λ c. search needs)
     (λ c κs. search needs)
     (λ c κs. search needs)
-    (λ c. cc))
+    (λ c. rw (← c .before .from-level .ensures, ← c .is-way .ensures)))

@@ -10,4 +10,4 @@ mark-spec =
     (tie.spec
     (λ c κs. search needs)
     (λ c κs. search needs)
-    (λ c. cc))
+    (λ c. rw (← c .before .stack .ensures .0, ← c .mark .ensures)))

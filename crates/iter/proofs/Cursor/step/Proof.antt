@@ -10,4 +10,4 @@ step-spec =
     (tie.spec
     (λ c κs. search needs)
     (λ c κs. search needs)
-    (λ c. (cc, cc)))
+    (λ c. (rw (← c .before .counted .ensures .0) (c .move-to-next .ensures .0), c .move-to-next .ensures .1)))

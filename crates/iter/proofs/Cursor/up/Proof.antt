@@ -12,4 +12,4 @@ up-spec =
     (λ c κs. search needs)
     (λ c κs. search needs)
     (λ c κs. search needs)
-    (λ c. cc))
+    (λ c. rw (← c .before .before .before .stack .ensures .0, ← c .before .before .shorten .ensures, ← c .before .parent-of .ensures, ← c .slot-above .ensures)))

@@ -10,4 +10,4 @@ is-on-side-spec =
     (tie.spec
     (λ c κs. search needs)
     (λ c κs. search needs)
-    (λ c. cc))
+    (λ c. rw (← c .before .child-of .ensures, ← c .child-of2 .ensures)))

@@ -8,5 +8,5 @@ goes-exact-spec =
     (tie.spec
     (λ c κs. search needs)
     (λ c κs. search needs)
-    (λ c. cc)
-    (λ c. cc))
+    (λ c. rw (c .before .if1 .taken) (c .should-go-left-exact .ensures))
+    (λ c. rw (c .before .if1 .left) (c .should-go-right-exact .ensures)))

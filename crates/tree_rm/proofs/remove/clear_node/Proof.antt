@@ -10,4 +10,4 @@ clear-node-spec =
     (tie.spec
     (λ c κs. search needs)
     (λ c. search needs)
-    (λ c. cc))
+    (λ c. c .before .before .put-node .ensures))
