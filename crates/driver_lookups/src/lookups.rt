@@ -5,7 +5,6 @@ use crate::fresh;
 use crate::query;
 use crate::step;
 use driver_calls::stacks;
-use driver_state::answer::what;
 use driver_state::arena;
 use driver_state::given;
 use driver_state::state::State;
@@ -67,16 +66,6 @@ fn call_of(name: &[u8], numbers: &[u64]) -> Call {
     }
 }
 
-fn answered(s: State, call: Call, words: &mut [u64], octets: &mut [u8], out: &mut [u8]) -> State {
-    match call {
-        Call::FreshOverlap => fresh::overlap(s, out),
-        Call::FreshExact(x) => fresh::exact(s, x, words, octets, out),
-        Call::Step(q, c) => step::step(s, q, c, words, octets, out),
-        Call::Drain(a) => drain::drain(s, a, words, octets, out),
-        Call::Unknown => what(s, out),
-    }
-}
-
 pub fn request(
     s: State,
     name: &[u8],
@@ -87,7 +76,10 @@ pub fn request(
 ) -> State {
     let call = call_of(name, numbers);
     match call {
+        Call::FreshOverlap => fresh::overlap(s, out),
+        Call::FreshExact(x) => fresh::exact(s, x, words, octets, out),
+        Call::Step(q, c) => step::step(s, q, c, words, octets, out),
+        Call::Drain(a) => drain::drain(s, a, words, octets, out),
         Call::Unknown => stacks::request(s, name, numbers, octets, out),
-        _ => answered(s, call, words, octets, out),
     }
 }
