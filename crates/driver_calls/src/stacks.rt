@@ -5,6 +5,9 @@ use driver_state::given;
 use driver_state::state::State;
 use stack::ActionStack;
 use stack::Answer;
+use stack::lending;
+use stack::lending::After;
+use stack::lent::Outcome;
 use words::refusal::Refusal;
 
 enum Call {
@@ -58,23 +61,8 @@ fn call_of(name: &[u8], numbers: &[u64]) -> Call {
     }
 }
 
-fn done(call: Call, stack: ActionStack) -> Answer {
-    match call {
-        Call::Push => stack.push(),
-        Call::Pop => stack.pop(),
-        Call::GoLeft => stack.go_left(),
-        Call::MakeMatch => stack.make_match(),
-        Call::GoRight => stack.go_right(),
-        Call::CanGoLeft => stack.can_go_left(),
-        Call::CanMatch => stack.can_match(),
-        Call::CanGoRight => stack.can_go_right(),
-        Call::IsEmpty => stack.is_empty(),
-        Call::Unknown => Answer::Refused(Refusal::BadBit),
-    }
-}
-
-// A refused call has tested nothing and has the stack as given.
-fn shown_of(a: Answer, given: ActionStack) -> Shown {
+// A refused test has the stack as given.
+fn tested(a: Answer, given: ActionStack) -> Shown {
     match a {
         Answer::Done(test, stack) => Shown { no: 0, test, stack },
         Answer::Refused(why) => Shown {
@@ -85,8 +73,41 @@ fn shown_of(a: Answer, given: ActionStack) -> Shown {
     }
 }
 
+// A call that changes the stack tests nothing; refused or not, the stack is shown as the call left it.
+fn changed(a: After) -> Shown {
+    let outcome = a.outcome;
+    let stack = a.stack;
+    match outcome {
+        Outcome::Done => Shown {
+            no: 0,
+            test: false,
+            stack,
+        },
+        Outcome::Refused(why) => Shown {
+            no: why.number(),
+            test: false,
+            stack,
+        },
+    }
+}
+
+fn done(call: Call, stack: ActionStack) -> Shown {
+    match call {
+        Call::Push => changed(lending::push(stack)),
+        Call::Pop => changed(lending::pop(stack)),
+        Call::GoLeft => changed(lending::go_left(stack)),
+        Call::MakeMatch => changed(lending::make_match(stack)),
+        Call::GoRight => changed(lending::go_right(stack)),
+        Call::CanGoLeft => tested(stack.can_go_left(), stack),
+        Call::CanMatch => tested(stack.can_match(), stack),
+        Call::CanGoRight => tested(stack.can_go_right(), stack),
+        Call::IsEmpty => tested(stack.is_empty(), stack),
+        Call::Unknown => tested(Answer::Refused(Refusal::BadBit), stack),
+    }
+}
+
 fn answered(s: State, call: Call, stack: ActionStack, out: &mut [u8]) -> State {
-    let a = shown_of(done(call, stack), stack);
+    let a = done(call, stack);
     let after = a.stack;
     let others = [answer::bit_number(a.test), after.levels, after.bits];
     answer::line(s, a.no, &others, out)
