@@ -44,8 +44,15 @@ use Rattle.iset.proofs.Map.drain.Reads as drain-reads
 use Rattle.iset.proofs.Map.drain.Kinds as drain-kinds
 use Rattle.iset.proofs.Map.build.Reads as build-reads
 use Rattle.iset.proofs.Map.build.Kinds as build-kinds
+use Rattle.iset.proofs.Map.new.Reads as new-reads
+use Rattle.iset.proofs.Map.new.Kinds as new-kinds
 use Rattle.iset.proofs.Map.check.Reads as check-reads
 use Rattle.iset.proofs.Map.check.Kinds as check-kinds
+
+pub new-determined :
+    (κs : Lfts 0) (a : K.Dens κs new-kinds.ps) (r r′ : K.resT new-kinds.r κs .Denot) (s s′ : AtExit (K.endedOf 0 new-kinds.ps new-kinds.r) κs)
+    → new-reads.Post κs a r s → new-reads.Post κs a r′ s′ → r ≡ r′
+new-determined κs a r r′ s s′ p q = p ∙ sym q
 
 -- the check's number says which answer it is
 abbrev checkedAt : ℕ → Checked
