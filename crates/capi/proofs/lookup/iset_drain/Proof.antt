@@ -1,0 +1,17 @@
+use Rattle.capi.proofs.Laws.{short-number, short-handed, short-ranged, bounded-number, bounded-handed, unbounded-number, unbounded-handed, short-left, made-left, bounded-left, unbounded-left, drain-number, drain-handed, drain-left}
+use borrow.Author.Needs.{needs}
+use Rattle.capi.proofs.lookup.iset_drain.Statement.{statement}
+use Rattle.capi.proofs.lookup.iset_drain.Tie as tie
+
+pub iset-drain-spec : {M : Type 1} → statement M
+iset-drain-spec =
+    tie.close
+    (tie.spec
+    (λ c. (search (short-number, short-ranged), search (short-handed, short-ranged), search short-left))
+    (λ c κs. search needs)
+    (λ c κs. search needs)
+    (λ c κs. search needs)
+    (λ c. search needs)
+    (λ c. search needs)
+    (λ c. (search (bounded-number, drain-number), search (bounded-handed, drain-handed), search (made-left, bounded-left, drain-left)))
+    (λ c. (search unbounded-number, search unbounded-handed, search (made-left, unbounded-left))))

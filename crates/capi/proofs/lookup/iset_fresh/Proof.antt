@@ -1,0 +1,14 @@
+use Rattle.capi.proofs.Laws.{short-number, short-handed, fresh-number, fresh-handed}
+use borrow.Author.Needs.{needs}
+use Rattle.capi.proofs.lookup.iset_fresh.Statement.{statement}
+use Rattle.capi.proofs.lookup.iset_fresh.Tie as tie
+
+pub iset-fresh-spec : {M : Type 1} → statement M
+iset-fresh-spec =
+    tie.close
+    (tie.spec
+    (λ c. (search short-number, search short-handed))
+    (λ c κs. search needs)
+    (λ c κs. search needs)
+    (λ c. search needs)
+    (λ c. (search fresh-number, search fresh-handed)))

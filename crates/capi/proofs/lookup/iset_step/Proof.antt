@@ -1,0 +1,16 @@
+use Rattle.capi.proofs.Laws.{short-number, short-handed, short-ranged, bounded-number, bounded-handed, unbounded-number, unbounded-handed, step-number, step-handed}
+use borrow.Author.Needs.{needs}
+use Rattle.capi.proofs.lookup.iset_step.Statement.{statement}
+use Rattle.capi.proofs.lookup.iset_step.Tie as tie
+
+pub iset-step-spec : {M : Type 1} → statement M
+iset-step-spec =
+    tie.close
+    (tie.spec
+    (λ c. (search (short-number, short-ranged), search (short-handed, short-ranged)))
+    (λ c κs. search needs)
+    (λ c κs. search needs)
+    (λ c κs. search needs)
+    (λ c. search needs)
+    (λ c. (search (bounded-number, step-number), search (bounded-handed, step-handed)))
+    (λ c. (search unbounded-number, search unbounded-handed)))

@@ -1,0 +1,11 @@
+use borrow.Author.Needs.{needs}
+use Rattle.capi.proofs.range.range.Statement.{statement}
+use Rattle.capi.proofs.range.range.Tie as tie
+
+pub range-spec : {M : Type 1} → statement M
+range-spec =
+    tie.close
+    (tie.spec
+    (λ c κs. search needs)
+    (λ c κs. search needs)
+    (λ c. cc))

@@ -1,0 +1,86 @@
+// Writing the numbers of an answer, in the order that include/iset.h declares.
+use iset::Map;
+use iset::remove::Gone;
+use iter::Cursor;
+use iter::drain::Drained;
+use iter::seek::Step;
+use words::ix::U;
+ghost use mathlib.Core.Path.{_≡_};
+ghost use Prim.Native.Nat.{_≤_};
+ghost use lib.ListN.{length};
+ghost use Rattle.iter.specs.Drains.{filled};
+ghost use Rattle.capi.specs.Replies.{mapNumbers, goneNumbers, cursorNumbers, stepNumbers, foundNumbers, drainNumbers};
+
+// Writes the numbers to the front of the answer. Places past them stay.
+pub fn put(numbers: &[u64], answer: &mut [u64])
+    requires { ⌜ length (now numbers) ≤ length (now answer) ⌝ }
+    ensures { λ _. ⌜ now (answer .exit) ≡ filled (now (numbers .entry)) (now (answer .entry)) ⌝ }
+{
+    let mut i = 0;
+    while i < numbers.len() {
+        answer[i] = numbers[i];
+        i += 1;
+    }
+}
+
+pub fn put_map(m: Map, answer: &mut [u64])
+    requires { ⌜ 2 ≤ length (now answer) ⌝ }
+    ensures { λ _. ⌜ now (answer .exit) ≡ filled (mapNumbers (m .count) (m .root)) (now (answer .entry)) ⌝ }
+{
+    let numbers = [m.count, m.root];
+    put(&numbers, answer);
+}
+
+pub fn put_gone(g: Gone, answer: &mut [u64])
+    requires { ⌜ 9 ≤ length (now answer) ⌝ }
+    ensures { λ _. ⌜ now (answer .exit) ≡ filled (goneNumbers (g .value) (g .map .count) (g .map .root) (g .pairs)) (now (answer .entry)) ⌝ }
+{
+    let p = g.pairs;
+    let numbers = [
+        g.value,
+        g.map.count,
+        g.map.root,
+        p.first.old,
+        p.first.new,
+        p.second.old,
+        p.second.new,
+        p.third.old,
+        p.third.new,
+    ];
+    put(&numbers, answer);
+}
+
+pub fn put_cursor(c: Cursor, answer: &mut [u64])
+    requires { ⌜ 3 ≤ length (now answer) ⌝ }
+    ensures { λ _. ⌜ now (answer .exit) ≡ filled (cursorNumbers c) (now (answer .entry)) ⌝ }
+{
+    let numbers = [c.slot, c.levels, c.bits];
+    put(&numbers, answer);
+}
+
+fn put_found(slot: u64, next: Cursor, entered: u64, answer: &mut [u64])
+    requires { ⌜ 5 ≤ length (now answer) ⌝ }
+    ensures { λ _. ⌜ now (answer .exit) ≡ filled (stepNumbers slot next entered) (now (answer .entry)) ⌝ }
+{
+    let numbers = [slot, next.slot, next.levels, next.bits, entered];
+    put(&numbers, answer);
+}
+
+pub fn put_step(s: Step, answer: &mut [u64])
+    requires { ⌜ 5 ≤ length (now answer) ⌝ }
+    ensures { λ _. ⌜ now (answer .exit) ≡ filled (foundNumbers s) (now (answer .entry)) ⌝ }
+{
+    match s {
+        Step::Hit(next, entered) => put_found(next.slot, next, entered, answer),
+        Step::End(entered) => put_found(U, Cursor::ended(), entered, answer),
+    }
+}
+
+pub fn put_drained(d: Drained, answer: &mut [u64])
+    requires { ⌜ 5 ≤ length (now answer) ⌝ }
+    ensures { λ _. ⌜ now (answer .exit) ≡ filled (drainNumbers (d .hits) (d .entered) (d .next)) (now (answer .entry)) ⌝ }
+{
+    let c = d.next;
+    let numbers = [d.hits, d.entered, c.slot, c.levels, c.bits];
+    put(&numbers, answer);
+}

@@ -1,0 +1,96 @@
+// The map for hosts in C and Rust: every public call of crate iset over lent slices and numbers, as include/iset.h declares them. Over
+// extern "C" a slice is two scalars, its pointer and its length; a map, a range and a cursor are the numbers that they hold.
+//
+// An export returns the refusal's number, 0 for none, and writes the answer's numbers to the front of the slice `answer`. Two
+// refusals are its own and come before those of the call: ShortAnswer where that slice does not hold the numbers, then BadBound where a kind of
+// bound is none. Where anything is refused nothing lent has changed, the answer slice neither.
+pub mod answer;
+pub mod lookup;
+pub mod range;
+
+use crate::answer::put_gone;
+use crate::answer::put_map;
+use iset::Checked;
+use iset::Map;
+use iset::build::Built;
+use iset::remove::Removal;
+ghost use mathlib.Core.Path.{_≡_};
+ghost use Rattle.iset.specs.Check.{checkRule};
+ghost use Rattle.iset.specs.Build.{buildNodes, buildColour};
+ghost use Rattle.iset.specs.Remove.{removeNodes, removeColours};
+ghost use Rattle.capi.specs.Replies.{mapOf, number, handed, left, buildTold, removeTold};
+
+pub const SHORT_ANSWER: u64 = 11;
+
+pub const BAD_BOUND: u64 = 12;
+
+// The store check. Its number is its whole answer.
+#[no_mangle]
+pub extern "C" fn iset_check(count: u64, root: u64, nodes: &[u64], colours: &[u8]) -> u64
+    ensures { λ r. ⌜ r ≡ checkRule (mapOf count root) (now (nodes .entry)) (now (colours .entry)) ⌝ }
+{
+    match (Map { count, root }).check(nodes, colours) {
+        Checked::Sound => 0,
+        Checked::Refused(why) => why.number(),
+    }
+}
+
+// The map of the triples start, end, value of a list. Answer: count, root.
+#[no_mangle]
+pub extern "C" fn iset_build(
+    nodes: &mut [u64],
+    colours: &mut [u8],
+    list: &[u64],
+    answer: &mut [u64],
+) -> u64
+    ensures { λ r. ⌜ (r ≡ number (now (answer .entry)) (buildTold (now (nodes .entry)) (now (colours .entry)) (now (list .entry))))
+        × (now (answer .exit) ≡ handed (now (answer .entry)) (buildTold (now (nodes .entry)) (now (colours .entry)) (now (list .entry))))
+        × (now (nodes .exit)
+        ≡ left (now (answer .entry)) (buildTold (now (nodes .entry)) (now (colours .entry)) (now (list .entry))) (now (nodes .entry))
+        (buildNodes (now (nodes .entry)) (now (colours .entry)) (now (list .entry))))
+        × (now (colours .exit)
+        ≡ left (now (answer .entry)) (buildTold (now (nodes .entry)) (now (colours .entry)) (now (list .entry))) (now (colours .entry))
+        (buildColour (now (nodes .entry)) (now (colours .entry)) (now (list .entry)))) ⌝ }
+{
+    if answer.len() < 2 {
+        return SHORT_ANSWER;
+    }
+    match Map::build(nodes, colours, list) {
+        Built::Refused(why) => why.number(),
+        Built::Done(m) => {
+            put_map(m, answer);
+            0
+        }
+    }
+}
+
+// Removes the entry of a slot. Answer: value, count, root, then the moved entries, three times old slot, new slot.
+#[no_mangle]
+pub extern "C" fn iset_remove(
+    count: u64,
+    root: u64,
+    nodes: &mut [u64],
+    colours: &mut [u8],
+    slot: u64,
+    answer: &mut [u64],
+) -> u64
+    ensures { λ r. ⌜ (r ≡ number (now (answer .entry)) (removeTold (mapOf count root) (now (nodes .entry)) (now (colours .entry)) slot))
+        × (now (answer .exit) ≡ handed (now (answer .entry)) (removeTold (mapOf count root) (now (nodes .entry)) (now (colours .entry)) slot))
+        × (now (nodes .exit)
+        ≡ left (now (answer .entry)) (removeTold (mapOf count root) (now (nodes .entry)) (now (colours .entry)) slot) (now (nodes .entry))
+        (removeNodes (mapOf count root) (now (nodes .entry)) (now (colours .entry)) slot))
+        × (now (colours .exit)
+        ≡ left (now (answer .entry)) (removeTold (mapOf count root) (now (nodes .entry)) (now (colours .entry)) slot) (now (colours .entry))
+        (removeColours (mapOf count root) (now (nodes .entry)) (now (colours .entry)) slot)) ⌝ }
+{
+    if answer.len() < 9 {
+        return SHORT_ANSWER;
+    }
+    match (Map { count, root }).remove(nodes, colours, slot) {
+        Removal::Refused(why) => why.number(),
+        Removal::Done(g) => {
+            put_gone(g, answer);
+            0
+        }
+    }
+}
