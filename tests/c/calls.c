@@ -1,0 +1,312 @@
+// Every call of include/iset.h on the examples of document 01 and on bad input. Each call prints one line: its name, the number that it returned and,
+// where that is 0, the answer. After every call it is tested that nothing changed that may not: nothing at all where the call was
+// refused, and never a place past what was lent. Such a change is printed at the line's end.
+#include <inttypes.h>
+#include <stdio.h>
+#include <stdlib.h>
+#include <string.h>
+
+#include "iset.h"
+
+#define WORDS 48
+#define BYTES 2
+#define LIST 16
+#define PLACES 66
+#define FILL UINT64_C(777)
+
+// What is lent, with the lengths that a call is told. Each array has places past the greatest length told.
+struct lent {
+    uint64_t nodes[WORDS], list[LIST], out[PLACES], answer[10];
+    uint8_t colours[BYTES];
+    size_t words, bytes, items, places, room;
+    uint64_t count, root;
+};
+
+static struct lent now, before;
+
+static void fill(uint64_t *a, size_t n) {
+    for (size_t i = 0; i < n; i++) a[i] = FILL;
+}
+
+static void lend(size_t words, size_t bytes) {
+    memset(&now, 0, sizeof now);
+    now.words = words;
+    now.bytes = bytes;
+    now.places = 64;
+    now.root = ISET_U;
+}
+
+static void begin(size_t room) {
+    now.room = room;
+    fill(now.answer, 10);
+    before = now;
+}
+
+static int differ(const uint64_t *a, const uint64_t *b, size_t from, size_t to) {
+    return memcmp(a + from, b + from, (to - from) * sizeof *a) != 0;
+}
+
+// The line of a call that returned `no` and may write `numbers` numbers and `slots` slots, and where `stores` is set the store.
+static void line(const char *name, uint64_t no, size_t numbers, size_t slots, int stores) {
+    int done = no == 0;
+    printf("%s: %" PRIu64, name, no);
+    for (size_t i = 0; done && i < numbers; i++) printf(" %" PRIu64, now.answer[i]);
+    if (differ(now.answer, before.answer, done ? numbers : 0, 10)) printf(" ANSWER CHANGED");
+    if (differ(now.out, before.out, done ? slots : 0, PLACES)) printf(" OUTPUT CHANGED");
+    if (differ(now.nodes, before.nodes, done && stores ? now.words : 0, WORDS)) printf(" NODES CHANGED");
+    if (memcmp(now.list, before.list, sizeof now.list)) printf(" LIST CHANGED");
+    size_t from = done && stores ? now.bytes : 0;
+    if (memcmp(now.colours + from, before.colours + from, BYTES - from)) printf(" COLOURS CHANGED");
+}
+
+static void check(const char *name) {
+    begin(0);
+    line(name, iset_check(now.count, now.root, now.nodes, now.words, now.colours, now.bytes), 0, 0, 0);
+    printf("\n");
+}
+
+static void build_in(const char *name, const uint64_t *list, size_t items, size_t room) {
+    memcpy(now.list, list, items * sizeof *list);
+    now.items = items;
+    begin(room);
+    uint64_t no = iset_build(now.nodes, now.words, now.colours, now.bytes, now.list, items, now.answer, room);
+    line(name, no, ISET_BUILD_ANSWER, 0, 1);
+    if (no == 0) {
+        now.count = now.answer[0];
+        now.root = now.answer[1];
+        printf(" colours %d", now.colours[0]);
+    }
+    printf("\n");
+}
+
+static void build(const char *name, const uint64_t *list, size_t items) {
+    build_in(name, list, items, ISET_BUILD_ANSWER);
+}
+
+static void remove_in(const char *name, uint64_t slot, size_t room) {
+    begin(room);
+    uint64_t no = iset_remove(now.count, now.root, now.nodes, now.words, now.colours, now.bytes, slot, now.answer, room);
+    line(name, no, ISET_REMOVE_ANSWER, 0, 1);
+    if (no == 0) {
+        now.count = now.answer[1];
+        now.root = now.answer[2];
+        printf(" colours %d", now.colours[0]);
+    }
+    printf("\n");
+}
+
+static void remove_slot(const char *name, uint64_t slot) {
+    remove_in(name, slot, ISET_REMOVE_ANSWER);
+}
+
+// A query: exact, by start and end; or a range, by two bounds. A cursor. A limit.
+struct query {
+    int exact;
+    uint64_t lo_kind, lo, hi_kind, hi;
+};
+
+static uint64_t cursor[3], limit;
+
+static struct query range(uint64_t lo_kind, uint64_t lo, uint64_t hi_kind, uint64_t hi) {
+    struct query q = {0, lo_kind, lo, hi_kind, hi};
+    return q;
+}
+
+static struct query exact(uint64_t start, uint64_t end) {
+    struct query q = {1, 0, start, 0, end};
+    return q;
+}
+
+static void fresh_in(const char *name, struct query q, size_t room) {
+    begin(room);
+    uint64_t no = q.exact
+        ? iset_fresh_exact(now.count, now.root, now.nodes, now.words, now.colours, now.bytes, q.lo, q.hi, now.answer, room)
+        : iset_fresh(now.count, now.root, now.answer, room);
+    line(name, no, ISET_FRESH_ANSWER, 0, 0);
+    if (no == 0) memcpy(cursor, now.answer, sizeof cursor);
+    printf("\n");
+}
+
+static void fresh(const char *name, struct query q) {
+    fresh_in(name, q, ISET_FRESH_ANSWER);
+}
+
+static void step_in(const char *name, struct query q, size_t room) {
+    begin(room);
+    uint64_t no = q.exact
+        ? iset_step_exact(now.count, now.root, now.nodes, now.words, now.colours, now.bytes, q.lo, q.hi, cursor[0], cursor[1], cursor[2],
+            now.answer, room)
+        : iset_step(now.count, now.root, now.nodes, now.words, now.colours, now.bytes, q.lo_kind, q.lo, q.hi_kind, q.hi, cursor[0],
+            cursor[1], cursor[2], now.answer, room);
+    line(name, no, ISET_STEP_ANSWER, 0, 0);
+    if (no == 0) memcpy(cursor, now.answer + 1, sizeof cursor);
+    printf("\n");
+}
+
+static void step(const char *name, struct query q) {
+    step_in(name, q, ISET_STEP_ANSWER);
+}
+
+static void drain_in(const char *name, struct query q, size_t room) {
+    fill(now.out, PLACES);
+    begin(room);
+    uint64_t no = q.exact
+        ? iset_drain_exact(now.count, now.root, now.nodes, now.words, now.colours, now.bytes, q.lo, q.hi, cursor[0], cursor[1], cursor[2],
+            limit, now.out, now.places, now.answer, room)
+        : iset_drain(now.count, now.root, now.nodes, now.words, now.colours, now.bytes, q.lo_kind, q.lo, q.hi_kind, q.hi, cursor[0],
+            cursor[1], cursor[2], limit, now.out, now.places, now.answer, room);
+    line(name, no, ISET_DRAIN_ANSWER, no == 0 ? (size_t)now.answer[0] : 0, 0);
+    if (no == 0) {
+        memcpy(cursor, now.answer + 2, sizeof cursor);
+        printf(" slots");
+        for (uint64_t i = 0; i < now.answer[0]; i++) printf(" %" PRIu64, now.out[i]);
+    }
+    printf("\n");
+}
+
+static void drain(const char *name, struct query q) {
+    drain_in(name, q, ISET_DRAIN_ANSWER);
+}
+
+static const uint64_t LIST_A[15] = {10, 20, 1, 10, 30, 2, 25, 40, 3, 40, 50, 4, 45, 60, 5};
+static const uint64_t LIST_B[9] = {5, 9, 1, 5, 9, 2, 5, 9, 3};
+
+static void store_a(void) {
+    lend(40, 1);
+    now.count = 5;
+    now.root = 2;
+    memcpy(now.list, LIST_A, sizeof LIST_A);
+    begin(ISET_BUILD_ANSWER);
+    if (iset_build(now.nodes, 40, now.colours, 1, now.list, 15, now.answer, ISET_BUILD_ANSWER) != 0) abort();
+}
+
+static void links(const char *name, uint64_t slot) {
+    printf("%s: left %" PRIu64 " right %" PRIu64 " parent %" PRIu64 "\n", name, now.nodes[slot * 8 + 5], now.nodes[slot * 8 + 6],
+        now.nodes[slot * 8 + 7]);
+}
+
+static void built_and_removed(void) {
+    lend(40, 1);
+    check("no entries");
+    build("A build", LIST_A, 15);
+    check("A check");
+    links("A slot 2", 2);
+    links("A slot 1", 1);
+    links("A slot 4", 4);
+    store_a(), remove_slot("A remove 0", 0), check("check");
+    store_a(), remove_slot("A remove 1", 1), check("check");
+    store_a(), remove_slot("A remove 2", 2), check("check");
+    store_a(), remove_slot("A remove 4", 4), check("check"), links("slot 2", 2);
+    store_a(), remove_slot("A remove 5", 5), remove_slot("A remove U", ISET_U);
+    lend(24, 1);
+    build("B build", LIST_B, 9);
+    remove_slot("B remove 0", 0);
+    remove_slot("then remove 1", 1);
+    remove_slot("then remove 0", 0);
+    remove_slot("then remove 0", 0);
+}
+
+static void looked_up(void) {
+    struct query some = range(ISET_INCLUDED, 20, ISET_EXCLUDED, 25), all = range(ISET_UNBOUNDED, 0, ISET_UNBOUNDED, 0);
+    store_a();
+    fresh("A fresh", some), step("[20, 25) step", some), step("step", some), step("step", some);
+    fresh("A fresh", some), step("[60, 70) step", range(ISET_INCLUDED, 60, ISET_EXCLUDED, 70));
+    limit = 0;
+    fresh("A fresh", some), drain("(20, 25] drain", range(ISET_EXCLUDED, 20, ISET_INCLUDED, 25));
+    fresh("A fresh", all), drain("all drain", all);
+    limit = 2;
+    fresh("A fresh", all), drain("all drain 2", all), drain("drain 2", all), drain("drain 2", all), drain("drain 2", all);
+    fresh("A fresh", some), step("(7, 7] step", range(ISET_EXCLUDED, 7, ISET_INCLUDED, 7));
+    step("[7, 7] step", range(ISET_INCLUDED, 7, ISET_INCLUDED, 7));
+    lend(24, 1);
+    build("B build", LIST_B, 9);
+    limit = 0;
+    fresh("B fresh exact", exact(5, 9)), drain("[5, 9) drain", exact(5, 9));
+    fresh("B fresh exact", exact(5, 9)), step("[5, 9) step", exact(5, 9));
+    fresh("B fresh exact", exact(5, 8)), step("[5, 8) step", exact(5, 8)), drain("drain", exact(5, 8));
+}
+
+static void bad_stores(void) {
+    store_a(), now.words = 39, check("39 words"), remove_slot("remove", 0);
+    store_a(), now.bytes = 0, check("no colours");
+    store_a(), now.count = 6, check("count 6"), fresh("fresh exact", exact(10, 20));
+    store_a(), now.count = UINT64_MAX, check("count 2^64 - 1");
+    store_a(), now.root = 5, check("root 5"), remove_slot("remove", 0), fresh("fresh exact", exact(10, 20));
+    store_a(), now.count = 0, check("count 0 root 2");
+    store_a(), now.nodes[22] += UINT64_C(1) << 32, check("a link past 2^32");
+    store_a(), now.colours[0] = 13, check("a red root");
+    begin(ISET_BUILD_ANSWER);
+    printf("NULL check: %" PRIu64, iset_check(0, ISET_U, NULL, 0, NULL, 0));
+    printf(", with an entry: %" PRIu64, iset_check(1, 0, NULL, 0, NULL, 0));
+    uint64_t no = iset_build(NULL, 0, NULL, 0, NULL, 0, now.answer, ISET_BUILD_ANSWER);
+    printf(", build: %" PRIu64 " %" PRIu64 " %" PRIu64, no, now.answer[0], now.answer[1]);
+    printf(", answer: %" PRIu64 "\n", iset_fresh(0, ISET_U, NULL, 0));
+}
+
+static void bad_lists(void) {
+    uint64_t falls[9] = {5, 9, 1, 4, 9, 2, 7, 7, 3};
+    lend(16, 1);
+    build("4 numbers", LIST_A, 4);
+    build("three entries in two slots", LIST_A, 9);
+    lend(40, 1);
+    build("an empty interval after a fall", falls, 9);
+    build("a fall", falls, 6);
+    build("no entries", falls, 0);
+}
+
+static void bad_queries(void) {
+    struct query all = range(ISET_UNBOUNDED, 3, ISET_UNBOUNDED, 1);
+    store_a();
+    fresh("fresh exact of an empty interval", exact(9, 9));
+    fresh("fresh", all), step("unbounded, 3 to 1", all);
+    fresh("fresh", all), step("3 to 1", range(ISET_INCLUDED, 3, ISET_INCLUDED, 1)), drain("drain", range(ISET_INCLUDED, 3, ISET_INCLUDED, 1));
+    step("exact of an empty interval", exact(9, 9)), drain("drain", exact(9, 8));
+    step("a kind 3", range(3, 0, ISET_UNBOUNDED, 0)), drain("drain", range(ISET_UNBOUNDED, 0, UINT64_MAX, 0));
+    cursor[1] = 2, step("a cursor of no form", all), drain("drain", all);
+    step("an overlap cursor, exact", exact(10, 20));
+    now.count = 6, step("a kind 3, count 6", range(3, 0, 0, 0)), step("count 6", all);
+    store_a(), fresh("fresh", all);
+    limit = 65, drain("limit 65", all), limit = 0, now.places = 63, drain("limit 0, 63 places", all);
+    limit = 4, now.places = 3, drain("limit 4, 3 places", all), limit = 3, drain("limit 3", all);
+}
+
+// An answer that is one place too short, in calls that would be refused for another reason too, and in calls that would not.
+static void short_answers(void) {
+    struct query all = range(ISET_UNBOUNDED, 0, ISET_UNBOUNDED, 0);
+    store_a();
+    limit = 0;
+    fresh("fresh", all);
+    build_in("build", LIST_A, 15, 1), build_in("of 4 numbers", LIST_A, 4, 0);
+    remove_in("remove", 0, 8), remove_in("of no slot", 5, 8);
+    fresh_in("fresh", all, 2), fresh_in("exact", exact(10, 20), 2);
+    step_in("step", all, 4), step_in("of a kind 3", range(3, 0, 0, 0), 4), step_in("exact", exact(10, 20), 4);
+    drain_in("drain", all, 4), drain_in("of a kind 3", range(3, 0, 0, 0), 4), drain_in("exact", exact(10, 20), 4);
+    check("check");
+}
+
+// 65,535 entries fit, 65,536 give NoRoom.
+static void most(void) {
+    size_t n = 65536;
+    uint64_t *nodes = calloc(n * 8, sizeof *nodes), *list = malloc(n * 3 * sizeof *list), answer[9];
+    uint8_t *colours = calloc(n / 8, 1);
+    if (!nodes || !list || !colours) abort();
+    for (size_t i = 0; i < n; i++) list[i * 3] = i * 2, list[i * 3 + 1] = i * 2 + 1, list[i * 3 + 2] = i;
+    printf("65536 entries: %" PRIu64, iset_build(nodes, n * 8, colours, n / 8, list, n * 3, answer, 9));
+    uint64_t no = iset_build(nodes, n * 8, colours, n / 8, list, n * 3 - 3, answer, 9);
+    printf(", 65535: %" PRIu64 " %" PRIu64 " %" PRIu64, no, answer[0], answer[1]);
+    printf(", check: %" PRIu64 "\n", iset_check(answer[0], answer[1], nodes, n * 8, colours, n / 8));
+    free(nodes);
+    free(list);
+    free(colours);
+}
+
+int main(void) {
+    built_and_removed();
+    looked_up();
+    bad_stores();
+    bad_lists();
+    bad_queries();
+    short_answers();
+    most();
+    return 0;
+}
