@@ -1,5 +1,5 @@
 -- What an export hands out, in the form that `search` takes.
-use mathlib.Core.Path.{_≡_, refl, sym, ap, _∙_}
+use mathlib.Core.Path.{_≡_, sym, ap, _∙_}
 use mathlib.Core.Bool.{Bool, true, false}
 use mathlib.Core.List.{List}
 use Prim.Native.Nat.{ℕ, _<_, _≤_}
@@ -9,19 +9,19 @@ use borrow.Author.Tests.{lt-ltb, le-ltb, ne-eqb}
 use Rattle.words.specs.Ix.{U}
 use Rattle.words.specs.Refusals.{refusalNumber}
 use Rattle.words.specs.declared.refusal.Refusal.{Refusal}
-use Rattle.iset.specs.Check.{checkNumber}
-use Rattle.iset.specs.Lookup.{drainOutput}
-use Rattle.iset.specs.declared.Map.{Map}
-use Rattle.iset.specs.declared.Checked.{Checked}
-use Rattle.iset.specs.declared.Checked.the-variants.{Sound, Refused}
 use Rattle.iter.specs.Cursors.{ended}
 use Rattle.iter.specs.Drains.{filled}
 use Rattle.iter.specs.declared.Cursor.{Cursor}
 use Rattle.iter.specs.declared.rules.Query.{Query}
 use Rattle.iter.specs.declared.seek.Step.{Step}
 use Rattle.iter.specs.declared.seek.Step.the-variants.{Hit, End}
-use Rattle.capi.specs.Replies.{Reply, number, handed, left, cursorNumbers, freshReply, stepNumbers, foundNumbers, stepTold, drainTold}
-use Rattle.capi.specs.Ranges.{ranged, spared}
+use Rattle.iset.specs.Check.{checkNumber}
+use Rattle.iset.specs.Lookup.{drainOutput}
+use Rattle.iset.specs.declared.Map.{Map}
+use Rattle.iset.specs.declared.Checked.{Checked}
+use Rattle.iset.specs.declared.Checked.the-variants.{Sound, Refused}
+use Rattle.capi.specs.Replies.{Reply, number, handed, left, stepNumbers, foundNumbers, stepTold, drainTold}
+use Rattle.capi.specs.Ranges.{ranged}
 
 -- an answer that is too short
 module _ (A : List ℕ) (R : Reply) (h : length A < length (R .numbers)) where
@@ -62,16 +62,7 @@ module _ {G T K : Type 0} (paper : G → T → K) (reply : K → Reply) (g : G) 
   unfolding handed
   done-handed X p z = rw (same-number, z, told) p
 
--- a call that is never refused
-module _ (A : List ℕ) (c d : Cursor) (e : c ≡ d) (h : 3 ≤ length A) where
-  pub fresh-number : 0 ≡ number A (freshReply d)
-  unfolding number
-  fresh-number = rw (le-ltb (length A) 3 h)
-
-  pub fresh-handed : (X : List ℕ) → X ≡ filled (cursorNumbers c) A → X ≡ handed A (freshReply d)
-  unfolding handed
-  fresh-handed X p = rw (← fresh-number, ← e) p
-
+-- an answer that is too short is so whatever the bounds are
 pub short-ranged : (A : List ℕ) (R : Reply) (b : Bool) → length A < length (R .numbers) → length A < length (ranged b R .numbers)
 unfolding ranged
 short-ranged A R true h = h
@@ -88,23 +79,14 @@ module _ (A : List ℕ) (R : Reply) (b t : Bool) (e : t ≡ b) where
     unfolding ranged
     bounded-handed X p = rw (sym e ∙ q) p
 
-    pub bounded-left : (old new X : List ℕ) → X ≡ new → X ≡ spared b old new
-    unfolding spared
-    bounded-left old new X p = rw (sym e ∙ q) p
+  module _ (q : t ≡ false) (h : length (R .numbers) ≤ length A) where
+    pub unbounded-number : 12 ≡ number A (ranged b R)
+    unfolding number ranged
+    unbounded-number = rw (sym e ∙ q, le-ltb (length A) (length (R .numbers)) h)
 
-  module _ (q : t ≡ false) where
-    pub unbounded-left : (old new : List ℕ) → old ≡ spared b old new
-    unfolding spared
-    unbounded-left old new = rw (sym e ∙ q)
-
-    module _ (h : length (R .numbers) ≤ length A) where
-      pub unbounded-number : 12 ≡ number A (ranged b R)
-      unfolding number ranged
-      unbounded-number = rw (sym e ∙ q, le-ltb (length A) (length (R .numbers)) h)
-
-      pub unbounded-handed : A ≡ handed A (ranged b R)
-      unfolding handed
-      unbounded-handed = rw (← unbounded-number)
+    pub unbounded-handed : A ≡ handed A (ranged b R)
+    unfolding handed
+    unbounded-handed = rw (← unbounded-number)
 
 -- a lookup by a query that a function made
 module _ (A : List ℕ) (m : Map) (W C : List ℕ) (c : Cursor) (made query : Query) (e : made ≡ query) where
@@ -133,6 +115,7 @@ module _ (s : Step) (A X : List ℕ) (c : Cursor) (e : ℕ) where
   pub end-put : s ≡ End e → c ≡ ended → X ≡ filled (stepNumbers U c e) A → X ≡ filled (foundNumbers s) A
   end-put q d p = rw q (rw d at p)
 
+-- the check's number is its whole answer
 module _ (t : Checked) (k : ℕ) (e : checkNumber t ≡ k) where
   pub sound-number : t ≡ Sound → 0 ≡ k
   sound-number q = sym (ap checkNumber q) ∙ e

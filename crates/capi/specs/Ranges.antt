@@ -1,6 +1,5 @@
 -- "A range has two bounds, each Included, Excluded or Unbounded": a bound by its kind's number, 0, 1 or 2, and its own number.
 use mathlib.Core.Bool.{Bool, cond, _&&_}
-use mathlib.Core.List.{List}
 use Prim.Native.Nat.{ℕ}
 use lib.Dec.{eqb, leb}
 use Rattle.words.specs.declared.interval.Bound.{Bound}
@@ -29,6 +28,3 @@ kinds lo-kind hi-kind = leb lo-kind 2 && leb hi-kind 2
 -- 12, BadBound: one is not. It comes before the refusals of the call, which is not made then.
 unfoldable pub ranged : Bool → Reply → Reply
 ranged b R = cond b R (record { no = 12; numbers = R .numbers })
-
-unfoldable pub spared : Bool → List ℕ → List ℕ → List ℕ
-spared b old new = cond b new old

@@ -14,12 +14,13 @@ use iter::Cursor;
 use iter::rules::Query;
 use words::interval::Interval;
 ghost use mathlib.Core.Path.{_≡_};
+ghost use mathlib.Core.Bool.{cond};
 ghost use Prim.Native.Nat.{_≤_};
 ghost use lib.ListN.{length};
 ghost use Rattle.iter.specs.Cursors.{fresh};
 ghost use Rattle.iset.specs.Lookup.{drainOutput};
 ghost use Rattle.capi.specs.Replies.{mapOf, cursorOf, number, handed, left, freshReply, startTold, stepTold, drainTold};
-ghost use Rattle.capi.specs.Ranges.{rangeOf, intervalOf, exactOf, kinds, ranged, spared};
+ghost use Rattle.capi.specs.Ranges.{rangeOf, intervalOf, exactOf, kinds, ranged};
 
 // The fresh cursor of an overlap lookup. Answer: slot, levels, bits. The map is tested where the cursor is used.
 #[no_mangle]
@@ -212,8 +213,9 @@ pub extern "C" fn iset_drain(
         (drainTold (mapOf count root) (now (nodes .entry)) (now (colours .entry)) (rangeOf «lo_kind» lo «hi_kind» hi) (cursorOf slot levels bits) limit (now (out .entry)))))
         × (now (out .exit)
         ≡ left (now (answer .entry)) (drainTold (mapOf count root) (now (nodes .entry)) (now (colours .entry)) (rangeOf «lo_kind» lo «hi_kind» hi) (cursorOf slot levels bits) limit (now (out .entry))) (now (out .entry))
-        (spared (kinds «lo_kind» «hi_kind») (now (out .entry))
-        (drainOutput (mapOf count root) (now (nodes .entry)) (now (colours .entry)) (rangeOf «lo_kind» lo «hi_kind» hi) (cursorOf slot levels bits) limit (now (out .entry))))) ⌝ }
+        (cond (kinds «lo_kind» «hi_kind»)
+        (drainOutput (mapOf count root) (now (nodes .entry)) (now (colours .entry)) (rangeOf «lo_kind» lo «hi_kind» hi) (cursorOf slot levels bits) limit (now (out .entry)))
+        (now (out .entry)))) ⌝ }
 {
     if answer.len() < 5 {
         return SHORT_ANSWER;

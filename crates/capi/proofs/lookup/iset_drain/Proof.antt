@@ -1,4 +1,5 @@
-use Rattle.capi.proofs.Laws.{short-number, short-handed, short-ranged, bounded-number, bounded-handed, unbounded-number, unbounded-handed, short-left, made-left, bounded-left, unbounded-left, drain-number, drain-handed, drain-left}
+use Rattle.words.proofs.Tests.{picked, passed}
+use Rattle.capi.proofs.Laws.{short-number, short-handed, short-ranged, bounded-number, bounded-handed, unbounded-number, unbounded-handed, short-left, made-left, drain-number, drain-handed, drain-left}
 use borrow.Author.Needs.{needs}
 use Rattle.capi.proofs.lookup.iset_drain.Statement.{statement}
 use Rattle.capi.proofs.lookup.iset_drain.Tie as tie
@@ -13,5 +14,5 @@ iset-drain-spec =
     (λ c κs. search needs)
     (λ c. search needs)
     (λ c. search needs)
-    (λ c. (search (bounded-number, drain-number), search (bounded-handed, drain-handed), search (made-left, bounded-left, drain-left)))
-    (λ c. (search unbounded-number, search unbounded-handed, search (made-left, unbounded-left))))
+    (λ c. (search (bounded-number, drain-number), search (bounded-handed, drain-handed), search (made-left, picked, drain-left)))
+    (λ c. (search unbounded-number, search unbounded-handed, search (made-left, passed))))

@@ -1,4 +1,7 @@
-use Rattle.capi.proofs.Laws.{short-number, short-handed, fresh-number, fresh-handed}
+use Prim.Native.Nat.{ℕ}
+use Rattle.iter.specs.declared.Cursor.{Cursor}
+use Rattle.capi.specs.Replies.{freshReply}
+use Rattle.capi.proofs.Laws.{short-number, short-handed, made-number, done-handed}
 use borrow.Author.Needs.{needs}
 use Rattle.capi.proofs.lookup.iset_fresh.Statement.{statement}
 use Rattle.capi.proofs.lookup.iset_fresh.Tie as tie
@@ -11,4 +14,4 @@ iset-fresh-spec =
     (λ c κs. search needs)
     (λ c κs. search needs)
     (λ c. search needs)
-    (λ c. (search fresh-number, search fresh-handed)))
+    (λ c. (search (made-number (λ (g : ℕ) (d : Cursor). d) freshReply 0), search (done-handed (λ (g : ℕ) (d : Cursor). d) freshReply 0))))
