@@ -1,3 +1,4 @@
 pub mod Puts
 pub mod Laws
+pub mod Kept
 pub mod Determined
