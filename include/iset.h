@@ -109,7 +109,7 @@ uint64_t iset_fresh_exact(uint64_t count, uint64_t root, const uint64_t *nodes, 
     uint64_t start, uint64_t end, uint64_t *answer, size_t answer_len);
 
 /* The next entry after a cursor that intersects a range, in the order of the entries: it ends past lo, Included and Excluded alike, and starts at
- * hi or before (hi Included) or before hi (Excluded).
+ * hi or before (hi Included) or before hi (Excluded); an Unbounded bound asks nothing.
  * Answer: its slot, ISET_U at the end; the next cursor's slot, levels, bits; how many nodes this call entered.
  * Refusals: SHORT_ANSWER, BAD_BOUND, NO_ROOM, BROKEN, BAD_RANGE, BAD_CURSOR. */
 uint64_t iset_step(uint64_t count, uint64_t root, const uint64_t *nodes, size_t nodes_len, const uint8_t *colours, size_t colours_len,

@@ -26,46 +26,77 @@ use Rattle.capi.proofs.lookup.iset_drain_exact.Kinds as drain-exact-kin
 -- the exits are a product by parameter: the slice of parameter k is at `.1`, k times, then `.0`
 
 pub check-determined :
-    (κs : Lfts 2) (a : K.Dens κs check-kinds.ps) (r r′ : K.resT check-kinds.r κs .Denot) (s s′ : AtExit (K.endedOf 2 check-kinds.ps check-kinds.r) κs)
+    (κs : Lfts 2) (a : K.Dens κs check-kinds.ps) (r r′ : K.resT check-kinds.r κs .Denot)
+    (s s′ : AtExit (K.endedOf 2 check-kinds.ps check-kinds.r) κs)
     → check-reads.Post κs a r s → check-reads.Post κs a r′ s′ → r ≡ r′
 check-determined κs a r r′ s s′ p q = p ∙ sym q
 
 pub build-determined :
-    (κs : Lfts 4) (a : K.Dens κs build-kinds.ps) (r r′ : K.resT build-kinds.r κs .Denot) (s s′ : AtExit (K.endedOf 4 build-kinds.ps build-kinds.r) κs)
-    → build-reads.Post κs a r s → build-reads.Post κs a r′ s′ → (r ≡ r′) × (now (s .1 .1 .1 .0) ≡ now (s′ .1 .1 .1 .0)) × (now (s .0) ≡ now (s′ .0)) × (now (s .1 .0) ≡ now (s′ .1 .0))
+    (κs : Lfts 4) (a : K.Dens κs build-kinds.ps) (r r′ : K.resT build-kinds.r κs .Denot)
+    (s s′ : AtExit (K.endedOf 4 build-kinds.ps build-kinds.r) κs)
+    → build-reads.Post κs a r s → build-reads.Post κs a r′ s′
+    → (r ≡ r′)
+    × (now (s .1 .1 .1 .0) ≡ now (s′ .1 .1 .1 .0))
+    × (now (s .0) ≡ now (s′ .0))
+    × (now (s .1 .0) ≡ now (s′ .1 .0))
 build-determined κs a r r′ s s′ p q = (p .0 ∙ sym (q .0), p .1 ∙ sym (q .1), p .2 ∙ sym (q .2), p .3 ∙ sym (q .3))
 
 pub remove-determined :
-    (κs : Lfts 3) (a : K.Dens κs remove-kinds.ps) (r r′ : K.resT remove-kinds.r κs .Denot) (s s′ : AtExit (K.endedOf 3 remove-kinds.ps remove-kinds.r) κs)
-    → remove-reads.Post κs a r s → remove-reads.Post κs a r′ s′ → (r ≡ r′) × (now (s .1 .1 .1 .1 .1 .0) ≡ now (s′ .1 .1 .1 .1 .1 .0)) × (now (s .1 .1 .0) ≡ now (s′ .1 .1 .0)) × (now (s .1 .1 .1 .0) ≡ now (s′ .1 .1 .1 .0))
+    (κs : Lfts 3) (a : K.Dens κs remove-kinds.ps) (r r′ : K.resT remove-kinds.r κs .Denot)
+    (s s′ : AtExit (K.endedOf 3 remove-kinds.ps remove-kinds.r) κs)
+    → remove-reads.Post κs a r s → remove-reads.Post κs a r′ s′
+    → (r ≡ r′)
+    × (now (s .1 .1 .1 .1 .1 .0) ≡ now (s′ .1 .1 .1 .1 .1 .0))
+    × (now (s .1 .1 .0) ≡ now (s′ .1 .1 .0))
+    × (now (s .1 .1 .1 .0) ≡ now (s′ .1 .1 .1 .0))
 remove-determined κs a r r′ s s′ p q = (p .0 ∙ sym (q .0), p .1 ∙ sym (q .1), p .2 ∙ sym (q .2), p .3 ∙ sym (q .3))
 
 pub fresh-determined :
-    (κs : Lfts 1) (a : K.Dens κs fresh-kinds.ps) (r r′ : K.resT fresh-kinds.r κs .Denot) (s s′ : AtExit (K.endedOf 1 fresh-kinds.ps fresh-kinds.r) κs)
-    → fresh-reads.Post κs a r s → fresh-reads.Post κs a r′ s′ → (r ≡ r′) × (now (s .1 .1 .0) ≡ now (s′ .1 .1 .0))
+    (κs : Lfts 1) (a : K.Dens κs fresh-kinds.ps) (r r′ : K.resT fresh-kinds.r κs .Denot)
+    (s s′ : AtExit (K.endedOf 1 fresh-kinds.ps fresh-kinds.r) κs)
+    → fresh-reads.Post κs a r s → fresh-reads.Post κs a r′ s′
+    → (r ≡ r′)
+    × (now (s .1 .1 .0) ≡ now (s′ .1 .1 .0))
 fresh-determined κs a r r′ s s′ p q = (p .0 ∙ sym (q .0), p .1 ∙ sym (q .1))
 
 pub fresh-exact-determined :
-    (κs : Lfts 3) (a : K.Dens κs fresh-exact-kinds.ps) (r r′ : K.resT fresh-exact-kinds.r κs .Denot) (s s′ : AtExit (K.endedOf 3 fresh-exact-kinds.ps fresh-exact-kinds.r) κs)
-    → fresh-exact-reads.Post κs a r s → fresh-exact-reads.Post κs a r′ s′ → (r ≡ r′) × (now (s .1 .1 .1 .1 .1 .1 .0) ≡ now (s′ .1 .1 .1 .1 .1 .1 .0))
+    (κs : Lfts 3) (a : K.Dens κs fresh-exact-kinds.ps) (r r′ : K.resT fresh-exact-kinds.r κs .Denot)
+    (s s′ : AtExit (K.endedOf 3 fresh-exact-kinds.ps fresh-exact-kinds.r) κs)
+    → fresh-exact-reads.Post κs a r s → fresh-exact-reads.Post κs a r′ s′
+    → (r ≡ r′)
+    × (now (s .1 .1 .1 .1 .1 .1 .0) ≡ now (s′ .1 .1 .1 .1 .1 .1 .0))
 fresh-exact-determined κs a r r′ s s′ p q = (p .0 ∙ sym (q .0), p .1 ∙ sym (q .1))
 
 pub step-determined :
-    (κs : Lfts 3) (a : K.Dens κs step-kinds.ps) (r r′ : K.resT step-kinds.r κs .Denot) (s s′ : AtExit (K.endedOf 3 step-kinds.ps step-kinds.r) κs)
-    → step-reads.Post κs a r s → step-reads.Post κs a r′ s′ → (r ≡ r′) × (now (s .1 .1 .1 .1 .1 .1 .1 .1 .1 .1 .1 .0) ≡ now (s′ .1 .1 .1 .1 .1 .1 .1 .1 .1 .1 .1 .0))
+    (κs : Lfts 3) (a : K.Dens κs step-kinds.ps) (r r′ : K.resT step-kinds.r κs .Denot)
+    (s s′ : AtExit (K.endedOf 3 step-kinds.ps step-kinds.r) κs)
+    → step-reads.Post κs a r s → step-reads.Post κs a r′ s′
+    → (r ≡ r′)
+    × (now (s .1 .1 .1 .1 .1 .1 .1 .1 .1 .1 .1 .0) ≡ now (s′ .1 .1 .1 .1 .1 .1 .1 .1 .1 .1 .1 .0))
 step-determined κs a r r′ s s′ p q = (p .0 ∙ sym (q .0), p .1 ∙ sym (q .1))
 
 pub step-exact-determined :
-    (κs : Lfts 3) (a : K.Dens κs step-exact-kinds.ps) (r r′ : K.resT step-exact-kinds.r κs .Denot) (s s′ : AtExit (K.endedOf 3 step-exact-kinds.ps step-exact-kinds.r) κs)
-    → step-exact-reads.Post κs a r s → step-exact-reads.Post κs a r′ s′ → (r ≡ r′) × (now (s .1 .1 .1 .1 .1 .1 .1 .1 .1 .0) ≡ now (s′ .1 .1 .1 .1 .1 .1 .1 .1 .1 .0))
+    (κs : Lfts 3) (a : K.Dens κs step-exact-kinds.ps) (r r′ : K.resT step-exact-kinds.r κs .Denot)
+    (s s′ : AtExit (K.endedOf 3 step-exact-kinds.ps step-exact-kinds.r) κs)
+    → step-exact-reads.Post κs a r s → step-exact-reads.Post κs a r′ s′
+    → (r ≡ r′)
+    × (now (s .1 .1 .1 .1 .1 .1 .1 .1 .1 .0) ≡ now (s′ .1 .1 .1 .1 .1 .1 .1 .1 .1 .0))
 step-exact-determined κs a r r′ s s′ p q = (p .0 ∙ sym (q .0), p .1 ∙ sym (q .1))
 
 pub drain-determined :
-    (κs : Lfts 4) (a : K.Dens κs drain-kinds.ps) (r r′ : K.resT drain-kinds.r κs .Denot) (s s′ : AtExit (K.endedOf 4 drain-kinds.ps drain-kinds.r) κs)
-    → drain-reads.Post κs a r s → drain-reads.Post κs a r′ s′ → (r ≡ r′) × (now (s .1 .1 .1 .1 .1 .1 .1 .1 .1 .1 .1 .1 .1 .0) ≡ now (s′ .1 .1 .1 .1 .1 .1 .1 .1 .1 .1 .1 .1 .1 .0)) × (now (s .1 .1 .1 .1 .1 .1 .1 .1 .1 .1 .1 .1 .0) ≡ now (s′ .1 .1 .1 .1 .1 .1 .1 .1 .1 .1 .1 .1 .0))
+    (κs : Lfts 4) (a : K.Dens κs drain-kinds.ps) (r r′ : K.resT drain-kinds.r κs .Denot)
+    (s s′ : AtExit (K.endedOf 4 drain-kinds.ps drain-kinds.r) κs)
+    → drain-reads.Post κs a r s → drain-reads.Post κs a r′ s′
+    → (r ≡ r′)
+    × (now (s .1 .1 .1 .1 .1 .1 .1 .1 .1 .1 .1 .1 .1 .0) ≡ now (s′ .1 .1 .1 .1 .1 .1 .1 .1 .1 .1 .1 .1 .1 .0))
+    × (now (s .1 .1 .1 .1 .1 .1 .1 .1 .1 .1 .1 .1 .0) ≡ now (s′ .1 .1 .1 .1 .1 .1 .1 .1 .1 .1 .1 .1 .0))
 drain-determined κs a r r′ s s′ p q = (p .0 ∙ sym (q .0), p .1 ∙ sym (q .1), p .2 ∙ sym (q .2))
 
 pub drain-exact-determined :
-    (κs : Lfts 4) (a : K.Dens κs drain-exact-kinds.ps) (r r′ : K.resT drain-exact-kinds.r κs .Denot) (s s′ : AtExit (K.endedOf 4 drain-exact-kinds.ps drain-exact-kinds.r) κs)
-    → drain-exact-reads.Post κs a r s → drain-exact-reads.Post κs a r′ s′ → (r ≡ r′) × (now (s .1 .1 .1 .1 .1 .1 .1 .1 .1 .1 .1 .0) ≡ now (s′ .1 .1 .1 .1 .1 .1 .1 .1 .1 .1 .1 .0)) × (now (s .1 .1 .1 .1 .1 .1 .1 .1 .1 .1 .0) ≡ now (s′ .1 .1 .1 .1 .1 .1 .1 .1 .1 .1 .0))
+    (κs : Lfts 4) (a : K.Dens κs drain-exact-kinds.ps) (r r′ : K.resT drain-exact-kinds.r κs .Denot)
+    (s s′ : AtExit (K.endedOf 4 drain-exact-kinds.ps drain-exact-kinds.r) κs)
+    → drain-exact-reads.Post κs a r s → drain-exact-reads.Post κs a r′ s′
+    → (r ≡ r′)
+    × (now (s .1 .1 .1 .1 .1 .1 .1 .1 .1 .1 .1 .0) ≡ now (s′ .1 .1 .1 .1 .1 .1 .1 .1 .1 .1 .1 .0))
+    × (now (s .1 .1 .1 .1 .1 .1 .1 .1 .1 .1 .0) ≡ now (s′ .1 .1 .1 .1 .1 .1 .1 .1 .1 .1 .0))
 drain-exact-determined κs a r r′ s s′ p q = (p .0 ∙ sym (q .0), p .1 ∙ sym (q .1), p .2 ∙ sym (q .2))

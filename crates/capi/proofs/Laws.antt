@@ -43,7 +43,8 @@ unfolding left
 made-left A R h old new X q = rw (le-ltb (length A) (length (R .numbers)) h) q
 
 -- and number and answer are the reply of the call, which answered v. The paper's values of an answer go by g, what was given: a map or a cursor.
-module _ {G T K : Type 0} (paper : G → T → K) (reply : K → Reply) (g : G) (A : List ℕ) (t v : T) (k : K) (e : paper g t ≡ k) (q : t ≡ v) (h : length (reply k .numbers) ≤ length A) where
+module _ {G T K : Type 0} (paper : G → T → K) (reply : K → Reply) (g : G) (A : List ℕ) (t v : T) (k : K)
+    (e : paper g t ≡ k) (q : t ≡ v) (h : length (reply k .numbers) ≤ length A) where
   told : reply k ≡ reply (paper g v)
   told = ap reply (sym e ∙ ap (paper g) q)
 

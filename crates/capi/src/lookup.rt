@@ -103,10 +103,12 @@ pub extern "C" fn iset_step(
 ) -> u64
     ensures { λ r. ⌜ (r
         ≡ number (now (answer .entry)) (ranged (kinds «lo_kind» «hi_kind»)
-        (stepTold (mapOf count root) (now (nodes .entry)) (now (colours .entry)) (rangeOf «lo_kind» lo «hi_kind» hi) (cursorOf slot levels bits))))
+        (stepTold (mapOf count root) (now (nodes .entry)) (now (colours .entry)) (rangeOf «lo_kind» lo «hi_kind» hi)
+        (cursorOf slot levels bits))))
         × (now (answer .exit)
         ≡ handed (now (answer .entry)) (ranged (kinds «lo_kind» «hi_kind»)
-        (stepTold (mapOf count root) (now (nodes .entry)) (now (colours .entry)) (rangeOf «lo_kind» lo «hi_kind» hi) (cursorOf slot levels bits)))) ⌝ }
+        (stepTold (mapOf count root) (now (nodes .entry)) (now (colours .entry)) (rangeOf «lo_kind» lo «hi_kind» hi)
+        (cursorOf slot levels bits)))) ⌝ }
 {
     if answer.len() < 5 {
         return SHORT_ANSWER;
@@ -207,14 +209,20 @@ pub extern "C" fn iset_drain(
 ) -> u64
     ensures { λ r. ⌜ (r
         ≡ number (now (answer .entry)) (ranged (kinds «lo_kind» «hi_kind»)
-        (drainTold (mapOf count root) (now (nodes .entry)) (now (colours .entry)) (rangeOf «lo_kind» lo «hi_kind» hi) (cursorOf slot levels bits) limit (now (out .entry)))))
+        (drainTold (mapOf count root) (now (nodes .entry)) (now (colours .entry)) (rangeOf «lo_kind» lo «hi_kind» hi)
+        (cursorOf slot levels bits) limit (now (out .entry)))))
         × (now (answer .exit)
         ≡ handed (now (answer .entry)) (ranged (kinds «lo_kind» «hi_kind»)
-        (drainTold (mapOf count root) (now (nodes .entry)) (now (colours .entry)) (rangeOf «lo_kind» lo «hi_kind» hi) (cursorOf slot levels bits) limit (now (out .entry)))))
+        (drainTold (mapOf count root) (now (nodes .entry)) (now (colours .entry)) (rangeOf «lo_kind» lo «hi_kind» hi)
+        (cursorOf slot levels bits) limit (now (out .entry)))))
         × (now (out .exit)
-        ≡ left (now (answer .entry)) (drainTold (mapOf count root) (now (nodes .entry)) (now (colours .entry)) (rangeOf «lo_kind» lo «hi_kind» hi) (cursorOf slot levels bits) limit (now (out .entry))) (now (out .entry))
+        ≡ left (now (answer .entry))
+        (drainTold (mapOf count root) (now (nodes .entry)) (now (colours .entry)) (rangeOf «lo_kind» lo «hi_kind» hi)
+        (cursorOf slot levels bits) limit (now (out .entry)))
+        (now (out .entry))
         (cond (kinds «lo_kind» «hi_kind»)
-        (drainOutput (mapOf count root) (now (nodes .entry)) (now (colours .entry)) (rangeOf «lo_kind» lo «hi_kind» hi) (cursorOf slot levels bits) limit (now (out .entry)))
+        (drainOutput (mapOf count root) (now (nodes .entry)) (now (colours .entry)) (rangeOf «lo_kind» lo «hi_kind» hi)
+        (cursorOf slot levels bits) limit (now (out .entry)))
         (now (out .entry)))) ⌝ }
 {
     if answer.len() < 5 {
@@ -254,13 +262,19 @@ pub extern "C" fn iset_drain_exact(
 ) -> u64
     ensures { λ r. ⌜ (r
         ≡ number (now (answer .entry))
-        (drainTold (mapOf count root) (now (nodes .entry)) (now (colours .entry)) (exactOf start end) (cursorOf slot levels bits) limit (now (out .entry))))
+        (drainTold (mapOf count root) (now (nodes .entry)) (now (colours .entry)) (exactOf start end)
+        (cursorOf slot levels bits) limit (now (out .entry))))
         × (now (answer .exit)
         ≡ handed (now (answer .entry))
-        (drainTold (mapOf count root) (now (nodes .entry)) (now (colours .entry)) (exactOf start end) (cursorOf slot levels bits) limit (now (out .entry))))
+        (drainTold (mapOf count root) (now (nodes .entry)) (now (colours .entry)) (exactOf start end)
+        (cursorOf slot levels bits) limit (now (out .entry))))
         × (now (out .exit)
-        ≡ left (now (answer .entry)) (drainTold (mapOf count root) (now (nodes .entry)) (now (colours .entry)) (exactOf start end) (cursorOf slot levels bits) limit (now (out .entry))) (now (out .entry))
-        (drainOutput (mapOf count root) (now (nodes .entry)) (now (colours .entry)) (exactOf start end) (cursorOf slot levels bits) limit (now (out .entry)))) ⌝ }
+        ≡ left (now (answer .entry))
+        (drainTold (mapOf count root) (now (nodes .entry)) (now (colours .entry)) (exactOf start end)
+        (cursorOf slot levels bits) limit (now (out .entry)))
+        (now (out .entry))
+        (drainOutput (mapOf count root) (now (nodes .entry)) (now (colours .entry)) (exactOf start end)
+        (cursorOf slot levels bits) limit (now (out .entry)))) ⌝ }
 {
     if answer.len() < 5 {
         return SHORT_ANSWER;

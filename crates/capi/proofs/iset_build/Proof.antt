@@ -19,8 +19,18 @@ iset-build-spec =
     (λ c κs. search needs)
     (λ c. search needs)
     (λ c. search needs)
-    (λ c. (search (made-number (λ (g : ℕ). buildPaper) buildReply 0), search (refused-handed (λ (g : ℕ). buildPaper) buildReply 0, number-pos), search made-left, search made-left))
+    (λ c. (
+      search (made-number (λ (g : ℕ). buildPaper) buildReply 0),
+      search (refused-handed (λ (g : ℕ). buildPaper) buildReply 0, number-pos),
+      search made-left,
+      search made-left,
+    ))
     (λ c. search needs)
     (λ c. search needs)
     (λ c. search needs)
-    (λ c. (search (made-number (λ (g : ℕ). buildPaper) buildReply 0), search (done-handed (λ (g : ℕ). buildPaper) buildReply 0), search made-left, search made-left)))
+    (λ c. (
+      search (made-number (λ (g : ℕ). buildPaper) buildReply 0),
+      search (done-handed (λ (g : ℕ). buildPaper) buildReply 0),
+      search made-left,
+      search made-left,
+    )))

@@ -5,4 +5,11 @@ use Rattle.capi.proofs.iset_check.Tie as tie
 
 pub iset-check-spec : {M : Type 1} → statement M
 iset-check-spec =
-    tie.close (tie.spec (λ c κs. search needs) (λ c. search needs) (λ c. search needs) (λ c κs. search needs) (λ c. search sound-number) (λ c. search refused-number))
+    tie.close
+    (tie.spec
+    (λ c κs. search needs)
+    (λ c. search needs)
+    (λ c. search needs)
+    (λ c κs. search needs)
+    (λ c. search sound-number)
+    (λ c. search refused-number))

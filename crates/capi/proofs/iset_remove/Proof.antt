@@ -18,8 +18,18 @@ iset-remove-spec =
     (λ c κs. search needs)
     (λ c. search needs)
     (λ c. search needs)
-    (λ c. (search (made-number removePaper removeReply), search (refused-handed removePaper removeReply, number-pos), search made-left, search made-left))
+    (λ c. (
+      search (made-number removePaper removeReply),
+      search (refused-handed removePaper removeReply, number-pos),
+      search made-left,
+      search made-left,
+    ))
     (λ c. search needs)
     (λ c. search needs)
     (λ c. search needs)
-    (λ c. (search (made-number removePaper removeReply), search (done-handed removePaper removeReply), search made-left, search made-left)))
+    (λ c. (
+      search (made-number removePaper removeReply),
+      search (done-handed removePaper removeReply),
+      search made-left,
+      search made-left,
+    )))

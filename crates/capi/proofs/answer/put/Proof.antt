@@ -9,7 +9,8 @@ use Rattle.capi.proofs.answer.put.Statement.{statement}
 use Rattle.capi.proofs.answer.put.Tie as tie
 
 abbrev Inv-loop : tie.InvT-loop
-Inv-loop numbers answer₀ i₀ answer i = (take i answer ≡ take i numbers) × (drop i answer ≡ drop i answer₀) × (i ≤ length numbers) × (length answer ≡ length answer₀)
+Inv-loop numbers answer₀ i₀ answer i = (take i answer ≡ take i numbers)
+    × (drop i answer ≡ drop i answer₀) × (i ≤ length numbers) × (length answer ≡ length answer₀)
 
 abbrev μ-loop : tie.MeasureT-loop
 μ-loop numbers answer₀ i₀ answer i = length numbers - i

@@ -1,5 +1,6 @@
 use Rattle.words.proofs.Tests.{picked, passed}
-use Rattle.capi.proofs.Laws.{short-number, short-handed, short-ranged, bounded-number, bounded-handed, unbounded-number, unbounded-handed, short-left, made-left, drain-number, drain-handed, drain-left}
+use Rattle.capi.proofs.Laws.{short-number, short-handed, short-ranged, short-left, made-left}
+use Rattle.capi.proofs.Laws.{bounded-number, bounded-handed, unbounded-number, unbounded-handed, drain-number, drain-handed, drain-left}
 use borrow.Author.Needs.{needs}
 use Rattle.capi.proofs.lookup.iset_drain.Statement.{statement}
 use Rattle.capi.proofs.lookup.iset_drain.Tie as tie

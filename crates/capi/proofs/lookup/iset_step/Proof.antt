@@ -1,4 +1,5 @@
-use Rattle.capi.proofs.Laws.{short-number, short-handed, short-ranged, bounded-number, bounded-handed, unbounded-number, unbounded-handed, step-number, step-handed}
+use Rattle.capi.proofs.Laws.{short-number, short-handed, short-ranged}
+use Rattle.capi.proofs.Laws.{bounded-number, bounded-handed, unbounded-number, unbounded-handed, step-number, step-handed}
 use borrow.Author.Needs.{needs}
 use Rattle.capi.proofs.lookup.iset_step.Statement.{statement}
 use Rattle.capi.proofs.lookup.iset_step.Tie as tie

@@ -1,0 +1,73 @@
+//! Why a call was refused.
+use core::fmt;
+
+/// The refusals, by the numbers that the calls return.
+///
+/// ```
+/// use iset_capi::Refusal;
+///
+/// assert_eq!(Refusal::from_number(3), Some(Refusal::NoSuch));
+/// assert_eq!(Refusal::ShortOutput.number(), 9);
+/// assert_eq!(Refusal::from_number(0), None);
+/// ```
+#[derive(Clone, Copy, Debug, PartialEq, Eq, Hash)]
+#[repr(u64)]
+pub enum Refusal {
+    /// The count, or the entries to build, are more than the slices hold.
+    NoRoom = 1,
+    /// The store does not pass the check.
+    Broken = 2,
+    /// The slot is not below the count.
+    NoSuch = 3,
+    /// Neither bound is unbounded, and the lower one is above the upper one, or equal to it unless both are included.
+    BadRange = 4,
+    /// A given interval does not end after its start.
+    BadInterval = 5,
+    /// The list to build falls somewhere, by start, then end.
+    NotSorted = 6,
+    /// The cursor is not one that a lookup of this query in this store could have.
+    BadCursor = 7,
+    /// The length of the list to build is no multiple of 3.
+    BadList = 8,
+    /// The drain's limit is above the output's length.
+    ShortOutput = 9,
+    /// Of bit vectors and stacks; none of these calls gives it.
+    BadBit = 10,
+    /// The answer slice does not hold the answer's numbers. The functions of this crate lend one that does.
+    ShortAnswer = 11,
+    /// A bound's kind is none. The functions of this crate give only kinds that are.
+    BadBound = 12,
+}
+
+const ALL: [Refusal; 12] = [
+    Refusal::NoRoom,
+    Refusal::Broken,
+    Refusal::NoSuch,
+    Refusal::BadRange,
+    Refusal::BadInterval,
+    Refusal::NotSorted,
+    Refusal::BadCursor,
+    Refusal::BadList,
+    Refusal::ShortOutput,
+    Refusal::BadBit,
+    Refusal::ShortAnswer,
+    Refusal::BadBound,
+];
+
+impl Refusal {
+    /// The refusal of a number; `None` for 0, which stands for no refusal, and for every other number.
+    pub fn from_number(number: u64) -> Option<Refusal> {
+        ALL.into_iter().find(|why| why.number() == number)
+    }
+
+    /// The number that a call returns for it.
+    pub fn number(self) -> u64 {
+        self as u64
+    }
+}
+
+impl fmt::Display for Refusal {
+    fn fmt(&self, f: &mut fmt::Formatter<'_>) -> fmt::Result {
+        write!(f, "{self:?} ({})", self.number())
+    }
+}

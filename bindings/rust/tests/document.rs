@@ -1,0 +1,207 @@
+//! Document 01's examples through the crate. They need the archive: without ISET_LIB_DIR there is nothing here to run.
+#![cfg(iset_linked)]
+use core::ops::Bound;
+
+use iset_capi::{Cursor, Map, Query, Refusal, Step, U};
+
+const LIST_A: [u64; 15] = [10, 20, 1, 10, 30, 2, 25, 40, 3, 40, 50, 4, 45, 60, 5];
+const NONE: (u64, u64) = (U, U);
+const ENDED: Cursor = Cursor {
+    slot: U,
+    levels: 0,
+    bits: 0,
+};
+
+struct Store {
+    map: Map,
+    nodes: [u64; 40],
+    colours: [u8; 1],
+}
+
+impl Store {
+    fn of(list: &[u64]) -> Store {
+        let (mut nodes, mut colours) = ([0; 40], [0; 1]);
+        let map = Map::build(&mut nodes, &mut colours, list).unwrap();
+        Store {
+            map,
+            nodes,
+            colours,
+        }
+    }
+
+    fn all(&self, query: Query, buffer: usize) -> Result<Vec<u64>, Refusal> {
+        self.map
+            .hits(&self.nodes, &self.colours, query, &mut vec![0; buffer])
+            .collect()
+    }
+
+    fn step(&self, query: Query, from: Cursor) -> Result<Step, Refusal> {
+        self.map.step(&self.nodes, &self.colours, query, from)
+    }
+}
+
+#[test]
+fn built() {
+    let a = Store::of(&LIST_A);
+    assert_eq!((a.map, a.colours), (Map { count: 5, root: 2 }, [9]));
+    assert_eq!(a.map.check(&a.nodes, &a.colours), Ok(()));
+    assert_eq!(
+        a.map.check(&a.nodes[..39], &a.colours),
+        Err(Refusal::NoRoom)
+    );
+    assert_eq!(
+        Map { root: 1, ..a.map }.check(&a.nodes, &a.colours),
+        Err(Refusal::Broken)
+    );
+    assert_eq!(Map::new().check(&[], &[]), Ok(()));
+}
+
+#[test]
+fn refused_builds_change_nothing() {
+    let (mut nodes, mut colours) = ([7; 16], [7; 1]);
+    let lists: [(&[u64], Refusal); 4] = [
+        (&LIST_A[..4], Refusal::BadList),
+        (&LIST_A[..9], Refusal::NoRoom),
+        (&[5, 9, 1, 4, 4, 2], Refusal::BadInterval),
+        (&[5, 9, 1, 4, 9, 2], Refusal::NotSorted),
+    ];
+    for (list, why) in lists {
+        assert_eq!(Map::build(&mut nodes, &mut colours, list), Err(why));
+    }
+    assert_eq!((nodes, colours), ([7; 16], [7; 1]));
+}
+
+#[test]
+fn removed() {
+    // slot, value, pairs, colours
+    let cases = [
+        (0, 1, [(4, 0), NONE, NONE], 8),
+        (1, 2, [(0, 1), (4, 0), NONE], 8),
+        (2, 3, [(3, 2), (4, 3), NONE], 1),
+        (4, 5, [NONE; 3], 1),
+    ];
+    for (slot, value, pairs, colours) in cases {
+        let mut a = Store::of(&LIST_A);
+        let gone = a.map.remove(&mut a.nodes, &mut a.colours, slot).unwrap();
+        assert_eq!(
+            (gone.value, gone.pairs, a.colours),
+            (value, pairs, [colours])
+        );
+        assert_eq!(gone.map, Map { count: 4, root: 2 });
+        assert_eq!(gone.map.check(&a.nodes, &a.colours), Ok(()));
+    }
+    let mut a = Store::of(&LIST_A);
+    for slot in [5, U] {
+        assert_eq!(
+            a.map.remove(&mut a.nodes, &mut a.colours, slot),
+            Err(Refusal::NoSuch)
+        );
+    }
+    let mut b = Store::of(&[5, 9, 1, 5, 9, 2, 5, 9, 3]);
+    for (slot, value, root, colours) in [(0, 1, 1, 5), (1, 2, 0, 4), (0, 3, U, 4)] {
+        let gone = b.map.remove(&mut b.nodes, &mut b.colours, slot).unwrap();
+        assert_eq!(
+            (gone.value, gone.map.root, b.colours),
+            (value, root, [colours])
+        );
+        b.map = gone.map;
+    }
+    assert_eq!(b.map, Map::new());
+}
+
+#[test]
+fn stepped() {
+    let a = Store::of(&LIST_A);
+    let query = Query::overlap(20..25);
+    let next = Cursor {
+        slot: 1,
+        levels: 2,
+        bits: 6,
+    };
+    assert_eq!(
+        a.step(query, a.map.fresh()),
+        Ok(Step::Hit {
+            slot: 1,
+            next,
+            entered: 3
+        })
+    );
+    assert_eq!(a.step(query, next), Ok(Step::End { entered: 0 }));
+    assert_eq!(a.step(query, ENDED), Ok(Step::End { entered: 0 }));
+    assert_eq!(
+        a.step(Query::overlap(60..70), a.map.fresh()),
+        Ok(Step::End { entered: 2 })
+    );
+    assert_eq!(
+        a.step(
+            query,
+            Cursor {
+                slot: 1,
+                levels: 2,
+                bits: 7
+            }
+        ),
+        Err(Refusal::BadCursor)
+    );
+    assert_eq!(
+        a.step(
+            Query::overlap((Bound::Excluded(7), Bound::Included(7))),
+            a.map.fresh()
+        ),
+        Err(Refusal::BadRange)
+    );
+    assert_eq!(
+        a.step(Query::Exact { start: 9, end: 9 }, a.map.fresh()),
+        Err(Refusal::BadInterval)
+    );
+}
+
+#[test]
+fn drained() {
+    let a = Store::of(&LIST_A);
+    let mut out = [777; 64];
+    let query = Query::overlap((Bound::Excluded(20), Bound::Included(25)));
+    let drained = a
+        .map
+        .drain(&a.nodes, &a.colours, query, a.map.fresh(), 0, &mut out)
+        .unwrap();
+    assert_eq!((drained.hits, drained.entered, drained.next), (2, 3, ENDED));
+    assert_eq!(out[..3], [1, 2, 777]);
+    let short = a.map.drain(
+        &a.nodes,
+        &a.colours,
+        query,
+        a.map.fresh(),
+        0,
+        &mut out[..63],
+    );
+    assert_eq!(short, Err(Refusal::ShortOutput));
+}
+
+#[test]
+fn hits_in_pieces() {
+    let a = Store::of(&LIST_A);
+    let b = Store::of(&[5, 9, 1, 5, 9, 2, 5, 9, 3]);
+    for buffer in 1..8 {
+        assert_eq!(a.all(Query::overlap(..), buffer), Ok(vec![0, 1, 2, 3, 4]));
+        assert_eq!(a.all(Query::overlap(20..25), buffer), Ok(vec![1]));
+        assert_eq!(
+            b.all(Query::Exact { start: 5, end: 9 }, buffer),
+            Ok(vec![0, 1, 2])
+        );
+        assert_eq!(b.all(Query::Exact { start: 5, end: 8 }, buffer), Ok(vec![]));
+        assert_eq!(
+            b.all(Query::Exact { start: 9, end: 5 }, buffer),
+            Err(Refusal::BadInterval)
+        );
+    }
+    assert_eq!(a.all(Query::overlap(..), 0), Err(Refusal::ShortOutput));
+    let mut buffer = [0; 1];
+    let mut refused = a
+        .map
+        .hits(&a.nodes, &a.colours, Query::overlap(25..20), &mut buffer);
+    assert_eq!(
+        (refused.next(), refused.next()),
+        (Some(Err(Refusal::BadRange)), None)
+    );
+}
