@@ -1,4 +1,5 @@
 pub mod Puts
 pub mod Laws
 pub mod Kept
+pub mod Ends
 pub mod Determined
