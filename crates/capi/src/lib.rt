@@ -20,6 +20,7 @@ ghost use Rattle.iset.specs.Build.{buildNodes, buildColour};
 ghost use Rattle.iset.specs.Remove.{removeNodes, removeColours};
 ghost use Rattle.capi.specs.Replies.{mapOf, number, handed, left, buildTold, removeTold};
 
+// The exports' own refusals, after the ten of crate words.
 pub const SHORT_ANSWER: u64 = 11;
 
 pub const BAD_BOUND: u64 = 12;
