@@ -57,18 +57,19 @@
 /* What a call returns. */
 enum {
     ISET_OK = 0,
-    ISET_NO_ROOM = 1,       /* the count, or the entries to build, are more than the arrays hold */
-    ISET_BROKEN = 2,        /* the store does not pass the check */
-    ISET_NO_SUCH = 3,       /* the slot is not below the count */
-    ISET_BAD_RANGE = 4,     /* no bound is Unbounded, and lo > hi, or lo == hi unless both are Included */
-    ISET_BAD_INTERVAL = 5,  /* a given interval has start >= end */
-    ISET_NOT_SORTED = 6,    /* the list to build falls somewhere, by start, then end */
-    ISET_BAD_CURSOR = 7,    /* the cursor is not one that a lookup of this query in this store could have */
-    ISET_BAD_LIST = 8,      /* the list's length is no multiple of 3 */
-    ISET_SHORT_OUTPUT = 9,  /* the drain's limit is above the output's length */
-    ISET_BAD_BIT = 10,      /* of bit vectors and stacks; none of these calls gives it */
-    ISET_SHORT_ANSWER = 11, /* `answer` does not hold the answer's numbers */
-    ISET_BAD_BOUND = 12     /* a bound's kind is none of the three below */
+    ISET_NO_ROOM = 1,         /* the count, or the entries to build, are more than the arrays hold */
+    ISET_BROKEN = 2,          /* the store does not pass the check */
+    ISET_NO_SUCH = 3,         /* the slot is not below the count */
+    ISET_BAD_RANGE = 4,       /* no bound is Unbounded, and lo > hi, or lo == hi unless both are Included */
+    ISET_BAD_INTERVAL = 5,    /* a given interval has start >= end */
+    ISET_NOT_SORTED = 6,      /* the list to build falls somewhere, by start, then end */
+    ISET_BAD_CURSOR = 7,      /* the cursor is not one that a lookup of this query in this store could have */
+    ISET_BAD_LIST = 8,        /* the list's length is no multiple of 3 */
+    ISET_SHORT_OUTPUT = 9,    /* the drain's limit is above the output's length */
+    ISET_BAD_BIT = 10,        /* of bit vectors and stacks; none of these calls gives it */
+    /* of the calls from C themselves; the map's own numbers may go on from 10 */
+    ISET_SHORT_ANSWER = 101,  /* `answer` does not hold the answer's numbers */
+    ISET_BAD_BOUND = 102      /* a bound's kind is none of the three below */
 };
 
 /* The kinds of a bound. The number of an Unbounded one is not looked at. */

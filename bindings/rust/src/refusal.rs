@@ -34,9 +34,9 @@ pub enum Refusal {
     /// Of bit vectors and stacks; none of these calls gives it.
     BadBit = 10,
     /// The answer slice does not hold the answer's numbers. The functions of this crate lend one that does.
-    ShortAnswer = 11,
+    ShortAnswer = 101,
     /// A bound's kind is none. The functions of this crate give only kinds that are.
-    BadBound = 12,
+    BadBound = 102,
 }
 
 const ALL: [Refusal; 12] = [

@@ -24,7 +24,7 @@ left-kept : (A : List ℕ) (R : Reply) (old new : List ℕ) → ((R .no ≡ 0 �
 unfolding number left
 left-kept A R old new k d = go (ltb (length A) (length (R .numbers))) d
   where
-    go : (b : Bool) → (_≡_ {A = ℕ} (cond b 11 (R .no)) 0 → ⊥) → cond b old new ≡ old
+    go : (b : Bool) → (_≡_ {A = ℕ} (cond b 101 (R .no)) 0 → ⊥) → cond b old new ≡ old
     go true f = refl
     go false f = k f
 

@@ -25,7 +25,7 @@ use Rattle.capi.specs.Ranges.{ranged}
 
 -- an answer that is too short
 module _ (A : List ℕ) (R : Reply) (h : length A < length (R .numbers)) where
-  pub short-number : 11 ≡ number A R
+  pub short-number : 101 ≡ number A R
   unfolding number
   short-number = rw (lt-ltb (length A) (length (R .numbers)) h)
 
@@ -81,7 +81,7 @@ module _ (A : List ℕ) (R : Reply) (b t : Bool) (e : t ≡ b) where
     bounded-handed X p = rw (sym e ∙ q) p
 
   module _ (q : t ≡ false) (h : length (R .numbers) ≤ length A) where
-    pub unbounded-number : 12 ≡ number A (ranged b R)
+    pub unbounded-number : 102 ≡ number A (ranged b R)
     unfolding number ranged
     unbounded-number = rw (sym e ∙ q, le-ltb (length A) (length (R .numbers)) h)
 

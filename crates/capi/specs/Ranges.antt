@@ -25,6 +25,6 @@ exactOf start end = Exact (intervalOf start end)
 unfoldable pub kinds : ℕ → ℕ → Bool
 kinds lo-kind hi-kind = leb lo-kind 2 && leb hi-kind 2
 
--- 12, BadBound: one is not. It comes before the refusals of the call, which is not made then.
+-- 102, BadBound: one is not. It comes before the refusals of the call, which is not made then.
 unfoldable pub ranged : Bool → Reply → Reply
-ranged b R = cond b R (record { no = 12; numbers = R .numbers })
+ranged b R = cond b R (record { no = 102; numbers = R .numbers })

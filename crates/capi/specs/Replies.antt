@@ -21,9 +21,9 @@ pub record Reply : Type 0 where
   pub no : ℕ
   pub numbers : List ℕ
 
--- 11, ShortAnswer: the answer A has fewer places than there are numbers. It comes before every other refusal.
+-- 101, ShortAnswer: the answer A has fewer places than there are numbers. It comes before every other refusal.
 unfoldable pub number : List ℕ → Reply → ℕ
-number A R = cond (ltb (length A) (length (R .numbers))) 11 (R .no)
+number A R = cond (ltb (length A) (length (R .numbers))) 101 (R .no)
 
 -- the answer at exit: "Nothing lent changes" where anything is refused; places past the numbers stay
 unfoldable pub handed : List ℕ → Reply → List ℕ

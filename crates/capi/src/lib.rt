@@ -20,10 +20,10 @@ ghost use Rattle.iset.specs.Build.{buildNodes, buildColour};
 ghost use Rattle.iset.specs.Remove.{removeNodes, removeColours};
 ghost use Rattle.capi.specs.Replies.{mapOf, number, handed, left, buildTold, removeTold};
 
-// The exports' own refusals, after the ten of crate words.
-pub const SHORT_ANSWER: u64 = 11;
+// The exports' own refusals. Their numbers leave room for refusals that the map may get after the ten of crate words.
+pub const SHORT_ANSWER: u64 = 101;
 
-pub const BAD_BOUND: u64 = 12;
+pub const BAD_BOUND: u64 = 102;
 
 // The store check. Its number is its whole answer.
 #[no_mangle]
