@@ -1,0 +1,231 @@
+/* The crate iset 0.3.3 and this library in one program on the same inputs. Each case is run in rounds, the two sides one after the other in
+   each round, and the ratio of their times (this library's over the other's) is taken in each round; printed are the median, the least and the
+   greatest ratio. Both sides' answers are compared on the way. */
+#include <stdbool.h>
+#include <stdint.h>
+#include <stdio.h>
+#include <stdlib.h>
+#include <string.h>
+#include <time.h>
+
+typedef struct map map;
+map *rust_build(const uint64_t *list, size_t n);
+map *rust_grow(const uint64_t *list, size_t n);
+map *rust_clone(const map *m);
+void rust_free(map *m);
+uint64_t rust_store(const map *m, uint64_t *words, uint8_t *bytes, size_t n);
+uint64_t rust_remove(map *m, uint64_t slot);
+uint64_t rust_all(const map *m);
+uint64_t rust_point(const map *m, uint64_t p);
+uint64_t rust_exact(const map *m, uint64_t start, uint64_t end);
+bool rust_check(const uint64_t *w, size_t wn, const uint8_t *b, size_t bn, uint64_t count, uint64_t root);
+
+uint64_t inner_remove(uint64_t *w, size_t wn, uint8_t *b, size_t bn, uint64_t count, uint64_t root, uint64_t slot, uint64_t *answer, size_t an);
+uint64_t inner_drain(const uint64_t *w, size_t wn, uint64_t count, uint64_t root, uint64_t kinds, uint64_t lo, uint64_t hi, uint64_t *out,
+                     size_t on);
+uint64_t inner_drain_exact(const uint64_t *w, size_t wn, uint64_t count, uint64_t root, uint64_t start, uint64_t end, uint64_t *out, size_t on);
+bool inner_check(const uint64_t *w, size_t wn, const uint8_t *b, size_t bn, uint64_t count, uint64_t root);
+uint64_t inner_build(const uint64_t *list, size_t ln, uint64_t *w, size_t wn, uint8_t *b, size_t bn);
+uint64_t public_drain(const uint64_t *w, size_t wn, const uint8_t *b, size_t bn, uint64_t count, uint64_t root, uint64_t kinds, uint64_t lo,
+                      uint64_t hi, uint64_t *out, size_t on);
+
+/* Rust's libraries name it; nothing here unwinds. */
+void rust_eh_personality(void) {}
+
+enum { ROUNDS = 15, MOST = 65535, INCLUDED_BOTH = 0, UNBOUNDED_BOTH = 8 };
+
+static uint64_t list[3 * MOST], words[8 * MOST], spare[8 * MOST], out[MOST], slots[MOST];
+static uint8_t bytes[MOST / 8 + 1], spare_bytes[MOST / 8 + 1];
+static size_t n, colour_bytes;
+static uint64_t root;
+static map *crate;
+
+static double now(void) {
+    struct timespec t;
+    clock_gettime(CLOCK_MONOTONIC, &t);
+    return (double)t.tv_sec + (double)t.tv_nsec * 1e-9;
+}
+
+static uint64_t chance = 1;
+
+static uint64_t any(uint64_t below) {
+    chance ^= chance << 13;
+    chance ^= chance >> 7;
+    chance ^= chance << 17;
+    return chance % below;
+}
+
+static void same(uint64_t a, uint64_t b, const char *what) {
+    if (a != b) {
+        printf("bench: %s: the two sides differ: %llu and %llu\n", what, (unsigned long long)a, (unsigned long long)b);
+        exit(1);
+    }
+}
+
+/* The sum of the values of the hits: a drain hands out slots. */
+static uint64_t values(uint64_t hits) {
+    uint64_t sum = 0;
+    for (uint64_t i = 0; i < hits; i++)
+        sum += words[8 * out[i] + 2];
+    return sum;
+}
+
+/* Each side answers a number that is to be equal; the time of what prepares a round is not taken. */
+typedef struct {
+    const char *name;
+    void (*prepare)(void);
+    uint64_t (*theirs)(void);
+    uint64_t (*ours)(void);
+    void (*clear)(void);
+} bench_case;
+
+static void nothing(void) {}
+
+static int by_size(const void *a, const void *b) {
+    double x = *(const double *)a, y = *(const double *)b;
+    return (x > y) - (x < y);
+}
+
+static void measure(const bench_case *c) {
+    double ratios[ROUNDS];
+    for (int k = 0; k < ROUNDS; k++) {
+        c->prepare();
+        double a = now();
+        uint64_t x = c->theirs();
+        double b = now();
+        uint64_t y = c->ours();
+        double d = now();
+        c->clear();
+        same(x, y, c->name);
+        ratios[k] = (d - b) / (b - a);
+    }
+    qsort(ratios, ROUNDS, sizeof *ratios, by_size);
+    printf("| %s | %zu | %.2f | %.2f to %.2f |\n", c->name, n, ratios[ROUNDS / 2], ratios[0], ratios[ROUNDS - 1]);
+    fflush(stdout);
+}
+
+/* Removal of every entry, in one order by chance. */
+static map *victim;
+static void before_removal(void) {
+    victim = rust_clone(crate);
+    memcpy(spare, words, 64 * n);
+    memcpy(spare_bytes, bytes, colour_bytes);
+}
+static uint64_t remove_theirs(void) {
+    uint64_t sum = 0;
+    for (size_t k = 0; k < n; k++)
+        sum = 3 * sum + rust_remove(victim, slots[k]);
+    return sum;
+}
+static uint64_t remove_ours(void) {
+    uint64_t sum = 0, answer[2] = {0, root};
+    for (size_t k = 0; k < n; k++) {
+        inner_remove(spare, 8 * n, spare_bytes, colour_bytes, n - k, answer[1], slots[k], answer, 2);
+        sum = 3 * sum + answer[0];
+    }
+    return sum;
+}
+static void after_removal(void) { rust_free(victim); }
+
+static uint64_t all_theirs(void) { return rust_all(crate); }
+static uint64_t all_ours(void) { return values(inner_drain(words, 8 * n, n, root, UNBOUNDED_BOTH, 0, 0, out, n)); }
+
+/* Points by chance. */
+static uint64_t points[10000], looked, range_end;
+static void before_points(void) {
+    for (size_t k = 0; k < 10000; k++)
+        points[k] = any(range_end);
+}
+static uint64_t points_theirs(void) {
+    uint64_t sum = 0;
+    for (size_t k = 0; k < looked; k++)
+        sum = 3 * sum + rust_point(crate, points[k]);
+    return sum;
+}
+static uint64_t points_ours(void) {
+    uint64_t sum = 0;
+    for (size_t k = 0; k < looked; k++)
+        sum = 3 * sum + values(inner_drain(words, 8 * n, n, root, INCLUDED_BOTH, points[k], points[k], out, 64));
+    return sum;
+}
+static uint64_t points_public(void) {
+    uint64_t sum = 0;
+    for (size_t k = 0; k < looked; k++)
+        sum = 3 * sum + values(public_drain(words, 8 * n, bytes, colour_bytes, n, root, INCLUDED_BOTH, points[k], points[k], out, 64));
+    return sum;
+}
+
+/* Every 16th entry looked up exactly. */
+static uint64_t exact_theirs(void) {
+    uint64_t sum = 0;
+    for (size_t k = 0; k < n; k += 16)
+        sum = 3 * sum + rust_exact(crate, list[3 * k], list[3 * k + 1]);
+    return sum;
+}
+static uint64_t exact_ours(void) {
+    uint64_t sum = 0;
+    for (size_t k = 0; k < n; k += 16)
+        sum = 3 * sum + values(inner_drain_exact(words, 8 * n, n, root, list[3 * k], list[3 * k + 1], out, n));
+    return sum;
+}
+
+static uint64_t check_theirs(void) { return rust_check(words, 8 * n, bytes, colour_bytes, n, root); }
+static uint64_t check_ours(void) { return inner_check(words, 8 * n, bytes, colour_bytes, n, root); }
+
+static map *built;
+static uint64_t build_theirs(void) {
+    built = rust_build(list, n);
+    return 0;
+}
+static uint64_t build_ours(void) {
+    inner_build(list, 3 * n, spare, 8 * n, spare_bytes, colour_bytes);
+    return 0;
+}
+static void after_build(void) { rust_free(built); }
+
+/* n entries; `equals` of them in a row have the same range. */
+static void start(size_t size, uint64_t equals) {
+    n = size;
+    colour_bytes = n / 8 + 1;
+    for (size_t k = 0; k < n; k++) {
+        uint64_t group = k / equals;
+        list[3 * k] = 5 * group;
+        list[3 * k + 1] = 5 * group + 12;
+        list[3 * k + 2] = k;
+        slots[k] = any(n - k);
+    }
+    range_end = 5 * (n / equals) + 12;
+    crate = equals == 1 ? rust_build(list, n) : rust_grow(list, n);
+    root = rust_store(crate, words, bytes, n);
+    same(inner_check(words, 8 * n, bytes, colour_bytes, n, root), 1, "the crate's store passes the check");
+}
+
+int main(void) {
+    static const bench_case
+        removal = {"removal of every entry, inner", before_removal, remove_theirs, remove_ours, after_removal},
+        all = {"drain over the whole map, inner", nothing, all_theirs, all_ours, nothing},
+        point = {"point lookups, inner", before_points, points_theirs, points_ours, nothing},
+        public = {"point lookups, public, with the check", before_points, points_theirs, points_public, nothing},
+        exact = {"exact lookups, 16 equals each, inner", nothing, exact_theirs, exact_ours, nothing},
+        check = {"check, against a plain Rust check", nothing, check_theirs, check_ours, nothing},
+        build = {"build, against from_sorted", nothing, build_theirs, build_ours, after_build};
+    static const size_t sizes[] = {1000, 16000, 65535};
+    static const uint64_t publicly[] = {10000, 1000, 200};
+    printf("| case | entries | ratio, median | ratios of %d rounds |\n|---|---|---|---|\n", ROUNDS);
+    for (int k = 0; k < 3; k++) {
+        start(sizes[k], 1);
+        measure(&removal);
+        measure(&all);
+        looked = 10000;
+        measure(&point);
+        looked = publicly[k];
+        measure(&public);
+        measure(&check);
+        measure(&build);
+        rust_free(crate);
+        start(sizes[k], 16);
+        measure(&exact);
+        rust_free(crate);
+    }
+    return 0;
+}

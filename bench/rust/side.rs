@@ -1,0 +1,163 @@
+//! The Rust side of the bench, for a C main: the crate iset 0.3.3 behind C functions, and a plain check of a store.
+#![no_std]
+extern crate alloc;
+
+use alloc::boxed::Box;
+use core::alloc::{GlobalAlloc, Layout};
+use core::slice::{from_raw_parts, from_raw_parts_mut};
+use iset::bench::{remove_at, store, Map};
+
+extern "C" {
+    fn malloc(size: usize) -> *mut u8;
+    fn free(p: *mut u8);
+    fn abort() -> !;
+}
+
+struct Heap;
+
+// malloc's alignment, 16, is enough for all that is asked for here
+unsafe impl GlobalAlloc for Heap {
+    unsafe fn alloc(&self, layout: Layout) -> *mut u8 {
+        malloc(layout.size())
+    }
+    unsafe fn dealloc(&self, p: *mut u8, _: Layout) {
+        free(p)
+    }
+}
+
+#[global_allocator]
+static HEAP: Heap = Heap;
+
+#[panic_handler]
+fn panic(_: &core::panic::PanicInfo) -> ! {
+    unsafe { abort() }
+}
+
+/// A sorted list of triples without equals.
+#[no_mangle]
+pub unsafe extern "C" fn rust_build(list: *const u64, n: usize) -> *mut Map {
+    let list = from_raw_parts(list, 3 * n);
+    Box::into_raw(Box::new(Map::from_sorted(list.chunks_exact(3).map(|e| (e[0]..e[1], e[2])))))
+}
+
+/// One entry after the other, equals kept.
+#[no_mangle]
+pub unsafe extern "C" fn rust_grow(list: *const u64, n: usize) -> *mut Map {
+    let mut map = Map::default();
+    for e in from_raw_parts(list, 3 * n).chunks_exact(3) {
+        map.force_insert(e[0]..e[1], e[2]);
+    }
+    Box::into_raw(Box::new(map))
+}
+
+#[no_mangle]
+pub unsafe extern "C" fn rust_clone(map: *const Map) -> *mut Map {
+    Box::into_raw(Box::new((*map).clone()))
+}
+
+#[no_mangle]
+pub unsafe extern "C" fn rust_free(map: *mut Map) {
+    drop(Box::from_raw(map));
+}
+
+#[no_mangle]
+pub unsafe extern "C" fn rust_store(map: *const Map, words: *mut u64, bytes: *mut u8, n: usize) -> u64 {
+    store(&*map, from_raw_parts_mut(words, 8 * n), from_raw_parts_mut(bytes, (n + 7) / 8))
+}
+
+#[no_mangle]
+pub unsafe extern "C" fn rust_remove(map: *mut Map, slot: u64) -> u64 {
+    remove_at(&mut *map, slot as u32).unwrap()
+}
+
+/// The sum of the values of all entries.
+#[no_mangle]
+pub unsafe extern "C" fn rust_all(map: *const Map) -> u64 {
+    (*map).iter(..).map(|(_, v)| *v).sum()
+}
+
+/// The sum of the values of the entries that hold a point.
+#[no_mangle]
+pub unsafe extern "C" fn rust_point(map: *const Map, p: u64) -> u64 {
+    (*map).overlap(p).map(|(_, v)| *v).sum()
+}
+
+/// The sum of the values of the entries equal to an interval.
+#[no_mangle]
+pub unsafe extern "C" fn rust_exact(map: *const Map, start: u64, end: u64) -> u64 {
+    (*map).values_at(start..end).sum()
+}
+
+const U: u64 = 4294967295;
+
+/// What a subtree shows to the node above it.
+struct Seen {
+    size: u64,
+    blacks: u64,
+    red: bool,
+    hull: (u64, u64),
+    first: (u64, u64),
+    last: (u64, u64),
+}
+
+struct Store<'a> {
+    words: &'a [u64],
+    bytes: &'a [u8],
+    count: u64,
+}
+
+impl Store<'_> {
+    /// Every clause of document 01's check for the subtree of a link; None where one fails. An empty subtree is Some(None).
+    fn subtree(&self, link: u64, parent: u64, height: u32) -> Option<Option<Seen>> {
+        if link == U {
+            return Some(None);
+        }
+        if link >= self.count || height == 0 {
+            return None;
+        }
+        let w: &[u64; 8] = self.words[8 * link as usize..][..8].try_into().unwrap();
+        // a node is reached once: its parent link leads back, and its two links differ
+        if w[7] != parent || w[0] >= w[1] || w[5] == w[6] && w[5] != U {
+            return None;
+        }
+        let left = self.subtree(w[5], link, height - 1)?;
+        let right = self.subtree(w[6], link, height - 1)?;
+        let red = self.bytes[link as usize / 8] >> (link % 8) & 1 == 1;
+        let own = (w[0], w[1]);
+        let mut seen = Seen { size: 1, blacks: 0, red, hull: own, first: own, last: own };
+        let mut blacks = [0; 2];
+        if let Some(l) = left {
+            if l.last > own || red && l.red {
+                return None;
+            }
+            seen.size += l.size;
+            seen.hull = (seen.hull.0.min(l.hull.0), seen.hull.1.max(l.hull.1));
+            seen.first = l.first;
+            blacks[0] = l.blacks;
+        }
+        if let Some(r) = right {
+            if r.first < own || red && r.red {
+                return None;
+            }
+            seen.size += r.size;
+            seen.hull = (seen.hull.0.min(r.hull.0), seen.hull.1.max(r.hull.1));
+            seen.last = r.last;
+            blacks[1] = r.blacks;
+        }
+        if blacks[0] != blacks[1] || seen.hull != (w[3], w[4]) {
+            return None;
+        }
+        seen.blacks = blacks[0] + !red as u64;
+        Some(Some(seen))
+    }
+}
+
+#[no_mangle]
+pub unsafe extern "C" fn rust_check(words: *const u64, w: usize, bytes: *const u8, b: usize, count: u64, root: u64) -> bool {
+    let s = Store { words: from_raw_parts(words, w), bytes: from_raw_parts(bytes, b), count };
+    match s.subtree(root, U, 33) {
+        None => false,
+        Some(None) => count == 0,
+        Some(Some(seen)) => seen.size == count && !seen.red,
+    }
+}
