@@ -74,7 +74,13 @@ pub extern "C" fn inner_drain(
     hi: u64,
     out: &mut [u64],
 ) -> u64 {
-    drained(nodes, count, overlap(kinds, lo, hi), Cursor::fresh(root), out)
+    drained(
+        nodes,
+        count,
+        overlap(kinds, lo, hi),
+        Cursor::fresh(root),
+        out,
+    )
 }
 
 #[no_mangle]
@@ -136,8 +142,7 @@ pub extern "C" fn public_drain(
         map.fresh(),
         limit,
         out,
-    )
-    else {
+    ) else {
         return 0;
     };
     d.hits

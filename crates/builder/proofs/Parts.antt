@@ -16,7 +16,7 @@ use Rattle.words.specs.declared.node.Entry.{Entry}
 use Rattle.bitvec.specs.Colours.{dye}
 use Rattle.builder.specs.Input.{intervalOf, entryOf}
 use Rattle.builder.specs.Build.{center, rootOf, spanHull, rootHull, nodeWords, spanWords, painted, levels, buildWords, buildColours, buildRoot, Lent}
-use Rattle.builder.proofs.Spans.{few-left, few-right, hull-none, hull-some, words-none, words-some, painted-none, painted-some}
+use Rattle.builder.proofs.Spans.{few-left, few-right, root-none, hull-none, hull-some, words-none, words-some, painted-none, painted-some}
 use Rattle.builder.proofs.Levels.{levels-few}
 
 -- a node written takes the place of eight words
@@ -187,6 +187,67 @@ hull-empty S a b f d h = sym (hull-none S f a b d h)
 
 pub colours-empty : (C : List ℕ) (a b f : ℕ) → b ≤ a → C ≡ painted f C a b
 colours-empty C a b f h = sym (painted-none f C a b h)
+
+-- a span of one slot
+module _ (S w C : List ℕ) (a f : ℕ) (span : Lent S w C a (a + 1) f) where
+  mid : center a (a + 1) ≡ a
+  mid = omega arith
+
+  alone-left : (g : ℕ) (d : Interval) → spanHull S g a (center a (a + 1)) d ≡ d
+  alone-left g d = hull-none S g a (center a (a + 1)) d (omega arith)
+
+  alone-right : (g : ℕ) (d : Interval) → spanHull S g (center a (a + 1) + 1) (a + 1) d ≡ d
+  alone-right g d = hull-none S g (center a (a + 1) + 1) (a + 1) d (omega arith)
+
+  pub hull-leaf : (d own r : Interval) → own ≡ intervalOf S a → r ≡ extended d own → r ≡ spanHull S f a (a + 1) d
+  hull-leaf d own r eo er =
+      hull-whole S w C a (a + 1) f span (omega arith) d own own own r (rw mid eo) (sym (alone-left (f - 1) own)) (sym (alone-right (f - 1) own)) er
+
+  pub colours-leaf : (D : List ℕ) → D ≡ dye C a (eqb f 1) → D ≡ painted f C a (a + 1)
+  colours-leaf D ed =
+      colours-whole S w C a (a + 1) f span (omega arith) D D D (rw mid ed)
+      (sym (painted-none (f - 1) D a (center a (a + 1)) (omega arith)))
+      (sym (painted-none (f - 1) D (center a (a + 1) + 1) (a + 1) (omega arith)))
+
+  pub words-leaf : (p : ℕ) (own : Interval) (e : Entry) (out : List ℕ) → own ≡ intervalOf S a → e ≡ entryOf S a
+      → out ≡ putNode w 0 e own U U p → out ≡ spanWords S f a (a + 1) p
+  words-leaf p own e out eo ee ho =
+      let none : drop 8 w ≡ [] = drop-of-length-le w {i = 8} (omega (arith, span .words)) in
+      let one : out ≡ nodeWords (entryOf S a) own U U p ++ [] =
+      ho ∙ put-node-is w 0 e own U U p (omega (arith, span .words)) ∙ rw (none, ee) in
+      deep S w C a (a + 1) f span (omega arith)
+      (λ f. out ≡ spanWords S f a (a + 1) p)
+      (λ g few.
+      one
+      ∙ sym
+      (words-some S g a (a + 1) p (omega arith)
+      ∙ rw (
+        words-none S g a (center a (a + 1)) (center a (a + 1)) (omega arith),
+        words-none S g (center a (a + 1) + 1) (a + 1) (center a (a + 1)) (omega arith),
+        alone-left g (intervalOf S (center a (a + 1))),
+        alone-right g (intervalOf S (center a (a + 1))),
+        root-none a (center a (a + 1)) (omega arith),
+        root-none (center a (a + 1) + 1) (a + 1) (omega arith),
+        mid,
+        eo,
+      )))
+
+-- a span [a, b) that has one slot is [a, a + 1)
+module _ (a b : ℕ) (some : a < b) (one : b - a ≡ 1) where
+  next : b ≡ a + 1
+  next = omega arith
+
+  pub one-lent : (S w C : List ℕ) (f : ℕ) → Lent S w C a b f → Lent S w C a (a + 1) f
+  one-lent S w C f span = rw (← next) span
+
+  pub one-hull : (S : List ℕ) (f : ℕ) (d r : Interval) → r ≡ spanHull S f a (a + 1) d → r ≡ spanHull S f a b d
+  one-hull S f d r e = rw next e
+
+  pub one-words : (S : List ℕ) (f p : ℕ) (out : List ℕ) → out ≡ spanWords S f a (a + 1) p → out ≡ spanWords S f a b p
+  one-words S f p out e = rw next e
+
+  pub one-colours : (f : ℕ) (C D : List ℕ) → D ≡ painted f C a (a + 1) → D ≡ painted f C a b
+  one-colours f C D e = rw next e
 
 -- the whole list
 module _ (n f : ℕ) (e : f ≡ levels n) where

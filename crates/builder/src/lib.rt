@@ -64,6 +64,27 @@ fn put_root(list: &[u64], nodes: &mut [u64], start: usize, end: usize, parent: u
     put_node(nodes, half as u64, entry, hull, left, right, parent);
 }
 
+// Writes the only slot of a span, whose words are `nodes`; the answer is d, extended by its interval.
+fn put_leaf(
+    list: &[u64],
+    nodes: &mut [u64],
+    colours: &mut [u8],
+    slot: usize,
+    rev_depth: u64,
+    parent: u64,
+    d: Interval,
+) -> Interval
+    requires { ⌜ Lent (now list) (now nodes) (now colours) slot (slot + 1) «rev_depth» ⌝ }
+    ensures { λ r. ⌜ (r ≡ spanHull (now (list .entry)) «rev_depth» slot (slot + 1) d)
+        × (now (nodes .exit) ≡ spanWords (now (list .entry)) «rev_depth» slot (slot + 1) parent)
+        × (now (colours .exit) ≡ painted «rev_depth» (now (colours .entry)) slot (slot + 1)) ⌝ }
+{
+    let own = interval_at(list, slot);
+    put_bit(colours, slot, rev_depth == 1);
+    put_node(nodes, 0, entry_at(list, slot), own, U, U, parent);
+    d.extend(own)
+}
+
 // Initializes the slots [start, end), whose words are `nodes`, below `parent`. rev_depth: inverse depth (the top call has a
 // high one, the lowest level has 1, and is red). The answer is d, extended by the intervals of these slots.
 fn init_from_sorted(
@@ -83,6 +104,9 @@ fn init_from_sorted(
 {
     if end <= start {
         return d;
+    }
+    if end - start == 1 {
+        return put_leaf(list, nodes, colours, start, rev_depth, parent, d);
     }
     let half = (end - start) / 2;
     let center = start + half;

@@ -3,12 +3,13 @@ use lib.ListN.{length-take}
 use Prim.Native.Nat.{ℕ, _-_, _<_}
 use borrow.Fn.Kinds.{In}
 use borrow.Fn.PlainCycle.{Measures, is, falls, and}
-use Rattle.builder.proofs.Parts.{span-pos, span-left, span-right, span-triples, span-back, hull-empty, words-empty, colours-empty, hull-whole, words-whole, colours-whole}
+use Rattle.builder.proofs.Parts.{span-pos, span-left, span-right, span-triples, span-back, hull-empty, words-empty, colours-empty, one-lent, one-hull, one-words, one-colours, hull-whole, words-whole, colours-whole}
 use Rattle.builder.proofs.init_from_sorted.Reads as init
 use Rattle.builder.proofs.init_from_sorted.Kinds as init-kinds
 use Rattle.builder.proofs.+init_from_sorted.Lts-init_from_sorted as init-lts
 use Rattle.bitvec.proofs.put_bit.Reads as put-bit-reads
 use Rattle.builder.proofs.list.interval_at.Reads as interval-at-reads
+use Rattle.builder.proofs.put_leaf.Reads as put-leaf-reads
 use Rattle.builder.proofs.put_root.Reads as put-root-reads
 use Rattle.words.proofs.interval.Interval.extend.Reads as extend-reads
 use Rattle.builder.proofs.+init_from_sorted.{statement}
@@ -26,6 +27,8 @@ init-below t = and 3 init-kinds.ps (falls 3 init-kinds.ps _<_ μ-init t) init.Pr
 
 pub +init-from-sorted-spec : {M : Type 1} → statement M
 +init-from-sorted-spec = close μ-init λ t. init-lts.spec (
+  put-leaf-reads.Asked,
+  put-leaf-reads.Learnt,
   interval-at-reads.Asked,
   interval-at-reads.Learnt,
   put-bit-reads.Asked,
@@ -40,6 +43,11 @@ pub +init-from-sorted-spec : {M : Type 1} → statement M
     (init-at t)
     init.Post
     (λ c. (search hull-empty, search words-empty, search colours-empty))
+    (λ c. omega arith)
+    (λ c κs. search one-lent)
+    (λ c. omega arith)
+    (λ c. omega arith)
+    (λ c. (search one-hull, search one-words, search one-colours))
     (λ c. omega arith)
     (λ c. omega arith)
     (λ c κs. omega arith)
@@ -62,8 +70,8 @@ pub +init-from-sorted-spec : {M : Type 1} → statement M
     let right = c .before .before .before .before .before in
     let left = right .before .before .before .before .before .before .before in
     let begin = left .before .before .before .before .before .before .before .before in
-    let some = begin .if1 .left in
-    let span = begin .before .before .before .before .pre .1 in
+    let some = begin .before .if1 .left in
+    let span = begin .before .before .before .before .before .pre .1 in
     let x = left .init-from-sorted in
     let y = right .init-from-sorted2 in (
       span-triples _ _ _ _ _ _ span some,
@@ -79,8 +87,8 @@ pub +init-from-sorted-spec : {M : Type 1} → statement M
     let left = right .before .before .before .before .before .before .before in
     let bit = left .before .before .before .before .before in
     let begin = bit .before .before .before in
-    let some = begin .if1 .left in
-    let span = begin .before .before .before .before .pre .1 in
+    let some = begin .before .if1 .left in
+    let span = begin .before .before .before .before .before .pre .1 in
     let own = bit .before .before .interval-at .ensures in
     let x = left .init-from-sorted .ensures in
     let y = right .init-from-sorted2 .ensures in
