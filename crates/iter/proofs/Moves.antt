@@ -16,7 +16,7 @@ use Rattle.iter.specs.Answers.{answer, isHit}
 use Rattle.iter.specs.declared.Cursor.{Cursor}
 use Rattle.iter.specs.declared.seek.Step.{Step}
 use Rattle.iter.specs.declared.seek.Step.the-variants.{Hit, End}
-use Rattle.iter.proofs.Bools.{and-left, and-right}
+use Rattle.iter.proofs.Bools.{and-left}
 use Rattle.iter.proofs.Steps.{hits-live}
 
 -- where the walk goes down, the stack takes one more level
@@ -24,17 +24,6 @@ module _ (Q : Rules) (b : Bool) (c : Cursor) (r : Bool) (e : r ≡ deeper Q b c)
   pub deeper-room : r ≡ true → c .levels < 32
   unfolding deeper
   deeper-room t = ltb-true (c .levels) 32 (and-left (ltb (c .levels) 32) (Q .go b (c .slot)) (sym e ∙ t))
-
-  pub deeper-room-too : (a : Bool) → (a && r) ≡ true → c .levels < 32
-  deeper-room-too a t = deeper-room (and-right a r t)
-
--- a test and a second one that a function made
-module _ {A : Type 0} (a b d : Bool) (r x y : A) (e : b ≡ d) where
-  pub both-picked : (a && b) ≡ true → r ≡ x → r ≡ cond (a && d) x y
-  both-picked t q = rw (← e, t) q
-
-  pub both-passed : (a && b) ≡ false → r ≡ y → r ≡ cond (a && d) x y
-  both-passed t q = rw (← e, t) q
 
 -- one move, by the state of the top level
 module _ (W : List ℕ) (Q : Rules) (c r : Cursor) (t : ℕ) (e : t ≡ top (stackOf c)) where
@@ -46,9 +35,13 @@ module _ (W : List ℕ) (Q : Rules) (c r : Cursor) (t : ℕ) (e : t ≡ top (sta
   unfolding move
   move-left h p = rw (sym e ∙ h) p
 
-  pub move-on : (t ≡ 0 → ⊥) → (t ≡ 2 → ⊥) → r ≡ cond (eqb t 1 && deeper Q false c) (down W false c) (upTo (par W (c .slot)) c) → r ≡ move W Q c
+  pub move-returned : t ≡ 1 → r ≡ cond (deeper Q false c) (down W false c) (upTo (par W (c .slot)) c) → r ≡ move W Q c
   unfolding move
-  move-on h i p = rw (← e, ne-eqb t 0 h, ne-eqb t 2 i) p
+  move-returned h p = rw (sym e ∙ h) p
+
+  pub move-right : (t ≡ 0 → ⊥) → (t ≡ 2 → ⊥) → (t ≡ 1 → ⊥) → r ≡ upTo (par W (c .slot)) c → r ≡ move W Q c
+  unfolding move
+  move-right h i j p = rw (← e, ne-eqb t 0 h, ne-eqb t 2 i, ne-eqb t 1 j) p
 
 -- a walk from a live slot keeps what it needs of its cursor
 module _ (W : List ℕ) (Q : Rules) (n : ℕ) (c : Cursor) (small : n ≤ 65535) (some : 1 ≤ c .levels) (few : c .levels ≤ 32) where

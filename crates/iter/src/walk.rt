@@ -8,7 +8,7 @@ use words::ix::U;
 use words::node::child_of;
 use words::node::parent_of;
 ghost use mathlib.Core.Path.{_≡_};
-ghost use mathlib.Core.Bool.{true, false, cond, _&&_};
+ghost use mathlib.Core.Bool.{true, false, cond};
 ghost use Prim.Native.Nat.{_+_, _*_, _≤_, _<_};
 ghost use lib.ListN.{length};
 ghost use lib.Dec.{eqb};
@@ -111,13 +111,13 @@ impl Cursor {
         }
     }
 
-    // From 10: right, or up. From 11: up.
-    fn right_or_up(self, nodes: &[u64], count: u64, query: Query, state: u64) -> Cursor
+    // From 10: right, or up.
+    fn right_or_up(self, nodes: &[u64], count: u64, query: Query) -> Cursor
         requires { ⌜ (count * 8 ≤ length (now nodes)) × Live count self ⌝ }
-        ensures { λ r. ⌜ r ≡ cond (eqb state 1 && deeper (rules (now (nodes .entry)) count query) false self)
+        ensures { λ r. ⌜ r ≡ cond (deeper (rules (now (nodes .entry)) count query) false self)
             (down (now (nodes .entry)) false self) (upTo (par (now (nodes .entry)) (self .slot)) self) ⌝ }
     {
-        if (state == 1) & self.goes_down(nodes, count, query, false) {
+        if self.goes_down(nodes, count, query, false) {
             self.down(nodes, false)
         } else {
             self.up(nodes)
@@ -136,7 +136,10 @@ impl Cursor {
         if state == 2 {
             return self.mark(1);
         }
-        self.right_or_up(nodes, count, query, state)
+        if state == 1 {
+            return self.right_or_up(nodes, count, query);
+        }
+        self.up(nodes)
     }
 
     // A live node is on top in state 00.

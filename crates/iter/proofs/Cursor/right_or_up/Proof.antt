@@ -1,4 +1,5 @@
-use Rattle.iter.proofs.Moves.{deeper-room-too, both-picked, both-passed}
+use Rattle.iter.proofs.Moves.{deeper-room}
+use Rattle.words.proofs.Tests.{picked, passed}
 use native.Mathlib.Omega.{arith}
 use borrow.Author.Needs.{needs}
 use Rattle.iter.proofs.Cursor.right_or_up.Statement.{statement}
@@ -9,7 +10,7 @@ right-or-up-spec =
     tie.close
     (tie.spec
     (λ c κs. search needs)
-    (λ c κs. (omega arith, omega arith, search deeper-room-too))
+    (λ c κs. (omega arith, omega arith, search deeper-room))
     (λ c κs. search needs)
-    (λ c. search both-picked)
-    (λ c. search both-passed))
+    (λ c. search picked)
+    (λ c. search passed))

@@ -1,4 +1,4 @@
-use Rattle.iter.proofs.Moves.{move-entered, move-left, move-on}
+use Rattle.iter.proofs.Moves.{move-entered, move-left, move-returned, move-right}
 use borrow.Author.Needs.{needs}
 use Rattle.iter.proofs.Cursor.walk.Statement.{statement}
 use Rattle.iter.proofs.Cursor.walk.Tie as tie
@@ -13,4 +13,6 @@ walk-spec =
     (λ c κs. search needs)
     (λ c. search move-left)
     (λ c κs. search needs)
-    (λ c. search move-on))
+    (λ c. search move-returned)
+    (λ c κs. search needs)
+    (λ c. search move-right))
