@@ -33,6 +33,12 @@ fn panic(_: &core::panic::PanicInfo) -> ! {
     unsafe { abort() }
 }
 
+#[cfg(alloc_handler)]
+#[alloc_error_handler]
+fn out_of_memory(_: Layout) -> ! {
+    unsafe { abort() }
+}
+
 /// A sorted list of triples without equals.
 #[no_mangle]
 pub unsafe extern "C" fn rust_build(list: *const u64, n: usize) -> *mut Map {
