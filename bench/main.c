@@ -1,6 +1,7 @@
 /* The crate iset 0.3.3 and this library in one program on the same inputs. Each case is run in rounds, the two sides one after the other in
    each round, and the ratio of their times (this library's over the other's) is taken in each round; printed are the median, the least and the
-   greatest ratio. Both sides' answers are compared on the way. */
+   greatest ratio, and how this library's time for one entry or one lookup grows from the least size on. Both sides' answers are compared on the
+   way. */
 #include <stdbool.h>
 #include <stdint.h>
 #include <stdio.h>
@@ -77,6 +78,7 @@ typedef struct {
     uint64_t (*theirs)(void);
     uint64_t (*ours)(void);
     void (*clear)(void);
+    double least; /* this library's time for one at the least size */
 } bench_case;
 
 static void nothing(void) {}
@@ -86,8 +88,9 @@ static int by_size(const void *a, const void *b) {
     return (x > y) - (x < y);
 }
 
-static void measure(const bench_case *c) {
-    double ratios[ROUNDS];
+/* A case that goes through `calls` entries or lookups. */
+static void measure(bench_case *c, size_t calls) {
+    double ratios[ROUNDS], times[ROUNDS];
     for (int k = 0; k < ROUNDS; k++) {
         c->prepare();
         double a = now();
@@ -98,9 +101,14 @@ static void measure(const bench_case *c) {
         c->clear();
         same(x, y, c->name);
         ratios[k] = (d - b) / (b - a);
+        times[k] = (d - b) / (double)calls;
     }
     qsort(ratios, ROUNDS, sizeof *ratios, by_size);
-    printf("| %s | %zu | %.2f | %.2f to %.2f |\n", c->name, n, ratios[ROUNDS / 2], ratios[0], ratios[ROUNDS - 1]);
+    qsort(times, ROUNDS, sizeof *times, by_size);
+    if (c->least == 0)
+        c->least = times[ROUNDS / 2];
+    printf("| %s | %zu | %.2f | %.2f to %.2f | %.2f |\n", c->name, n, ratios[ROUNDS / 2], ratios[0], ratios[ROUNDS - 1],
+           times[ROUNDS / 2] / c->least);
     fflush(stdout);
 }
 
@@ -201,30 +209,30 @@ static void start(size_t size, uint64_t equals) {
 }
 
 int main(void) {
-    static const bench_case
-        removal = {"removal of every entry, inner", before_removal, remove_theirs, remove_ours, after_removal},
-        all = {"drain over the whole map, inner", nothing, all_theirs, all_ours, nothing},
-        point = {"point lookups, inner", before_points, points_theirs, points_ours, nothing},
-        public = {"point lookups, public, with the check", before_points, points_theirs, points_public, nothing},
-        exact = {"exact lookups, 16 equals each, inner", nothing, exact_theirs, exact_ours, nothing},
-        check = {"check, against a plain Rust check", nothing, check_theirs, check_ours, nothing},
-        build = {"build, against from_sorted", nothing, build_theirs, build_ours, after_build};
+    static bench_case
+        removal = {"removal of every entry, inner", before_removal, remove_theirs, remove_ours, after_removal, 0},
+        all = {"drain over the whole map, inner", nothing, all_theirs, all_ours, nothing, 0},
+        point = {"point lookups, inner", before_points, points_theirs, points_ours, nothing, 0},
+        public = {"point lookups, public, with the check", before_points, points_theirs, points_public, nothing, 0},
+        exact = {"exact lookups, 16 equals each, inner", nothing, exact_theirs, exact_ours, nothing, 0},
+        check = {"check, against a plain Rust check", nothing, check_theirs, check_ours, nothing, 0},
+        build = {"build, against from_sorted", nothing, build_theirs, build_ours, after_build, 0};
     static const size_t sizes[] = {1000, 16000, 65535};
     static const uint64_t publicly[] = {10000, 1000, 200};
-    printf("| case | entries | ratio, median | ratios of %d rounds |\n|---|---|---|---|\n", ROUNDS);
+    printf("| case | entries | ratio, median | ratios of %d rounds | time for one, against the first size |\n|---|---|---|---|---|\n", ROUNDS);
     for (int k = 0; k < 3; k++) {
         start(sizes[k], 1);
-        measure(&removal);
-        measure(&all);
+        measure(&removal, n);
+        measure(&all, n);
         looked = 10000;
-        measure(&point);
+        measure(&point, looked);
         looked = publicly[k];
-        measure(&public);
-        measure(&check);
-        measure(&build);
+        measure(&public, looked);
+        measure(&check, n);
+        measure(&build, n);
         rust_free(crate);
         start(sizes[k], 16);
-        measure(&exact);
+        measure(&exact, n / 16);
         rust_free(crate);
     }
     return 0;
