@@ -6,27 +6,39 @@ use native.Mathlib.Omega.{arith}
 use borrow.Author.Tests.{lt-ltb, le-ltb}
 use lib.ListN.{length, set}
 use lib.Seq.{set-out}
-use Rattle.lines.specs.Input.{lineAt, withDigit}
+use Rattle.lines.specs.Input.{appended, lineAt, lineWith}
+use Rattle.lines.specs.declared.input.Digit.the-variants as digit
 use Rattle.lines.specs.declared.input.Line.{Line}
-use Rattle.lines.specs.declared.input.Digit.the-variants.{Is}
 use Rattle.lines.specs.declared.input.Part.the-variants.{Number, Wrong}
+use Rattle.lines.specs.declared.input.Value.{Value}
+use Rattle.lines.specs.declared.input.Value.the-variants.{Is, Over}
 
-module _ (l r : Line) (d : ℕ) where
-  pub too-great : 1844674407370955161 < l .value → r ≡ lineAt l Wrong 0 → r ≡ withDigit l d
-  unfolding withDigit
-  too-great h e = rw (le-ltb (l .value * 10 + d) 18446744073709551616 (omega arith)) e
+module _ (r : Value) (v d : ℕ) where
+  pub too-great : 1844674407370955161 < v → r ≡ Over → r ≡ appended v d
+  unfolding appended
+  too-great h e = rw (le-ltb (v * 10 + d) 18446744073709551616 (omega arith)) e
 
-  pub too-great-sum : 18446744073709551615 - l .value * 10 < d → r ≡ lineAt l Wrong 0 → r ≡ withDigit l d
-  unfolding withDigit
-  too-great-sum h e = rw (le-ltb (l .value * 10 + d) 18446744073709551616 (omega arith)) e
+  pub too-great-sum : 18446744073709551615 - v * 10 < d → r ≡ Over → r ≡ appended v d
+  unfolding appended
+  too-great-sum h e = rw (le-ltb (v * 10 + d) 18446744073709551616 (omega arith)) e
 
-  pub one-more : l .value ≤ 1844674407370955161 → d ≤ 18446744073709551615 - l .value * 10 → r ≡ lineAt l Number (l .value * 10 + d) → r ≡ withDigit l d
-  unfolding withDigit
-  one-more h k e = rw (lt-ltb (l .value * 10 + d) 18446744073709551616 (omega arith)) e
+  pub one-more : v ≤ 1844674407370955161 → d ≤ 18446744073709551615 - v * 10 → r ≡ Is (v * 10 + d) → r ≡ appended v d
+  unfolding appended
+  one-more h k e = rw (lt-ltb (v * 10 + d) 18446744073709551616 (omega arith)) e
+
+-- the line with a number that was taken apart
+module _ (l r : Line) (x t : Value) (e : x ≡ t) where
+  pub line-with : (v : ℕ) → x ≡ Is v → r ≡ lineAt l Number v → r ≡ lineWith l t
+  unfolding lineWith
+  line-with v q h = rw (← e, q) h
+
+  pub line-over : x ≡ Over → r ≡ lineAt l Wrong 0 → r ≡ lineWith l t
+  unfolding lineWith
+  line-over q h = rw (← e, q) h
 
 -- a place past the end is not written
 pub past-end : (s : List ℕ) (i v : ℕ) → length s ≤ i → s ≡ set s i v
 past-end s i v h = sym (set-out s i v h)
 
-pub digit-is : (w b : ℕ) → w ≡ b → Is (w - 48) ≡ Is (b - 48)
+pub digit-is : (w b : ℕ) → w ≡ b → digit.Is (w - 48) ≡ digit.Is (b - 48)
 digit-is w b e = rw e

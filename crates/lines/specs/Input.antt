@@ -9,6 +9,8 @@ use Rattle.lines.specs.declared.input.Part.{Part}
 use Rattle.lines.specs.declared.input.Part.the-variants.{Start, Name, Number, Gap, Wrong}
 use Rattle.lines.specs.declared.input.Digit.{Digit}
 use Rattle.lines.specs.declared.input.Digit.the-variants.{Is, Not}
+use Rattle.lines.specs.declared.input.Value.{Value}
+use Rattle.lines.specs.declared.input.Value.the-variants as value
 
 abbrev pub startOf : Line
 startOf = record { part = Start; name = 0; count = 0; value = 0 }
@@ -20,9 +22,16 @@ digitOf b = cond (ltb b 48) Not (cond (ltb 57 b) Not (Is (b - 48)))
 abbrev pub lineAt : Line → Part → ℕ → Line
 lineAt l p v = record { part = p; name = l .name; count = l .count; value = v }
 
--- one more digit; a number has at most 64 bits
-unfoldable pub withDigit : Line → ℕ → Line
-withDigit l d = cond (ltb (l .value * 10 + d) 18446744073709551616) (lineAt l Number (l .value * 10 + d)) (lineAt l Wrong 0)
+-- a number with one more digit has at most 64 bits; zeros in front count for nothing
+unfoldable pub appended : ℕ → ℕ → Value
+appended v d = cond (ltb (v * 10 + d) 18446744073709551616) (value.Is (v * 10 + d)) value.Over
+
+unfoldable pub lineWith : Line → Value → Line
+lineWith l (value.Is v) = lineAt l Number v
+lineWith l value.Over = lineAt l Wrong 0
+
+abbrev pub withDigit : Line → ℕ → Line
+withDigit l d = lineWith l (appended (l .value) d)
 
 -- one more byte of the name; after a space a number may begin
 unfoldable pub withLetter : Line → ℕ → ℕ → Line

@@ -3,7 +3,7 @@
 ghost use mathlib.Core.Path.{_≡_};
 ghost use Prim.Native.Nat.{_<_};
 ghost use lib.ListN.{length};
-ghost use Rattle.lines.specs.Input.{startOf, digitOf, lineAt, withDigit, withLetter, nameAfter, closed, numbersAfter};
+ghost use Rattle.lines.specs.Input.{startOf, digitOf, lineAt, appended, withDigit, withLetter, nameAfter, closed, numbersAfter};
 
 const SPACE: u8 = 32;
 
@@ -29,6 +29,12 @@ pub enum Digit {
     Not,
 }
 
+// A number with one digit more, or one above 2^64 - 1.
+pub enum Value {
+    Is(u64),
+    Over,
+}
+
 fn wide(b: u8) -> u64
     ensures { λ r. ⌜ r ≡ b ⌝ }
 {
@@ -45,6 +51,18 @@ pub fn digit_of(b: u8) -> Digit
         return Digit::Not;
     }
     Digit::Is(wide(b) - 48)
+}
+
+pub fn append_digit(value: u64, d: u64) -> Value
+    ensures { λ r. ⌜ r ≡ appended value d ⌝ }
+{
+    if 1844674407370955161 < value {
+        return Value::Over;
+    }
+    if 18446744073709551615 - value * 10 < d {
+        return Value::Over;
+    }
+    Value::Is(value * 10 + d)
 }
 
 impl Line {
@@ -74,14 +92,10 @@ impl Line {
     fn with_digit(self, d: u64) -> Line
         ensures { λ r. ⌜ r ≡ withDigit self d ⌝ }
     {
-        let value = self.value;
-        if 1844674407370955161 < value {
-            return self.at(Part::Wrong, 0);
+        match append_digit(self.value, d) {
+            Value::Is(value) => self.at(Part::Number, value),
+            Value::Over => self.at(Part::Wrong, 0),
         }
-        if 18446744073709551615 - value * 10 < d {
-            return self.at(Part::Wrong, 0);
-        }
-        self.at(Part::Number, value * 10 + d)
     }
 
     // One more byte of the name, for which there has to be room.

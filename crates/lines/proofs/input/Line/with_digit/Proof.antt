@@ -1,4 +1,4 @@
-use Rattle.lines.proofs.Laws.{too-great, too-great-sum, one-more}
+use Rattle.lines.proofs.Laws.{line-with, line-over}
 use borrow.Author.Needs.{needs}
 use Rattle.lines.proofs.input.Line.with_digit.Statement.{statement}
 use Rattle.lines.proofs.input.Line.with_digit.Tie as tie
@@ -8,12 +8,9 @@ with-digit-spec =
     tie.close
     (tie.spec
     (λ c κs. search needs)
-    (λ c. search (too-great, too-great-sum, one-more))
-    (λ c. search needs)
     (λ c. search needs)
     (λ c κs. search needs)
-    (λ c. search (too-great, too-great-sum, one-more))
-    (λ c. search needs)
     (λ c. search needs)
     (λ c κs. search needs)
-    (λ c. search (too-great, too-great-sum, one-more)))
+    (λ c. search line-with)
+    (λ c. search line-over))

@@ -1,0 +1,63 @@
+-- The input byte by byte.
+use mathlib.Core.Bool.{cond}
+use mathlib.Core.List.{List, [], _∷_}
+use Prim.Native.Nat.{ℕ}
+use lib.Dec.{eqb}
+use Rattle.slots.specs.Reading.{byteRule, endRule, newRule}
+use Rattle.slots.specs.Working.{Shelf, Desk, shelf, desk, lineIn, settledIn, onDesk}
+use Rattle.slots.specs.Writing.{Page, page, puts, workText}
+use Rattle.slots.specs.declared.State.{State}
+use Rattle.slots.specs.declared.reading.Line.{Line}
+use Rattle.slots.specs.declared.reading.Line.the-variants.{Start}
+use Rattle.slots.specs.declared.working.Work.the-variants.{Listing}
+
+-- the line so far, the work, and the lent memory
+pub record Turn : Type 0 where
+  pub line : Line
+  pub desk : Desk
+
+abbrev pub turn : State → List ℕ → List ℕ → List ℕ → Turn
+turn s W C E = record { line = s .line; desk = desk (s .work) W C E }
+
+abbrev pub begun : State
+begun = record { line = Start; work = Listing 0 }
+
+-- a line is complete
+abbrev pub lined : Turn → Desk
+lined t = lineIn (endRule (t .line)) (t .desk)
+
+-- one byte, and a piece of the input
+unfoldable pub stepped : ℕ → Turn → Turn
+stepped b t = cond (eqb b 10) (record { line = Start; desk = lined t }) (record { line = byteRule (t .line) b; desk = t .desk })
+
+unfoldable pub fed : List ℕ → Turn → Turn
+fed [] t = t
+fed (b ∷ s) t = fed s (stepped b t)
+
+-- "the input's last LF may be missing"
+unfoldable pub lastLine : Turn → Desk
+lastLine t = cond (newRule (t .line)) (t .desk) (lined t)
+
+-- the end of the input
+abbrev pub settledDesk : Desk → Desk
+settledDesk d = onDesk (settledIn (d .entries) (shelf (d .work) (d .nodes) (d .colours))) (d .entries)
+
+abbrev pub ended : Turn → Desk
+ended t = settledDesk (lastLine t)
+
+-- what is printed, in the lent buffer, with the memory as it is then
+pub record End : Type 0 where
+  pub page : Page
+  pub nodes : List ℕ
+  pub colours : List ℕ
+  pub entries : List ℕ
+
+abbrev pub finished : ℕ → List ℕ → List ℕ → List ℕ → List ℕ → End
+finished at W C E out = record { page = page at out; nodes = W; colours = C; entries = E }
+
+abbrev pub printedOn : List ℕ → Desk → End
+printedOn out d =
+    record { page = puts (page 0 out) (workText (d .work) (d .nodes)); nodes = d .nodes; colours = d .colours; entries = d .entries }
+
+abbrev pub finish : Turn → List ℕ → End
+finish t out = printedOn out (ended t)

@@ -1,0 +1,87 @@
+-- What a whole input prints, line by line.
+use mathlib.Core.Bool.{cond}
+use mathlib.Core.List.{List, [], _∷_, _++_}
+use Prim.Native.Nat.{ℕ, _/_}
+use lib.ListN.{length, replicate}
+use lib.Dec.{eqb, ltb}
+use Rattle.iset.specs.Build.{buildRule, buildNodes, buildColour}
+use Rattle.iset.specs.Remove.{removeCall, removeNodes, removeColours}
+use Rattle.iset.specs.declared.Map.{Map}
+use Rattle.slots.specs.Words.{words, said}
+use Rattle.slots.specs.Text.{mapText, refusalText}
+use Rattle.slots.specs.declared.reading.Said.{Said}
+use Rattle.slots.specs.declared.reading.Said.the-variants.{Entry, Remove, Other}
+
+-- "LF at each line's end; the input's last LF may be missing": the lines of an input; none of an empty one
+abbrev pub onto : ℕ → List (List ℕ) → List (List ℕ)
+onto b [] = (b ∷ []) ∷ []
+onto b (l ∷ ls) = (b ∷ l) ∷ ls
+
+unfoldable pub lines : List ℕ → List (List ℕ)
+lines [] = []
+lines (b ∷ s) = cond (eqb b 10) ([] ∷ lines s) (onto b (lines s))
+
+-- What the lines so far have led to: the entries' numbers; the map that was built, in its words and colours; the first refusal.
+pub data Stand : Type 0 where
+  listed : List ℕ → Stand
+  held : Map → List ℕ → List ℕ → Stand
+  refused : ℕ → Stand
+
+-- what a call leaves: its number, the map that it answered, the words and the colours
+abbrev pub left : ℕ → ℕ → ℕ → List ℕ → List ℕ → Stand
+left no count root W C = cond (eqb no 0) (held (record { count = count; root = root }) W C) (refused no)
+
+-- the build of the entries E in the words W and the colours C
+unfoldable pub built : List ℕ → List ℕ → List ℕ → Stand
+built W C E = left (buildRule W C E .no) (buildRule W C E .count) (buildRule W C E .root) (buildNodes W C E) (buildColour W C E)
+
+-- "It builds at the first `remove` or at the end of input"
+abbrev pub settled : List ℕ → List ℕ → Stand → Stand
+settled W C (listed E) = built W C E
+settled W C (held m X K) = held m X K
+settled W C (refused no) = refused no
+
+unfoldable pub removal : Map → List ℕ → List ℕ → ℕ → Stand
+removal m W C k =
+    left (removeCall m W C k .no) (removeCall m W C k .count) (removeCall m W C k .root) (removeNodes m W C k) (removeColours m W C k)
+
+abbrev pub removed : ℕ → Stand → Stand
+removed k (listed E) = listed E
+removed k (held m W C) = removal m W C k
+removed k (refused no) = refused no
+
+-- "lines `start end value`, at most 256 ..; a 257th entry before any `remove` [counts] as NoRoom"
+abbrev pub entered : ℕ → ℕ → ℕ → Stand → Stand
+entered a b c (listed E) = cond (ltb (length E / 3) 256) (listed (E ++ (a ∷ b ∷ c ∷ []))) (refused 1)
+entered a b c (held m W C) = refused 8
+entered a b c (refused no) = refused no
+
+-- "any other line counts as BadList"; "the first refusal in line order"
+abbrev pub wrong : Stand → Stand
+wrong (listed E) = refused 8
+wrong (held m W C) = refused 8
+wrong (refused no) = refused no
+
+-- one line more, with the words W and the colours C to build in
+abbrev pub after : List ℕ → List ℕ → Said → Stand → Stand
+after W C (Entry a b c) t = entered a b c t
+after W C (Remove k) t = removed k (settled W C t)
+after W C Other t = wrong t
+
+abbrev pub afterAll : List ℕ → List ℕ → List (List ℕ) → Stand → Stand
+afterAll W C [] t = t
+afterAll W C (l ∷ ls) t = afterAll W C ls (after W C (said (words l)) t)
+
+-- "The first refusal in line order prints `refused N` alone"
+abbrev pub text : Stand → List ℕ
+text (listed E) = []
+text (held m W C) = mapText (m .count) (m .root) W
+text (refused no) = refusalText no
+
+-- what is printed of a map that is built in the words W and the colours C
+unfoldable pub printedIn : List ℕ → List ℕ → List ℕ → List ℕ
+printedIn W C input = text (settled W C (afterAll W C (lines input) (listed [])))
+
+-- and in zeroed memory for 256 entries
+abbrev pub printed : List ℕ → List ℕ
+printed input = printedIn (replicate 2048 0) (replicate 32 0) input

@@ -1,0 +1,53 @@
+-- "It prints `count N root R` (`-` for U), then one line a slot: slot, start, end, value."
+use mathlib.Core.Bool.{cond}
+use mathlib.Core.List.{List, [], _∷_, _++_}
+use Prim.Native.Nat.{ℕ, zero, suc, _+_, _/_, _%_}
+use lib.Dec.{eqb, ltb}
+use Rattle.words.specs.Ix.{U}
+use Rattle.words.specs.Nodes.{start, stop, value}
+
+-- A number in decimal, of f digits at most; "leading zeros read but not printed". No 64-bit number has more than 20.
+unfoldable pub decimal : ℕ → ℕ → List ℕ
+decimal zero n = []
+decimal (suc f) n =
+    let front : List ℕ = decimal f (n / 10) in
+    cond (ltb n 10) (48 + n ∷ []) (front ++ (48 + n % 10 ∷ []))
+
+abbrev pub number : ℕ → List ℕ
+number n = decimal 20 n
+
+-- a space and a number
+abbrev pub next : ℕ → List ℕ
+next n = 32 ∷ number n
+
+unfoldable pub rootText : ℕ → List ℕ
+rootText r = cond (eqb r U) (45 ∷ []) (number r)
+
+-- `count N root R`
+abbrev pub countWord : List ℕ
+countWord = 99 ∷ 111 ∷ 117 ∷ 110 ∷ 116 ∷ 32 ∷ []
+
+abbrev pub rootWord : List ℕ
+rootWord = 32 ∷ 114 ∷ 111 ∷ 111 ∷ 116 ∷ 32 ∷ []
+
+unfoldable pub head : ℕ → ℕ → List ℕ
+head n r = countWord ++ (number n ++ (rootWord ++ (rootText r ++ (10 ∷ []))))
+
+-- the line of slot s
+unfoldable pub row : List ℕ → ℕ → List ℕ
+row W s = number s ++ (next (start W s) ++ (next (stop W s) ++ (next (value W s) ++ (10 ∷ []))))
+
+-- the lines of n slots from s on
+unfoldable pub rows : List ℕ → ℕ → ℕ → List ℕ
+rows W s zero = []
+rows W s (suc n) = row W s ++ rows W (suc s) n
+
+unfoldable pub mapText : ℕ → ℕ → List ℕ → List ℕ
+mapText n r W = head n r ++ rows W 0 n
+
+-- `refused N`
+abbrev pub refusedWord : List ℕ
+refusedWord = 114 ∷ 101 ∷ 102 ∷ 117 ∷ 115 ∷ 101 ∷ 100 ∷ 32 ∷ []
+
+unfoldable pub refusalText : ℕ → List ℕ
+refusalText no = refusedWord ++ (number no ++ (10 ∷ []))

@@ -1,0 +1,97 @@
+-- The lines' work in lent memory: node words, colour bytes, and the numbers of the entries.
+use mathlib.Core.Bool.{Bool, true, false, cond, _&&_}
+use mathlib.Core.List.{List, [], _∷_}
+use Prim.Native.Nat.{ℕ, _+_, _*_, _/_, min}
+use lib.ListN.{length, take}
+use lib.Seq.{sets}
+use lib.Dec.{eqb, ltb, leb}
+use Rattle.iset.specs.Build.{buildRule, buildNodes, buildColour}
+use Rattle.iset.specs.Remove.{removeCall, removeNodes, removeColours}
+use Rattle.iset.specs.declared.Map.{Map}
+use Rattle.slots.specs.declared.reading.Said.{Said}
+use Rattle.slots.specs.declared.reading.Said.the-variants.{Entry, Remove, Other}
+use Rattle.slots.specs.declared.working.Work.{Work}
+use Rattle.slots.specs.declared.working.Work.the-variants.{Listing, Held, Refused}
+
+-- the work with the map's memory; with the list's too
+pub record Shelf : Type 0 where
+  pub work : Work
+  pub nodes : List ℕ
+  pub colours : List ℕ
+
+pub record Desk : Type 0 where
+  pub work : Work
+  pub nodes : List ℕ
+  pub colours : List ℕ
+  pub entries : List ℕ
+
+abbrev pub shelf : Work → List ℕ → List ℕ → Shelf
+shelf w W C = record { work = w; nodes = W; colours = C }
+
+abbrev pub desk : Work → List ℕ → List ℕ → List ℕ → Desk
+desk w W C E = record { work = w; nodes = W; colours = C; entries = E }
+
+-- "at most 256"; no more than the slice holds
+unfoldable pub roomFor : ℕ → ℕ → Bool
+roomFor n len = cond (ltb n 256) (leb (n * 3 + 3) len) false
+
+-- an entry
+abbrev pub enteredWork : Work → ℕ → Work
+enteredWork (Listing n) len = cond (roomFor n len) (Listing (n + 1)) (Refused 1)
+enteredWork (Held m) len = Refused 8
+enteredWork (Refused no) len = Refused no
+
+abbrev pub enteredList : Work → ℕ → ℕ → ℕ → List ℕ → List ℕ
+enteredList (Listing n) a b c E = cond (roomFor n (length E)) (sets E (n * 3) (a ∷ b ∷ c ∷ [])) E
+enteredList (Held m) a b c E = E
+enteredList (Refused no) a b c E = E
+
+-- the numbers of n entries, of so many as the slice holds
+unfoldable pub listedIn : ℕ → List ℕ → List ℕ
+listedIn n E = take (min n (length E / 3) * 3) E
+
+-- what a call leaves
+abbrev pub workLeft : ℕ → ℕ → ℕ → Work
+workLeft no count root = cond (eqb no 0) (Held (record { count = count; root = root })) (Refused no)
+
+-- the build of the list S; the removal of slot k
+unfoldable pub builtIn : List ℕ → List ℕ → List ℕ → Shelf
+builtIn W C S =
+    shelf (workLeft (buildRule W C S .no) (buildRule W C S .count) (buildRule W C S .root)) (buildNodes W C S) (buildColour W C S)
+
+unfoldable pub removalIn : Map → List ℕ → List ℕ → ℕ → Shelf
+removalIn m W C k =
+    shelf (workLeft (removeCall m W C k .no) (removeCall m W C k .count) (removeCall m W C k .root)) (removeNodes m W C k)
+    (removeColours m W C k)
+
+abbrev pub settledBy : List ℕ → Work → List ℕ → List ℕ → Shelf
+settledBy E (Listing n) W C = builtIn W C (listedIn n E)
+settledBy E (Held m) W C = shelf (Held m) W C
+settledBy E (Refused no) W C = shelf (Refused no) W C
+
+abbrev pub settledIn : List ℕ → Shelf → Shelf
+settledIn E h = settledBy E (h .work) (h .nodes) (h .colours)
+
+abbrev pub removedBy : ℕ → Work → List ℕ → List ℕ → Shelf
+removedBy k (Listing n) W C = shelf (Listing n) W C
+removedBy k (Held m) W C = removalIn m W C k
+removedBy k (Refused no) W C = shelf (Refused no) W C
+
+abbrev pub removedIn : ℕ → Shelf → Shelf
+removedIn k h = removedBy k (h .work) (h .nodes) (h .colours)
+
+-- any other line
+abbrev pub wrongIn : Work → Work
+wrongIn (Listing n) = Refused 8
+wrongIn (Held m) = Refused 8
+wrongIn (Refused no) = Refused no
+
+-- one line more
+abbrev pub onDesk : Shelf → List ℕ → Desk
+onDesk h E = desk (h .work) (h .nodes) (h .colours) E
+
+abbrev pub lineIn : Said → Desk → Desk
+lineIn (Entry a b c) d =
+    desk (enteredWork (d .work) (length (d .entries))) (d .nodes) (d .colours) (enteredList (d .work) a b c (d .entries))
+lineIn (Remove k) d = onDesk (removedIn k (settledIn (d .entries) (shelf (d .work) (d .nodes) (d .colours)))) (d .entries)
+lineIn Other d = desk (wrongIn (d .work)) (d .nodes) (d .colours) (d .entries)

@@ -1,0 +1,36 @@
+-- Text in a lent buffer.
+use mathlib.Core.Bool.{cond}
+use mathlib.Core.List.{List, [], _∷_}
+use Prim.Native.Nat.{ℕ, _+_, _/_}
+use lib.ListN.{length, set}
+use lib.Dec.{ltb}
+use Rattle.iset.specs.declared.Map.{Map}
+use Rattle.slots.specs.Text.{mapText, refusalText}
+use Rattle.slots.specs.declared.working.Work.{Work}
+use Rattle.slots.specs.declared.working.Work.the-variants.{Listing, Held, Refused}
+
+-- the buffer, and where the next byte goes
+pub record Page : Type 0 where
+  pub at : ℕ
+  pub out : List ℕ
+
+abbrev pub page : ℕ → List ℕ → Page
+page at out = record { at = at; out = out }
+
+-- a byte, where there is room; a text
+unfoldable pub putByte : Page → ℕ → Page
+putByte p b = cond (ltb (p .at) (length (p .out))) (page (p .at + 1) (set (p .out) (p .at) b)) p
+
+unfoldable pub puts : Page → List ℕ → Page
+puts p [] = p
+puts p (b ∷ s) = puts (putByte p b) s
+
+-- 1: "count .. above capacity"
+unfoldable pub heldText : Map → List ℕ → List ℕ
+heldText m W = cond (ltb (length W / 8) (m .count)) (refusalText 1) (mapText (m .count) (m .root) W)
+
+-- what is printed at the end, with the map's words W
+abbrev pub workText : Work → List ℕ → List ℕ
+workText (Listing n) W = []
+workText (Held m) W = heldText m W
+workText (Refused no) W = refusalText no
