@@ -6,10 +6,9 @@ use native.Mathlib.Omega.{arith}
 use borrow.Author.Tests.{lt-ltb, le-ltb}
 use lib.ListN.{length, set}
 use lib.Seq.{set-out}
-use Rattle.lines.specs.Input.{appended, lineAt, lineWith}
+use Rattle.lines.specs.Input.{appended, onValue, onDigit}
 use Rattle.lines.specs.declared.input.Digit.the-variants as digit
-use Rattle.lines.specs.declared.input.Line.{Line}
-use Rattle.lines.specs.declared.input.Part.the-variants.{Number, Wrong}
+use Rattle.lines.specs.declared.input.Digit.{Digit}
 use Rattle.lines.specs.declared.input.Value.{Value}
 use Rattle.lines.specs.declared.input.Value.the-variants.{Is, Over}
 
@@ -26,15 +25,24 @@ module _ (r : Value) (v d : ℕ) where
   unfolding appended
   one-more h k e = rw (lt-ltb (v * 10 + d) 18446744073709551616 (omega arith)) e
 
--- the line with a number that was taken apart
-module _ (l r : Line) (x t : Value) (e : x ≡ t) where
-  pub line-with : (v : ℕ) → x ≡ Is v → r ≡ lineAt l Number v → r ≡ lineWith l t
-  unfolding lineWith
-  line-with v q h = rw (← e, q) h
+-- a number that was taken apart; a byte that was
+module _ {A : Type 0} (r : A) (x t : Value) (f : ℕ → A) (z : A) (e : x ≡ t) where
+  pub value-is : (v : ℕ) → x ≡ Is v → r ≡ f v → r ≡ onValue t f z
+  unfolding onValue
+  value-is v q h = rw (← e, q) h
 
-  pub line-over : x ≡ Over → r ≡ lineAt l Wrong 0 → r ≡ lineWith l t
-  unfolding lineWith
-  line-over q h = rw (← e, q) h
+  pub value-over : x ≡ Over → r ≡ z → r ≡ onValue t f z
+  unfolding onValue
+  value-over q h = rw (← e, q) h
+
+module _ {A : Type 0} (r : A) (x t : Digit) (f : ℕ → A) (z : A) (e : x ≡ t) where
+  pub digit-taken : (d : ℕ) → x ≡ digit.Is d → r ≡ f d → r ≡ onDigit t f z
+  unfolding onDigit
+  digit-taken d q h = rw (← e, q) h
+
+  pub digit-missed : x ≡ digit.Not → r ≡ z → r ≡ onDigit t f z
+  unfolding onDigit
+  digit-missed q h = rw (← e, q) h
 
 -- a place past the end is not written
 pub past-end : (s : List ℕ) (i v : ℕ) → length s ≤ i → s ≡ set s i v

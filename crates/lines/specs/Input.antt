@@ -19,6 +19,11 @@ startOf = record { part = Start; name = 0; count = 0; value = 0 }
 unfoldable pub digitOf : ℕ → Digit
 digitOf b = cond (ltb b 48) Not (cond (ltb 57 b) Not (Is (b - 48)))
 
+-- by cases on a byte: f of its digit, or z where it is none
+unfoldable pub onDigit : {A : Type 0} → Digit → (ℕ → A) → A → A
+onDigit (Is d) f z = f d
+onDigit Not f z = z
+
 abbrev pub lineAt : Line → Part → ℕ → Line
 lineAt l p v = record { part = p; name = l .name; count = l .count; value = v }
 
@@ -26,12 +31,13 @@ lineAt l p v = record { part = p; name = l .name; count = l .count; value = v }
 unfoldable pub appended : ℕ → ℕ → Value
 appended v d = cond (ltb (v * 10 + d) 18446744073709551616) (value.Is (v * 10 + d)) value.Over
 
-unfoldable pub lineWith : Line → Value → Line
-lineWith l (value.Is v) = lineAt l Number v
-lineWith l value.Over = lineAt l Wrong 0
+-- by cases on such a number: f of it, or z where it is too great
+unfoldable pub onValue : {A : Type 0} → Value → (ℕ → A) → A → A
+onValue (value.Is v) f z = f v
+onValue value.Over f z = z
 
 abbrev pub withDigit : Line → ℕ → Line
-withDigit l d = lineWith l (appended (l .value) d)
+withDigit l d = onValue (appended (l .value) d) (λ v. lineAt l Number v) (lineAt l Wrong 0)
 
 -- one more byte of the name; after a space a number may begin
 unfoldable pub withLetter : Line → ℕ → ℕ → Line

@@ -1,6 +1,6 @@
 -- The input byte by byte.
 use mathlib.Core.Bool.{cond}
-use mathlib.Core.List.{List, [], _∷_}
+use mathlib.Core.List.{List, foldl}
 use Prim.Native.Nat.{ℕ}
 use lib.Dec.{eqb}
 use Rattle.slots.specs.Reading.{byteRule, endRule, newRule}
@@ -27,12 +27,11 @@ abbrev pub lined : Turn → Desk
 lined t = lineIn (endRule (t .line)) (t .desk)
 
 -- one byte, and a piece of the input
-unfoldable pub stepped : ℕ → Turn → Turn
-stepped b t = cond (eqb b 10) (record { line = Start; desk = lined t }) (record { line = byteRule (t .line) b; desk = t .desk })
+unfoldable pub stepped : Turn → ℕ → Turn
+stepped t b = cond (eqb b 10) (record { line = Start; desk = lined t }) (record { line = byteRule (t .line) b; desk = t .desk })
 
-unfoldable pub fed : List ℕ → Turn → Turn
-fed [] t = t
-fed (b ∷ s) t = fed s (stepped b t)
+unfoldable pub fed : Turn → List ℕ → Turn
+fed t s = foldl stepped t s
 
 -- "the input's last LF may be missing"
 unfoldable pub lastLine : Turn → Desk

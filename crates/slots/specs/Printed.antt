@@ -29,7 +29,7 @@ pub data Stand : Type 0 where
 
 -- what a call leaves: its number, the map that it answered, the words and the colours
 abbrev pub left : ℕ → ℕ → ℕ → List ℕ → List ℕ → Stand
-left no count root W C = cond (eqb no 0) (held (record { count = count; root = root }) W C) (refused no)
+left why count root W C = cond (eqb why 0) (held (record { count = count; root = root }) W C) (refused why)
 
 -- the build of the entries E in the words W and the colours C
 unfoldable pub built : List ℕ → List ℕ → List ℕ → Stand
@@ -39,7 +39,7 @@ built W C E = left (buildRule W C E .no) (buildRule W C E .count) (buildRule W C
 abbrev pub settled : List ℕ → List ℕ → Stand → Stand
 settled W C (listed E) = built W C E
 settled W C (held m X K) = held m X K
-settled W C (refused no) = refused no
+settled W C (refused why) = refused why
 
 unfoldable pub removal : Map → List ℕ → List ℕ → ℕ → Stand
 removal m W C k =
@@ -48,19 +48,19 @@ removal m W C k =
 abbrev pub removed : ℕ → Stand → Stand
 removed k (listed E) = listed E
 removed k (held m W C) = removal m W C k
-removed k (refused no) = refused no
+removed k (refused why) = refused why
 
 -- "lines `start end value`, at most 256 ..; a 257th entry before any `remove` [counts] as NoRoom"
 abbrev pub entered : ℕ → ℕ → ℕ → Stand → Stand
 entered a b c (listed E) = cond (ltb (length E / 3) 256) (listed (E ++ (a ∷ b ∷ c ∷ []))) (refused 1)
 entered a b c (held m W C) = refused 8
-entered a b c (refused no) = refused no
+entered a b c (refused why) = refused why
 
 -- "any other line counts as BadList"; "the first refusal in line order"
 abbrev pub wrong : Stand → Stand
 wrong (listed E) = refused 8
 wrong (held m W C) = refused 8
-wrong (refused no) = refused no
+wrong (refused why) = refused why
 
 -- one line more, with the words W and the colours C to build in
 abbrev pub after : List ℕ → List ℕ → Said → Stand → Stand
@@ -76,7 +76,7 @@ afterAll W C (l ∷ ls) t = afterAll W C ls (after W C (said (words l)) t)
 abbrev pub text : Stand → List ℕ
 text (listed E) = []
 text (held m W C) = mapText (m .count) (m .root) W
-text (refused no) = refusalText no
+text (refused why) = refusalText why
 
 -- what is printed of a map that is built in the words W and the colours C
 unfoldable pub printedIn : List ℕ → List ℕ → List ℕ → List ℕ

@@ -4,11 +4,7 @@ use mathlib.Core.List.{List, [], _∷_}
 use Prim.Native.Nat.{ℕ, _+_}
 use lib.ListN.{getD}
 use lib.Dec.{eqb, ltb}
-use Rattle.lines.specs.Input.{digitOf, appended}
-use Rattle.lines.specs.declared.input.Digit.{Digit}
-use Rattle.lines.specs.declared.input.Digit.the-variants as digit
-use Rattle.lines.specs.declared.input.Value.{Value}
-use Rattle.lines.specs.declared.input.Value.the-variants as number
+use Rattle.lines.specs.Input.{digitOf, appended, onDigit, onValue}
 use Rattle.slots.specs.Words.{remove}
 use Rattle.slots.specs.declared.reading.Before.{Before}
 use Rattle.slots.specs.declared.reading.Before.the-variants.{Nothing, One, Two, Removal}
@@ -18,12 +14,8 @@ use Rattle.slots.specs.declared.reading.Said.{Said}
 use Rattle.slots.specs.declared.reading.Said.the-variants.{Entry, Remove, Other}
 
 -- a byte where a number has to begin
-abbrev pub begins : Before → Digit → Line
-begins g (digit.Is d) = Number g d
-begins g digit.Not = Wrong
-
 unfoldable pub firstDigit : Before → ℕ → Line
-firstDigit g b = begins g (digitOf b)
+firstDigit g b = onDigit (digitOf b) (λ d. Number g d) Wrong
 
 unfoldable pub startByte : ℕ → Line
 startByte b = cond (eqb b 114) (Name 1) (firstDigit Nothing b)
@@ -36,12 +28,8 @@ nameByte k b =
     (cond (eqb b 32) (Gap Removal) Wrong)
 
 -- one more digit
-abbrev pub grown : Before → Value → Line
-grown g (number.Is v) = Number g v
-grown g number.Over = Wrong
-
 unfoldable pub longer : Before → ℕ → ℕ → Line
-longer g v d = grown g (appended v d)
+longer g v d = onValue (appended v d) (λ w. Number g w) Wrong
 
 -- a space after a number
 abbrev pub gapAfter : Before → ℕ → Line
@@ -50,12 +38,8 @@ gapAfter (One a) v = Gap (Two a v)
 gapAfter (Two a b) v = Wrong
 gapAfter Removal v = Wrong
 
-abbrev pub goesOn : Before → ℕ → ℕ → Digit → Line
-goesOn g v b (digit.Is d) = longer g v d
-goesOn g v b digit.Not = cond (eqb b 32) (gapAfter g v) Wrong
-
 unfoldable pub numberByte : Before → ℕ → ℕ → Line
-numberByte g v b = goesOn g v b (digitOf b)
+numberByte g v b = onDigit (digitOf b) (λ d. longer g v d) (cond (eqb b 32) (gapAfter g v) Wrong)
 
 abbrev pub byteRule : Line → ℕ → Line
 byteRule Start b = startByte b

@@ -11,7 +11,7 @@ unfoldable pub decimal : ℕ → ℕ → List ℕ
 decimal zero n = []
 decimal (suc f) n =
     let front : List ℕ = decimal f (n / 10) in
-    cond (ltb n 10) (48 + n ∷ []) (front ++ (48 + n % 10 ∷ []))
+    cond (ltb n 10) ((48 + n) ∷ []) (front ++ ((48 + n % 10) ∷ []))
 
 abbrev pub number : ℕ → List ℕ
 number n = decimal 20 n
@@ -50,4 +50,4 @@ abbrev pub refusedWord : List ℕ
 refusedWord = 114 ∷ 101 ∷ 102 ∷ 117 ∷ 115 ∷ 101 ∷ 100 ∷ 32 ∷ []
 
 unfoldable pub refusalText : ℕ → List ℕ
-refusalText no = refusedWord ++ (number no ++ (10 ∷ []))
+refusalText why = refusedWord ++ (number why ++ (10 ∷ []))

@@ -39,12 +39,12 @@ roomFor n len = cond (ltb n 256) (leb (n * 3 + 3) len) false
 abbrev pub enteredWork : Work → ℕ → Work
 enteredWork (Listing n) len = cond (roomFor n len) (Listing (n + 1)) (Refused 1)
 enteredWork (Held m) len = Refused 8
-enteredWork (Refused no) len = Refused no
+enteredWork (Refused why) len = Refused why
 
 abbrev pub enteredList : Work → ℕ → ℕ → ℕ → List ℕ → List ℕ
 enteredList (Listing n) a b c E = cond (roomFor n (length E)) (sets E (n * 3) (a ∷ b ∷ c ∷ [])) E
 enteredList (Held m) a b c E = E
-enteredList (Refused no) a b c E = E
+enteredList (Refused why) a b c E = E
 
 -- the numbers of n entries, of so many as the slice holds
 unfoldable pub listedIn : ℕ → List ℕ → List ℕ
@@ -52,7 +52,7 @@ listedIn n E = take (min n (length E / 3) * 3) E
 
 -- what a call leaves
 abbrev pub workLeft : ℕ → ℕ → ℕ → Work
-workLeft no count root = cond (eqb no 0) (Held (record { count = count; root = root })) (Refused no)
+workLeft why count root = cond (eqb why 0) (Held (record { count = count; root = root })) (Refused why)
 
 -- the build of the list S; the removal of slot k
 unfoldable pub builtIn : List ℕ → List ℕ → List ℕ → Shelf
@@ -67,7 +67,7 @@ removalIn m W C k =
 abbrev pub settledBy : List ℕ → Work → List ℕ → List ℕ → Shelf
 settledBy E (Listing n) W C = builtIn W C (listedIn n E)
 settledBy E (Held m) W C = shelf (Held m) W C
-settledBy E (Refused no) W C = shelf (Refused no) W C
+settledBy E (Refused why) W C = shelf (Refused why) W C
 
 abbrev pub settledIn : List ℕ → Shelf → Shelf
 settledIn E h = settledBy E (h .work) (h .nodes) (h .colours)
@@ -75,7 +75,7 @@ settledIn E h = settledBy E (h .work) (h .nodes) (h .colours)
 abbrev pub removedBy : ℕ → Work → List ℕ → List ℕ → Shelf
 removedBy k (Listing n) W C = shelf (Listing n) W C
 removedBy k (Held m) W C = removalIn m W C k
-removedBy k (Refused no) W C = shelf (Refused no) W C
+removedBy k (Refused why) W C = shelf (Refused why) W C
 
 abbrev pub removedIn : ℕ → Shelf → Shelf
 removedIn k h = removedBy k (h .work) (h .nodes) (h .colours)
@@ -84,13 +84,13 @@ removedIn k h = removedBy k (h .work) (h .nodes) (h .colours)
 abbrev pub wrongIn : Work → Work
 wrongIn (Listing n) = Refused 8
 wrongIn (Held m) = Refused 8
-wrongIn (Refused no) = Refused no
+wrongIn (Refused why) = Refused why
 
 -- one line more
 abbrev pub onDesk : Shelf → List ℕ → Desk
 onDesk h E = desk (h .work) (h .nodes) (h .colours) E
 
-abbrev pub lineIn : Said → Desk → Desk
+unfoldable pub lineIn : Said → Desk → Desk
 lineIn (Entry a b c) d =
     desk (enteredWork (d .work) (length (d .entries))) (d .nodes) (d .colours) (enteredList (d .work) a b c (d .entries))
 lineIn (Remove k) d = onDesk (removedIn k (settledIn (d .entries) (shelf (d .work) (d .nodes) (d .colours)))) (d .entries)

@@ -1,6 +1,6 @@
 -- Text in a lent buffer.
 use mathlib.Core.Bool.{cond}
-use mathlib.Core.List.{List, [], _∷_}
+use mathlib.Core.List.{List, [], foldl}
 use Prim.Native.Nat.{ℕ, _+_, _/_}
 use lib.ListN.{length, set}
 use lib.Dec.{ltb}
@@ -22,8 +22,7 @@ unfoldable pub putByte : Page → ℕ → Page
 putByte p b = cond (ltb (p .at) (length (p .out))) (page (p .at + 1) (set (p .out) (p .at) b)) p
 
 unfoldable pub puts : Page → List ℕ → Page
-puts p [] = p
-puts p (b ∷ s) = puts (putByte p b) s
+puts p s = foldl putByte p s
 
 -- 1: "count .. above capacity"
 unfoldable pub heldText : Map → List ℕ → List ℕ
@@ -33,4 +32,4 @@ heldText m W = cond (ltb (length W / 8) (m .count)) (refusalText 1) (mapText (m 
 abbrev pub workText : Work → List ℕ → List ℕ
 workText (Listing n) W = []
 workText (Held m) W = heldText m W
-workText (Refused no) W = refusalText no
+workText (Refused why) W = refusalText why

@@ -33,7 +33,7 @@ impl State {
     // The line so far is complete.
     fn end_line(self, nodes: &mut [u64], colours: &mut [u8], entries: &mut [u64]) -> State
         ensures { λ r. ⌜ turn r (now (nodes .exit)) (now (colours .exit)) (now (entries .exit))
-            ≡ stepped 10 (turn self (now (nodes .entry)) (now (colours .entry)) (now (entries .entry))) ⌝ }
+            ≡ stepped (turn self (now (nodes .entry)) (now (colours .entry)) (now (entries .entry))) 10 ⌝ }
     {
         let line = self.line;
         let work = self.work;
@@ -59,7 +59,7 @@ impl State {
     // One more byte of input.
     fn byte(self, b: u8, nodes: &mut [u64], colours: &mut [u8], entries: &mut [u64]) -> State
         ensures { λ r. ⌜ turn r (now (nodes .exit)) (now (colours .exit)) (now (entries .exit))
-            ≡ stepped b (turn self (now (nodes .entry)) (now (colours .entry)) (now (entries .entry))) ⌝ }
+            ≡ stepped (turn self (now (nodes .entry)) (now (colours .entry)) (now (entries .entry))) b ⌝ }
     {
         if b == LINE_END {
             self.end_line(nodes, colours, entries)
@@ -71,7 +71,7 @@ impl State {
     // One more piece of input, which may begin and end anywhere.
     pub fn feed(self, piece: &[u8], nodes: &mut [u64], colours: &mut [u8], entries: &mut [u64]) -> State
         ensures { λ r. ⌜ turn r (now (nodes .exit)) (now (colours .exit)) (now (entries .exit))
-            ≡ fed (now (piece .entry)) (turn self (now (nodes .entry)) (now (colours .entry)) (now (entries .entry))) ⌝ }
+            ≡ fed (turn self (now (nodes .entry)) (now (colours .entry)) (now (entries .entry))) (now (piece .entry)) ⌝ }
     {
         let mut state = self;
         let mut i = 0;

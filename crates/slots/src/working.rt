@@ -32,13 +32,15 @@ fn has_room(n: usize, len: usize) -> bool
     if n < 256 { n * 3 + 3 <= len } else { false }
 }
 
-fn put_triple(n: usize, a: u64, b: u64, c: u64, entries: &mut [u64])
+// Writes an entry after n others, and answers how many there are then.
+fn put_triple(n: usize, a: u64, b: u64, c: u64, entries: &mut [u64]) -> usize
     requires { ⌜ n * 3 + 3 ≤ length (now entries) ⌝ }
-    ensures { λ _. ⌜ now (entries .exit) ≡ sets (now (entries .entry)) (n * 3) (a ∷ b ∷ c ∷ []) ⌝ }
+    ensures { λ r. ⌜ (r ≡ n + 1) × (now (entries .exit) ≡ sets (now (entries .entry)) (n * 3) (a ∷ b ∷ c ∷ [])) ⌝ }
 {
     entries[n * 3] = a;
     entries[n * 3 + 1] = b;
     entries[n * 3 + 2] = c;
+    n + 1
 }
 
 fn least(a: usize, b: usize) -> usize
@@ -53,8 +55,7 @@ fn list_entry(n: usize, a: u64, b: u64, c: u64, entries: &mut [u64]) -> Work
         × (now (entries .exit) ≡ enteredList (Work.Listing n) a b c (now (entries .entry))) ⌝ }
 {
     if has_room(n, entries.len()) {
-        put_triple(n, a, b, c, entries);
-        Work::Listing(n + 1)
+        Work::Listing(put_triple(n, a, b, c, entries))
     } else {
         refuse(Refusal::NoRoom)
     }
@@ -93,7 +94,7 @@ impl Work {
         match self {
             Work::Listing(n) => list_entry(n, a, b, c, entries),
             Work::Held(_) => refuse(Refusal::BadList),
-            Work::Refused(no) => Work::Refused(no),
+            Work::Refused(why) => Work::Refused(why),
         }
     }
 
@@ -105,7 +106,7 @@ impl Work {
         match self {
             Work::Listing(n) => build(n, nodes, colours, entries),
             Work::Held(map) => Work::Held(map),
-            Work::Refused(no) => Work::Refused(no),
+            Work::Refused(why) => Work::Refused(why),
         }
     }
 
@@ -117,7 +118,7 @@ impl Work {
         match self {
             Work::Listing(n) => Work::Listing(n),
             Work::Held(map) => remove_slot(map, k, nodes, colours),
-            Work::Refused(no) => Work::Refused(no),
+            Work::Refused(why) => Work::Refused(why),
         }
     }
 
@@ -136,7 +137,7 @@ impl Work {
         match self {
             Work::Listing(_) => refuse(Refusal::BadList),
             Work::Held(_) => refuse(Refusal::BadList),
-            Work::Refused(no) => Work::Refused(no),
+            Work::Refused(why) => Work::Refused(why),
         }
     }
 

@@ -115,11 +115,11 @@ fn put_rows(out: &mut [u8], at: usize, nodes: &[u64], count: u64) -> usize
     to
 }
 
-fn put_refusal(out: &mut [u8], no: u64) -> usize
-    ensures { λ r. ⌜ page r (now (out .exit)) ≡ puts (page 0 (now (out .entry))) (refusalText no) ⌝ }
+fn put_refusal(out: &mut [u8], why: u64) -> usize
+    ensures { λ r. ⌜ page r (now (out .exit)) ≡ puts (page 0 (now (out .entry))) (refusalText why) ⌝ }
 {
     let a = put_text(out, 0, b"refused ");
-    let b = put_number(out, a, no);
+    let b = put_number(out, a, why);
     put_byte(out, b, b'\n')
 }
 
@@ -128,7 +128,7 @@ fn put_map(out: &mut [u8], map: Map, nodes: &[u64]) -> usize
     ensures { λ r. ⌜ page r (now (out .exit)) ≡ puts (page 0 (now (out .entry))) (heldText map (now (nodes .entry))) ⌝ }
 {
     let count = map.count;
-    if (nodes.len() / 8) as u64 < count {
+    if ((nodes.len() / 8) as u64) < count {
         return put_refusal(out, 1);
     }
     let to = put_head(out, map);
@@ -143,7 +143,7 @@ impl Work {
         match self {
             Work::Listing(_) => 0,
             Work::Held(map) => put_map(out, map, nodes),
-            Work::Refused(no) => put_refusal(out, no),
+            Work::Refused(why) => put_refusal(out, why),
         }
     }
 }

@@ -1,4 +1,4 @@
-use Rattle.lines.proofs.Laws.{line-with, line-over}
+use Rattle.lines.proofs.Laws.{value-is, value-over}
 use borrow.Author.Needs.{needs}
 use Rattle.lines.proofs.input.Line.with_digit.Statement.{statement}
 use Rattle.lines.proofs.input.Line.with_digit.Tie as tie
@@ -12,5 +12,5 @@ with-digit-spec =
     (λ c κs. search needs)
     (λ c. search needs)
     (λ c κs. search needs)
-    (λ c. search line-with)
-    (λ c. search line-over))
+    (λ c. search value-is)
+    (λ c. search value-over))

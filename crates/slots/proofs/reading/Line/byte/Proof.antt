@@ -1,0 +1,22 @@
+use borrow.Author.Needs.{needs}
+use Rattle.slots.proofs.reading.Line.byte.Statement.{statement}
+use Rattle.slots.proofs.reading.Line.byte.Tie as tie
+
+pub byte-spec : {M : Type 1} → statement M
+byte-spec =
+    tie.close
+    (tie.spec
+    (λ c. search needs)
+    (λ c κs. search needs)
+    (λ c. search needs)
+    (λ c κs. search needs)
+    (λ c. search needs)
+    (λ c κs. search needs)
+    (λ c. search needs)
+    (λ c κs. search needs)
+    (λ c. search needs)
+    (λ c. cc)
+    (λ c. cc)
+    (λ c. cc)
+    (λ c. cc)
+    (λ c. search needs))

@@ -1,0 +1,19 @@
+use borrow.Author.Needs.{needs}
+use Rattle.slots.proofs.reading.Line.end.Statement.{statement}
+use Rattle.slots.proofs.reading.Line.end.Tie as tie
+
+pub end-spec : {M : Type 1} → statement M
+end-spec =
+    tie.close
+    (tie.spec
+    (λ c. search needs)
+    (λ c. search needs)
+    (λ c. search needs)
+    (λ c κs. search needs)
+    (λ c. search needs)
+    (λ c. search needs)
+    (λ c. search needs)
+    (λ c. search needs)
+    (λ c. cc)
+    (λ c. search needs)
+    (λ c. search needs))

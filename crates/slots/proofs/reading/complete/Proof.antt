@@ -1,0 +1,16 @@
+use borrow.Author.Needs.{needs}
+use Rattle.slots.proofs.reading.complete.Statement.{statement}
+use Rattle.slots.proofs.reading.complete.Tie as tie
+
+pub complete-spec : {M : Type 1} → statement M
+complete-spec =
+    tie.close
+    (tie.spec
+    (λ c. search needs)
+    (λ c. search needs)
+    (λ c. search needs)
+    (λ c. search needs)
+    (λ c. search needs)
+    (λ c. search needs)
+    (λ c. cc)
+    (λ c. cc))

@@ -1,0 +1,16 @@
+use borrow.Author.Needs.{needs}
+use Rattle.slots.proofs.reading.gap_after.Statement.{statement}
+use Rattle.slots.proofs.reading.gap_after.Tie as tie
+
+pub gap-after-spec : {M : Type 1} → statement M
+gap-after-spec =
+    tie.close
+    (tie.spec
+    (λ c. search needs)
+    (λ c. search needs)
+    (λ c. search needs)
+    (λ c. search needs)
+    (λ c. cc)
+    (λ c. cc)
+    (λ c. search needs)
+    (λ c. search needs))

@@ -1,0 +1,18 @@
+use Rattle.slots.proofs.Arms.{removed-held}
+use borrow.Author.Needs.{needs}
+use Rattle.slots.proofs.working.Work.remove_held.Statement.{statement}
+use Rattle.slots.proofs.working.Work.remove_held.Tie as tie
+
+pub remove-held-spec : {M : Type 1} → statement M
+remove-held-spec =
+    tie.close
+    (tie.spec
+    (λ c. search needs)
+    (λ c. search needs)
+    (λ c κs. search needs)
+    (λ c. search needs)
+    (λ c. cc)
+    (λ c. search needs)
+    (λ c. search needs)
+    (λ c. search removed-held)
+    (λ c. cc))

@@ -1,0 +1,16 @@
+use borrow.Author.Needs.{needs}
+use Rattle.slots.proofs.working.Work.wrong.Statement.{statement}
+use Rattle.slots.proofs.working.Work.wrong.Tie as tie
+
+pub wrong-spec : {M : Type 1} → statement M
+wrong-spec =
+    tie.close
+    (tie.spec
+    (λ c. search needs)
+    (λ c κs. search needs)
+    (λ c. search needs)
+    (λ c κs. search needs)
+    (λ c. search needs)
+    (λ c. cc)
+    (λ c. cc)
+    (λ c. cc))

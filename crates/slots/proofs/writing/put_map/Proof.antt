@@ -1,0 +1,16 @@
+use Rattle.slots.proofs.Pages.{map-short, map-text}
+use borrow.Author.Needs.{needs}
+use Rattle.slots.proofs.writing.put_map.Statement.{statement}
+use Rattle.slots.proofs.writing.put_map.Tie as tie
+
+pub put-map-spec : {M : Type 1} → statement M
+put-map-spec =
+    tie.close
+    (tie.spec
+    (λ c κs. search needs)
+    (λ c. search needs)
+    (λ c. search map-short)
+    (λ c κs. search needs)
+    (λ c κs. search needs)
+    (λ c. search needs)
+    (λ c. search map-text))
