@@ -1,5 +1,6 @@
 // What the program `slotlist` does, as functions on slices: bytes of its input go in, in pieces of any length, and at the
 // end what it prints is written into a lent buffer. The memory that is lent holds the entries, then the map.
+pub mod memory;
 pub mod reading;
 pub mod working;
 pub mod writing;

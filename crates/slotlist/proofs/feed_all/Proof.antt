@@ -1,0 +1,37 @@
+use mathlib.Core.Path.{_≡_}
+use lib.ListN.{length, length-take}
+use native.Mathlib.Omega.{arith}
+use Rattle.slotlist.proofs.feed_all.Statement.{statement}
+use Rattle.slotlist.proofs.feed_all.Tie as tie
+
+abbrev Inv-loop : tie.InvT-loop
+Inv-loop input₀ nodes₀ colours₀ entries₀ state₀ turns₀ input nodes colours entries state turns = (length input ≡ length input₀) × (length nodes ≡ length nodes₀) × (length colours ≡ length colours₀) × (length entries ≡ length entries₀)
+
+abbrev μ-loop : tie.MeasureT-loop
+μ-loop input₀ nodes₀ colours₀ entries₀ state₀ turns₀ input nodes colours entries state turns = turns
+
+pub feed-all-spec : {M : Type 1} → statement M
+feed-all-spec =
+    tie.close
+    (tie.spec
+    Inv-loop
+    μ-loop
+    (λ c κs. omega arith)
+    (λ c. omega arith)
+    (λ c. omega arith)
+    (λ c κs. omega arith)
+    (λ c. omega arith)
+    (λ c. omega arith)
+    (λ c. omega arith)
+    (λ c. omega arith)
+    (λ c. omega arith)
+    (λ c. omega arith)
+    (λ c. simp length-take (omega arith))
+    (λ c κs. omega arith)
+    (λ c. omega arith)
+    (λ c. (omega arith, omega arith, omega arith, omega arith))
+    (λ c. omega arith)
+    (λ c. omega arith)
+    (λ c. omega arith)
+    (λ c. omega arith)
+    (λ c. omega arith))
