@@ -1,3 +1,4 @@
 pub mod Folds
 pub mod Pages
 pub mod Arms
+pub mod Meaning
