@@ -2,3 +2,4 @@ pub mod Folds
 pub mod Pages
 pub mod Arms
 pub mod Meaning
+pub mod Stands

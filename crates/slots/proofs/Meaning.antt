@@ -296,3 +296,47 @@ module _ (b : ℕ) (s : List ℕ) where
           go : (t : Bool) → meaning (cond t (gapAfter g v) Wrong) s ≡ on t
           go true = gap g
           go false = rw d
+
+-- one byte more: the state that it leads to means, with the bytes after it, what the state before means with all of them
+pub meaning-byte : (L : Line) (b : ℕ) (s : List ℕ) → meaning (byteRule L b) s ≡ meaning L (b ∷ s)
+meaning-byte Start b s = start-byte b s
+meaning-byte (Name k) b s = name-byte b s k
+meaning-byte (Number g v) b s = number-byte b s g v
+meaning-byte (Gap g) b s = gap-byte b s g
+meaning-byte Wrong b s = refl
+
+-- after a byte the line is not new
+begun-line : (g : Before) (b : ℕ) → newRule (firstDigit g b) ≡ false
+unfolding firstDigit onDigit
+begun-line g b = digit-cases b (λ e d p r h. rw e) (λ e d. rw e)
+
+pub not-new : (L : Line) (b : ℕ) → newRule (byteRule L b) ≡ false
+unfolding startByte nameByte numberByte onDigit longer appended onValue
+not-new Start b = go (eqb b 114)
+  where
+    go : (t : Bool) → newRule (cond t (Name 1) (firstDigit Nothing b)) ≡ false
+    go true = refl
+    go false = begun-line Nothing b
+not-new (Name k) b = go (ltb k 6) (eqb b (getD remove k 0)) (eqb b 32)
+  where
+    go : (t u w : Bool) → newRule (cond t (cond u (Name (k + 1)) Wrong) (cond w (Gap Removal) Wrong)) ≡ false
+    go true true w = refl
+    go true false w = refl
+    go false u true = refl
+    go false u false = refl
+not-new (Number g v) b = digit-cases b (λ e d p r h. rw e (more (ltb (v * 10 + (b - 48)) 18446744073709551616))) (λ e d. rw e (go g (eqb b 32)))
+  where
+    more : (t : Bool) → newRule (onValue (cond t (held.Is (v * 10 + (b - 48))) held.Over) (λ x. Number g x) Wrong) ≡ false
+    more true = refl
+    more false = refl
+    go : (f : Before) (t : Bool) → newRule (cond t (gapAfter f v) Wrong) ≡ false
+    go Nothing true = refl
+    go (One a) true = refl
+    go (Two a c) true = refl
+    go Removal true = refl
+    go Nothing false = refl
+    go (One a) false = refl
+    go (Two a c) false = refl
+    go Removal false = refl
+not-new (Gap g) b = begun-line g b
+not-new Wrong b = refl
