@@ -3,3 +3,5 @@ pub mod Pages
 pub mod Arms
 pub mod Meaning
 pub mod Stands
+pub mod Lengths
+pub mod Whole
