@@ -100,7 +100,14 @@ fn case(input: &[u8], size: usize) {
     let mut colours = memory::colour_bytes();
     let mut entries = memory::entry_numbers();
     let mut out = memory::text_bytes();
-    run(input, size, &mut nodes, &mut colours, &mut entries, &mut out);
+    run(
+        input,
+        size,
+        &mut nodes,
+        &mut colours,
+        &mut entries,
+        &mut out,
+    );
 }
 
 fn below(size: usize) -> usize {

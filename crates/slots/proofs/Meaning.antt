@@ -111,6 +111,7 @@ goes-on v (b ∷ s) h =
   where
     w : ℕ
     w = v * 10 + (b - 48)
+
     go : (t u : Bool) → ltb w 18446744073709551616 ≡ u → (w < 18446744073709551616 → goes w s ≡ digits s && ltb (value w s) 18446744073709551616)
         → t && (u && goes w s) ≡ (t && digits s) && ltb (value w s) 18446744073709551616
     go false u e r = refl
@@ -232,7 +233,7 @@ module _ (b : ℕ) (s : List ℕ) where
       go true f = let e : b ≡ 114 = eqb-true b 114 f in rw e (sym (said-first (114 ∷ first s) (others s)))
       go false f =
           let r : said (words (b ∷ s)) ≡ cond (same (first (b ∷ s)) remove) (rest (others (b ∷ s)) Removal) (rest (words (b ∷ s)) Nothing) =
-              said-first (first (b ∷ s)) (others (b ∷ s)) in
+          said-first (first (b ∷ s)) (others (b ∷ s)) in
           gap-byte Nothing
           ∙ sym (r ∙ ap (λ (t : Bool). cond t (rest (others (b ∷ s)) Removal) (rest (words (b ∷ s)) Nothing)) (no-remove f))
 
@@ -262,6 +263,7 @@ module _ (b : ℕ) (s : List ℕ) where
           ≡ cond (same (cond t [] (b ∷ first s)) (drop k remove)) (rest (cond t (words s) (others s)) Removal) Other
       past h true = rw (drop-of-length-le remove h)
       past h false = rw (drop-of-length-le remove h)
+
       go : (t : Bool) → ltb k 6 ≡ t
           → meaning (cond t (cond (eqb b (getD remove k 0)) (Name (k + 1)) Wrong) (cond (eqb b 32) (Gap Removal) Wrong)) s ≡ meaning (Name k) (b ∷ s)
       go true f =
@@ -276,20 +278,25 @@ module _ (b : ℕ) (s : List ℕ) where
     where
       w : ℕ
       w = v * 10 + (b - 48)
+
       on : Bool → Said
       on u = cond (goes v (cond u [] (b ∷ first s))) (onward g (value v (cond u [] (b ∷ first s))) (cond u (words s) (others s))) Other
+
       gap : (f : Before) → meaning (gapAfter f v) s ≡ onward f v (words s)
       gap Nothing = refl
       gap (One a) = refl
       gap (Two a c) = refl
       gap Removal = refl
+
       longer-is : (t : Bool) → meaning (onValue (cond t (held.Is w) held.Over) (λ x. Number g x) Wrong) s
           ≡ cond (t && goes w (first s)) (onward g (value w (first s)) (others s)) Other
       longer-is true = refl
       longer-is false = refl
+
       digit : digitOf b ≡ Is (b - 48) → isDigit b ≡ true → eqb b 32 ≡ false → eqb b 114 ≡ false → b - 48 < 10
           → meaning (numberByte g v b) s ≡ meaning (Number g v) (b ∷ s)
       digit e d p r h = rw (e, p, d) (longer-is (ltb w 18446744073709551616))
+
       other : digitOf b ≡ Not → isDigit b ≡ false → meaning (numberByte g v b) s ≡ meaning (Number g v) (b ∷ s)
       other e d = rw e (go (eqb b 32))
         where
@@ -329,6 +336,7 @@ not-new (Number g v) b = digit-cases b (λ e d p r h. rw e (more (ltb (v * 10 + 
     more : (t : Bool) → newRule (onValue (cond t (held.Is (v * 10 + (b - 48))) held.Over) (λ x. Number g x) Wrong) ≡ false
     more true = refl
     more false = refl
+
     go : (f : Before) (t : Bool) → newRule (cond t (gapAfter f v) Wrong) ≡ false
     go Nothing true = refl
     go (One a) true = refl

@@ -116,7 +116,7 @@ unfolding removeCall removeNodes
 remove-held m W C k h g e =
     let z : removeNumber m W C k ≡ 0 = remove-number m W C k e in
     let i : Inside (m .count) W C (removeRule W C (m .count) (m .root) k .store) =
-        removed-inside W C (m .count) (m .root) k (accepts m W C k z .1) in
+    removed-inside W C (m .count) (m .root) k (accepts m W C k z .1) in
     rw (eq-eqb (removeNumber m W C k) 0 z, i .words-length) (omega arith, omega arith)
 
 -- Each kind of line, on work that stands in memory.

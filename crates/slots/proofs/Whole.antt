@@ -100,8 +100,8 @@ module _ (W C : List ℕ) where
       let last : Desk = lastLine (foldl stepped (turn begun W C E) input) in
       let all : Stand = afterAll W C (lines input) (listed []) in
       let r : Stands W C last all =
-          subst (λ (t : Stand). Stands W C last t) (from-start (lines input) (listed []))
-          (runs input Start (desk (Listing 0) W C E) (listed []) (begins E long)) in
+      subst (λ (t : Stand). Stands W C last t) (from-start (lines input) (listed []))
+      (runs input Start (desk (Listing 0) W C E) (listed []) (begins E long)) in
       let x = text-stands (ended (foldl stepped (turn begun W C E) input)) (settled W C all) (stands-settled W C last all r) in
       rw (x .0) (puts-all (text (settled W C all)) out (omega (arith, x .1)))
 

@@ -70,7 +70,13 @@ impl State {
     }
 
     // One more piece of input, which may begin and end anywhere.
-    pub fn feed(self, piece: &[u8], nodes: &mut [u64], colours: &mut [u8], entries: &mut [u64]) -> State
+    pub fn feed(
+        self,
+        piece: &[u8],
+        nodes: &mut [u64],
+        colours: &mut [u8],
+        entries: &mut [u64],
+    ) -> State
         ensures { λ r. ⌜ turn r (now (nodes .exit)) (now (colours .exit)) (now (entries .exit))
             ≡ fed (turn self (now (nodes .entry)) (now (colours .entry)) (now (entries .entry))) (now (piece .entry)) ⌝ }
     {

@@ -142,7 +142,13 @@ impl Work {
     }
 
     // One line more. After a refusal nothing changes.
-    pub fn line(self, said: Said, nodes: &mut [u64], colours: &mut [u8], entries: &mut [u64]) -> Work
+    pub fn line(
+        self,
+        said: Said,
+        nodes: &mut [u64],
+        colours: &mut [u8],
+        entries: &mut [u64],
+    ) -> Work
         ensures { λ r. ⌜ desk r (now (nodes .exit)) (now (colours .exit)) (now (entries .exit))
             ≡ lineIn said (desk self (now (nodes .entry)) (now (colours .entry)) (now (entries .entry))) ⌝ }
     {
