@@ -1,7 +1,7 @@
 -- Cutting the input anywhere changes nothing, and the whole input prints what document 01 says of its lines.
 use mathlib.Core.Path.{_≡_, refl, sym, ap, subst, _∙_}
 use mathlib.Core.Bool.{Bool, true, false, cond}
-use mathlib.Core.List.{List, [], _∷_, _++_, foldl, foldl-append}
+use mathlib.Core.List.{List, [], _∷_, _++_, foldl, foldl-append, flatten}
 use Prim.Native.Nat.{ℕ, _*_, _/_, _≤_, min}
 use native.Mathlib.Omega.{arith}
 use lib.ListN.{length, take, replicate}
@@ -26,6 +26,11 @@ use Rattle.slots.proofs.Lengths.{map-length, refusal-length, puts-all}
 pub cut : (t : Turn) (xs ys : List ℕ) → fed t (xs ++ ys) ≡ fed (fed t xs) ys
 unfolding fed
 cut t xs ys = foldl-append stepped t xs ys
+
+pub pieces : (t : Turn) (ps : List (List ℕ)) → foldl fed t ps ≡ fed t (flatten ps)
+unfolding fed flatten
+pieces t [] = refl
+pieces t (p ∷ ps) = pieces (fed t p) ps ∙ sym (cut t p (flatten ps))
 
 module _ (W C : List ℕ) where
   -- the lines l of an input whose first line has begun with L
