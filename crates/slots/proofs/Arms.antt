@@ -6,7 +6,7 @@ use Prim.Native.Nat.{ℕ, suc, _+_, _*_, _/_, _≤_, min}
 use native.Mathlib.Omega.{arith}
 use lib.ListN.{length, set, take}
 use lib.Seq.{sets}
-use lib.Dec.{eqb, ltb, leb}
+use lib.Dec.{ltb, leb}
 use borrow.Author.Tests.{leb-true, ne-eqb}
 use Rattle.words.specs.Refusals.{refusalNumber}
 use Rattle.words.specs.declared.refusal.Refusal.{Refusal}
@@ -21,10 +21,9 @@ use Rattle.iset.specs.declared.remove.Removal.{Removal}
 use Rattle.iset.specs.declared.remove.Removal.the-variants as removal
 use Rattle.slots.specs.Reading.{byteRule, endRule, newRule}
 use Rattle.slots.specs.Working.{Shelf, Desk, shelf, desk, roomFor, enteredWork, enteredList, listedIn, workLeft, builtIn, removalIn, settledIn, removedIn, wrongIn, onDesk, lineIn}
-use Rattle.slots.specs.Feeding.{Turn, End, turn, stepped, lined, lastLine, settledDesk, finished, printedOn}
+use Rattle.slots.specs.Feeding.{Turn, turn, stepped, lined, lastLine, settledDesk, finished, printedOn}
 use Rattle.slots.specs.Writing.{page, puts, workText}
 use Rattle.slots.specs.declared.State.{State}
-use Rattle.slots.specs.declared.reading.Line.{Line}
 use Rattle.slots.specs.declared.reading.Line.the-variants.{Start}
 use Rattle.slots.specs.declared.reading.Said.{Said}
 use Rattle.slots.specs.declared.reading.Said.the-variants.{Entry, Remove, Other}

@@ -25,7 +25,8 @@ stateOf t = record { line = t .line; work = t .desk .work }
 pub feed-determined :
     (κs : Lfts 4) (a : K.Dens κs feed-kinds.ps) (r r′ : K.resT feed-kinds.r κs .Denot) (s s′ : AtExit (K.endedOf 4 feed-kinds.ps feed-kinds.r) κs)
     → feed-reads.Post κs a r s → feed-reads.Post κs a r′ s′
-    → (r ≡ r′) × (now (s .1 .1 .0) ≡ now (s′ .1 .1 .0)) × (now (s .1 .1 .1 .0) ≡ now (s′ .1 .1 .1 .0)) × (now (s .1 .1 .1 .1 .0) ≡ now (s′ .1 .1 .1 .1 .0))
+    → (r ≡ r′) × (now (s .1 .1 .0) ≡ now (s′ .1 .1 .0)) × (now (s .1 .1 .1 .0) ≡ now (s′ .1 .1 .1 .0))
+    × (now (s .1 .1 .1 .1 .0) ≡ now (s′ .1 .1 .1 .1 .0))
 feed-determined κs a r r′ s s′ p q =
     let e = p ∙ sym q in
     (ap stateOf e, ap (λ (t : Turn). t .desk .nodes) e, ap (λ (t : Turn). t .desk .colours) e, ap (λ (t : Turn). t .desk .entries) e)

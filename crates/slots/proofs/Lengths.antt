@@ -1,8 +1,8 @@
 -- What is printed fits: at most 21,557 bytes for 256 entries. And what fits is written as it stands.
-use mathlib.Core.Path.{_≡_, refl, sym, ap, _∙_}
+use mathlib.Core.Path.{_≡_, refl, ap, _∙_}
 use mathlib.Core.Bool.{Bool, true, false, cond}
-use mathlib.Core.List.{List, [], _∷_, _++_, append-nil}
-use Prim.Native.Nat.{ℕ, zero, suc, _+_, _*_, _/_, _%_, _<_, _≤_}
+use mathlib.Core.List.{List, [], _∷_, _++_}
+use Prim.Native.Nat.{ℕ, zero, suc, _+_, _*_, _/_, _%_, _≤_}
 use native.Mathlib.Omega.{arith}
 use lib.ListN.{length, take, drop, set, length-append, length-set}
 use lib.Seq.{sets, sets-eq, take-at}
@@ -11,7 +11,7 @@ use borrow.Author.Tests.{lt-ltb}
 use Rattle.words.specs.Ix.{U}
 use Rattle.words.specs.Nodes.{start, stop, value}
 use Rattle.slots.specs.Text.{decimal, number, rootText, head, row, rows, mapText, refusalText}
-use Rattle.slots.specs.Writing.{Page, page, putByte, puts}
+use Rattle.slots.specs.Writing.{page, putByte, puts}
 
 decimal-length : (f n : ℕ) → length (decimal f n) ≤ f
 unfolding decimal

@@ -5,15 +5,15 @@ use mathlib.Core.List.{List, [], _∷_}
 use Prim.Native.Nat.{ℕ, zero, suc, _+_, _-_, _*_, _<_, _≤_}
 use native.Mathlib.Omega.{arith}
 use native.Mathlib.Numerals.{add-one}
-use lib.ListN.{length, getD, drop, drop-of-length-le}
+use lib.ListN.{getD, drop, drop-of-length-le}
 use lib.Seq.{drop-cons}
 use lib.Dec.{eqb, ltb, leb}
-use borrow.Author.Tests.{ltb-true, ltb-false, leb-true, leb-false, eqb-true, lt-ltb, le-ltb, le-leb, ne-eqb, eq-eqb}
+use borrow.Author.Tests.{ltb-true, ltb-false, leb-true, leb-false, eqb-true, lt-ltb, le-ltb, ne-eqb, eq-eqb}
 use Rattle.lines.specs.Input.{digitOf, appended, onDigit, onValue}
 use Rattle.lines.specs.declared.input.Digit.the-variants.{Is, Not}
 use Rattle.lines.specs.declared.input.Value.the-variants as held
 use Rattle.slots.specs.Words.{first, others, words, isDigit, digits, value, isNumber, same, remove, said}
-use Rattle.slots.specs.Reading.{firstDigit, startByte, nameByte, longer, gapAfter, numberByte, byteRule, complete, endRule, newRule}
+use Rattle.slots.specs.Reading.{firstDigit, startByte, nameByte, longer, gapAfter, numberByte, byteRule, endRule, newRule}
 use Rattle.slots.specs.declared.reading.Before.{Before}
 use Rattle.slots.specs.declared.reading.Before.the-variants.{Nothing, One, Two, Removal}
 use Rattle.slots.specs.declared.reading.Line.{Line}
@@ -187,18 +187,12 @@ letters (suc (suc (suc (suc zero)))) h = refl
 letters (suc (suc (suc (suc (suc zero))))) h = refl
 letters (suc (suc (suc (suc (suc (suc k)))))) h = absurd (omega arith)
 
--- a byte that is no space goes on with the first word; a space ends it
+-- a byte that is no space goes on with the first word
 module _ (b : ℕ) (s : List ℕ) where
   word-on : eqb b 32 ≡ false → words (b ∷ s) ≡ (b ∷ first s) ∷ others s
   word-on e = go (eqb b 32) e
     where
       go : (t : Bool) → t ≡ false → cond t [] (b ∷ first s) ∷ cond t (words s) (others s) ≡ (b ∷ first s) ∷ others s
-      go t e = rw e
-
-  word-end : eqb b 32 ≡ true → words (b ∷ s) ≡ [] ∷ words s
-  word-end e = go (eqb b 32) e
-    where
-      go : (t : Bool) → t ≡ true → cond t [] (b ∷ first s) ∷ cond t (words s) (others s) ≡ [] ∷ words s
       go t e = rw e
 
   -- a byte where a number has to begin

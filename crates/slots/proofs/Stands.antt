@@ -2,14 +2,13 @@
 use mathlib.Core.Path.{_≡_, refl, sym, ap, subst, _∙_}
 use mathlib.Core.Bool.{Bool, true, false, cond}
 use mathlib.Core.List.{List, [], _∷_, _++_}
-use Prim.Native.Nat.{ℕ, suc, _+_, _-_, _*_, _/_, _<_, _≤_, min}
+use Prim.Native.Nat.{ℕ, _+_, _*_, _/_, _<_, _≤_, min}
 use native.Mathlib.Omega.{arith}
-use lib.ListN.{length, take, drop, length-append, length-take}
+use lib.ListN.{length, take, drop, length-append}
 use lib.Seq.{sets, sets-eq, length-sets, take-at, length-take-le}
 use lib.Dec.{eqb, ltb, leb}
-use borrow.Author.Tests.{ltb-true, ltb-false, eqb-true, eq-eqb, lt-ltb, le-ltb, le-leb}
+use borrow.Author.Tests.{ltb-true, eqb-true, eq-eqb, le-leb}
 use Rattle.words.specs.Ix.{U}
-use Rattle.words.specs.Nodes.{room}
 use Rattle.builder.specs.Build.{buildRoot}
 use Rattle.tree_rm_laws.specs.Remove.{removeRule}
 use Rattle.tree_rm_laws.specs.Removed.{Inside}
@@ -20,7 +19,7 @@ use Rattle.iset.specs.declared.Map.{Map}
 use Rattle.iset.proofs.Builds.{Accepted, accepted, builds}
 use Rattle.iset.proofs.Removals.{accepts}
 use Rattle.slots.specs.Printed.{Stand, listed, held, refused, left, built, settled, removal, removed, entered, wrong, after}
-use Rattle.slots.specs.Working.{Shelf, Desk, shelf, desk, roomFor, enteredWork, enteredList, listedIn, workLeft, builtIn, removalIn, settledBy, settledIn, removedBy, removedIn, wrongIn, onDesk, lineIn}
+use Rattle.slots.specs.Working.{Desk, desk, roomFor, enteredWork, enteredList, listedIn, workLeft, builtIn, removalIn, settledBy, removedBy, wrongIn, onDesk, lineIn}
 use Rattle.slots.specs.Feeding.{settledDesk}
 use Rattle.slots.specs.declared.reading.Said.{Said}
 use Rattle.slots.specs.declared.reading.Said.the-variants.{Entry, Remove, Other}
@@ -61,7 +60,8 @@ list-more n a b c E h long =
     let g : 768 ≤ length (sets E (n * 3) v) = rw (length-sets E (n * 3) v) long in
     let e : sets E (n * 3) v ≡ take (n * 3) E ++ v ++ drop (n * 3 + 3) E = sets-eq v E (n * 3) (omega arith) in
     let f : (n + 1) * 3 ≡ n * 3 + 3 = omega arith in
-    let l : length (take (n * 3) E ++ v) ≡ n * 3 + 3 = length-append (take (n * 3) E) v ∙ ap (λ (k : ℕ). k + 3) (length-take-le (n * 3) E (omega arith)) in
+    let l : length (take (n * 3) E ++ v) ≡ n * 3 + 3 =
+    length-append (take (n * 3) E) v ∙ ap (λ (k : ℕ). k + 3) (length-take-le (n * 3) E (omega arith)) in
     list-take (n + 1) (sets E (n * 3) v) (omega arith) g
     ∙ ap (λ (k : ℕ). take k (sets E (n * 3) v)) f
     ∙ ap (λ (s : List ℕ). take (n * 3 + 3) s) e
@@ -96,7 +96,8 @@ unfolding removeCall
 remove-number m W C k e = go (eqb (removeNumber m W C k) 0) refl e
   where
     go : (t : Bool) → eqb (removeNumber m W C k) 0 ≡ t
-        → cond {A = RemoveAnswer} t (removeDone m (removeRule W C (m .count) (m .root) k)) (refusedRemoval m (removeNumber m W C k)) .no ≡ 0 → removeNumber m W C k ≡ 0
+        → cond {A = RemoveAnswer} t (removeDone m (removeRule W C (m .count) (m .root) k)) (refusedRemoval m (removeNumber m W C k)) .no ≡ 0
+        → removeNumber m W C k ≡ 0
     go true f z = eqb-true (removeNumber m W C k) 0 f
     go false f z = z
 

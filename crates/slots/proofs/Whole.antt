@@ -7,11 +7,10 @@ use native.Mathlib.Omega.{arith}
 use lib.ListN.{length, take, replicate}
 use lib.Dec.{eqb}
 use borrow.Author.Tests.{le-ltb}
-use Rattle.slots.specs.Words.{words, said}
 use Rattle.slots.specs.Printed.{Stand, listed, onto, lines, settled, after, afterAll, text, printedIn, printed}
 use Rattle.slots.specs.Reading.{byteRule, endRule, newRule}
 use Rattle.slots.specs.Working.{Desk, desk, listedIn}
-use Rattle.slots.specs.Writing.{puts, page, heldText, workText}
+use Rattle.slots.specs.Writing.{page, heldText, workText}
 use Rattle.slots.specs.Feeding.{Turn, turn, begun, lined, stepped, fed, lastLine, ended, finish}
 use Rattle.slots.specs.declared.reading.Line.{Line}
 use Rattle.slots.specs.declared.reading.Line.the-variants.{Start}
@@ -69,7 +68,8 @@ module _ (W C : List ℕ) where
           (from Start (lines s) (after W C (endRule L) t))
           → Stands W C (lastLine (foldl stepped (record { line = byteRule L b; desk = d }) s)) (from (byteRule L b) (lines s) t)
           → Stands W C
-          (lastLine (foldl stepped (cond e (record { line = Start; desk = lined (record { line = L; desk = d }) }) (record { line = byteRule L b; desk = d })) s))
+          (lastLine
+          (foldl stepped (cond e (record { line = Start; desk = lined (record { line = L; desk = d }) }) (record { line = byteRule L b; desk = d })) s))
           (from L (cond e ([] ∷ lines s) (onto b (lines s))) t)
       go true p q = rw (← from-end L (lines s) t) p
       go false p q = rw (← from-byte L b (lines s) t) q

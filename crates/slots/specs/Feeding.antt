@@ -4,7 +4,7 @@ use mathlib.Core.List.{List, foldl}
 use Prim.Native.Nat.{ℕ}
 use lib.Dec.{eqb}
 use Rattle.slots.specs.Reading.{byteRule, endRule, newRule}
-use Rattle.slots.specs.Working.{Shelf, Desk, shelf, desk, lineIn, settledIn, onDesk}
+use Rattle.slots.specs.Working.{Desk, shelf, desk, lineIn, settledIn, onDesk}
 use Rattle.slots.specs.Writing.{Page, page, puts, workText}
 use Rattle.slots.specs.declared.State.{State}
 use Rattle.slots.specs.declared.reading.Line.{Line}

@@ -1,6 +1,5 @@
 -- A line byte by byte.
 use mathlib.Core.Bool.{Bool, true, false, cond}
-use mathlib.Core.List.{List, [], _∷_}
 use Prim.Native.Nat.{ℕ, _+_}
 use lib.ListN.{getD}
 use lib.Dec.{eqb, ltb}

@@ -1,5 +1,5 @@
 -- The lines' work in lent memory: node words, colour bytes, and the numbers of the entries.
-use mathlib.Core.Bool.{Bool, true, false, cond, _&&_}
+use mathlib.Core.Bool.{Bool, false, cond}
 use mathlib.Core.List.{List, [], _∷_}
 use Prim.Native.Nat.{ℕ, _+_, _*_, _/_, min}
 use lib.ListN.{length, take}

@@ -8,7 +8,7 @@ use words::node::entry_of;
 ghost use mathlib.Core.Path.{_≡_};
 ghost use Prim.Native.Nat.{_+_, _*_, _<_, _≤_};
 ghost use lib.ListN.{length};
-ghost use Rattle.slots.specs.Text.{decimal, number, next, rootText, head, row, rows, mapText, refusalText};
+ghost use Rattle.slots.specs.Text.{decimal, number, next, rootText, head, row, rows, refusalText};
 ghost use Rattle.slots.specs.Writing.{page, putByte, puts, heldText, workText};
 
 fn put_byte(out: &mut [u8], at: usize, b: u8) -> usize

@@ -1,6 +1,6 @@
 use mathlib.Core.Path.{_≡_}
 use Prim.Native.Nat.{_≤_, _-_}
-use lib.ListN.{length, length-take}
+use lib.ListN.{length}
 use native.Mathlib.Omega.{arith}
 use Rattle.slotcases.proofs.feed_pieces.Statement.{statement}
 use Rattle.slotcases.proofs.feed_pieces.Tie as tie

@@ -1,6 +1,5 @@
 use Rattle.slots.proofs.Arms.{room-fits, listing}
 use Rattle.words.proofs.Tests.{picked, passed}
-use native.Mathlib.Omega.{arith}
 use borrow.Author.Needs.{needs}
 use Rattle.slots.proofs.working.list_entry.Statement.{statement}
 use Rattle.slots.proofs.working.list_entry.Tie as tie
