@@ -19,7 +19,8 @@ use Rattle.iset.specs.declared.Map.{Map}
 use Rattle.iset.proofs.Builds.{Accepted, accepted, builds}
 use Rattle.iset.proofs.Removals.{accepts}
 use Rattle.slots.specs.Printed.{Stand, listed, held, refused, left, built, settled, removal, removed, entered, wrong, after}
-use Rattle.slots.specs.Working.{Desk, desk, roomFor, enteredWork, enteredList, listedIn, workLeft, builtIn, removalIn, settledBy, removedBy, wrongIn, onDesk, lineIn}
+use Rattle.slots.specs.Working.{Desk, desk, roomFor, enteredWork, enteredList, listedIn, workLeft}
+use Rattle.slots.specs.Working.{builtIn, removalIn, settledBy, removedBy, wrongIn, onDesk, lineIn}
 use Rattle.slots.specs.Feeding.{settledDesk}
 use Rattle.slots.specs.declared.reading.Said.{Said}
 use Rattle.slots.specs.declared.reading.Said.the-variants.{Entry, Remove, Other}

@@ -69,7 +69,8 @@ module _ (W C : List ℕ) where
           → Stands W C (lastLine (foldl stepped (record { line = byteRule L b; desk = d }) s)) (from (byteRule L b) (lines s) t)
           → Stands W C
           (lastLine
-          (foldl stepped (cond e (record { line = Start; desk = lined (record { line = L; desk = d }) }) (record { line = byteRule L b; desk = d })) s))
+          (foldl stepped
+          (cond e (record { line = Start; desk = lined (record { line = L; desk = d }) }) (record { line = byteRule L b; desk = d })) s))
           (from L (cond e ([] ∷ lines s) (onto b (lines s))) t)
       go true p q = rw (← from-end L (lines s) t) p
       go false p q = rw (← from-byte L b (lines s) t) q

@@ -1,9 +1,9 @@
 // What the program `slotlist` does, as functions on slices: bytes of its input go in, in pieces of any length, and at the
 // end what it prints is written into a lent buffer. The memory that is lent holds the entries, then the map.
 pub mod memory;
-pub mod reading;
-pub mod working;
-pub mod writing;
+mod reading;
+mod working;
+mod writing;
 
 use reading::Line;
 use working::Work;
@@ -16,8 +16,8 @@ const LINE_END: u8 = 10;
 
 // The line so far, and what the lines before it have led to.
 pub struct State {
-    pub line: Line,
-    pub work: Work,
+    line: Line,
+    work: Work,
 }
 
 impl State {

@@ -10,7 +10,8 @@ ghost use lib.ListN.{length};
 ghost use lib.Seq.{sets};
 ghost use mathlib.Core.List.{[], _∷_};
 ghost use Rattle.words.specs.Refusals.{refusalNumber};
-ghost use Rattle.slots.specs.Working.{shelf, desk, roomFor, enteredWork, enteredList, listedIn, builtIn, removalIn, settledIn, removedIn, wrongIn, lineIn};
+ghost use Rattle.slots.specs.Working.{shelf, desk, roomFor, enteredWork, enteredList, listedIn};
+ghost use Rattle.slots.specs.Working.{builtIn, removalIn, settledIn, removedIn, wrongIn, lineIn};
 
 // What the lines so far have led to: the number of entries in the list; the map that was built; the first refusal's number.
 pub enum Work {

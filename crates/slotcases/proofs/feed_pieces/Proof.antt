@@ -6,7 +6,8 @@ use Rattle.slotcases.proofs.feed_pieces.Statement.{statement}
 use Rattle.slotcases.proofs.feed_pieces.Tie as tie
 
 abbrev Inv-loop : tie.InvT-loop
-Inv-loop input size nodes₀ colours₀ entries₀ state₀ i₀ nodes colours entries state i = (i ≤ length input) × (length nodes ≡ length nodes₀) × (length colours ≡ length colours₀) × (length entries ≡ length entries₀)
+Inv-loop input size nodes₀ colours₀ entries₀ state₀ i₀ nodes colours entries state i = (i ≤ length input) × (length nodes ≡ length nodes₀)
+    × (length colours ≡ length colours₀) × (length entries ≡ length entries₀)
 
 abbrev μ-loop : tie.MeasureT-loop
 μ-loop input size nodes₀ colours₀ entries₀ state₀ i₀ nodes colours entries state i = length input - i

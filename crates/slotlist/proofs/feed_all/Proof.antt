@@ -5,7 +5,8 @@ use Rattle.slotlist.proofs.feed_all.Statement.{statement}
 use Rattle.slotlist.proofs.feed_all.Tie as tie
 
 abbrev Inv-loop : tie.InvT-loop
-Inv-loop input₀ nodes₀ colours₀ entries₀ state₀ turns₀ input nodes colours entries state turns = (length input ≡ length input₀) × (length nodes ≡ length nodes₀) × (length colours ≡ length colours₀) × (length entries ≡ length entries₀)
+Inv-loop input₀ nodes₀ colours₀ entries₀ state₀ turns₀ input nodes colours entries state turns = (length input ≡ length input₀) × (length nodes ≡ length nodes₀)
+    × (length colours ≡ length colours₀) × (length entries ≡ length entries₀)
 
 abbrev μ-loop : tie.MeasureT-loop
 μ-loop input₀ nodes₀ colours₀ entries₀ state₀ turns₀ input nodes colours entries state turns = turns

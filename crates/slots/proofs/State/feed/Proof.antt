@@ -8,7 +8,8 @@ use Rattle.slots.proofs.State.feed.Statement.{statement}
 use Rattle.slots.proofs.State.feed.Tie as tie
 
 abbrev Inv-loop : tie.InvT-loop
-Inv-loop piece nodes₀ colours₀ entries₀ state₀ i₀ nodes colours entries state i = (i ≤ length piece) × (length nodes ≡ length nodes₀) × (length colours ≡ length colours₀) × (length entries ≡ length entries₀)
+Inv-loop piece nodes₀ colours₀ entries₀ state₀ i₀ nodes colours entries state i = (i ≤ length piece) × (length nodes ≡ length nodes₀)
+    × (length colours ≡ length colours₀) × (length entries ≡ length entries₀)
     × (fed (turn state₀ nodes₀ colours₀ entries₀) piece ≡ fed (turn state nodes colours entries) (drop i piece))
 
 abbrev μ-loop : tie.MeasureT-loop

@@ -9,7 +9,8 @@ use Rattle.slots.proofs.writing.put_rows.Statement.{statement}
 use Rattle.slots.proofs.writing.put_rows.Tie as tie
 
 abbrev Inv-loop : tie.InvT-loop
-Inv-loop out₀ at nodes count to₀ slot₀ out to slot = (slot ≤ count) × (length out ≡ length out₀) × (puts (page at out₀) (rows nodes 0 count) ≡ puts (page to out) (rows nodes slot (count - slot)))
+Inv-loop out₀ at nodes count to₀ slot₀ out to slot = (slot ≤ count) × (length out ≡ length out₀)
+    × (puts (page at out₀) (rows nodes 0 count) ≡ puts (page to out) (rows nodes slot (count - slot)))
 
 abbrev μ-loop : tie.MeasureT-loop
 μ-loop out₀ at nodes count to₀ slot₀ out to slot = count - slot
