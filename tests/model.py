@@ -209,6 +209,63 @@ def remove(s, slot):
     return " ".join(map(str, [0, value, s.count, s.root] + sum(([a, b] for a, b in (pairs + [(U, U)] * 3)[:3]), [])))
 
 
+# Insertion
+
+def rotate(s, low, high):
+    """`high`, a child of `low`, comes up over it."""
+    left = s.get(low, LEFT) == high
+    lift(s, low, high)
+    join(s, low, left, s.get(high, RIGHT if left else LEFT))
+    join(s, high, not left, low)
+    s.rehull(low)
+    s.rehull(high)
+
+
+def redden(s, at):
+    """Upward from the red slot `at`, whose parent may be red too."""
+    while s.red(s.get(at, PARENT)):
+        parent = s.get(at, PARENT)
+        top = s.get(parent, PARENT)
+        left = s.get(top, LEFT) == parent
+        uncle = s.get(top, RIGHT if left else LEFT)
+        s.paint(top, 1)
+        if s.red(uncle):
+            s.paint(parent, 0)
+            s.paint(uncle, 0)
+            at = top
+            continue
+        if (s.get(parent, LEFT) == at) != left:
+            rotate(s, parent, at)
+            parent = at
+        rotate(s, top, parent)
+        s.paint(parent, 0)
+        break
+    s.paint(s.root, 0)
+
+
+def insert(s, start, end, value):
+    no = 1 if s.count >= s.capacity() else refuse_store(s) or (5 if start >= end else 0)
+    if no:
+        return "%d %d %d %d" % (no, s.count, s.root, U)
+    slot, up, at, left = s.count, U, s.root, True
+    while at != U:
+        up, left = at, (start, end) < s.key(at)
+        at = s.get(at, LEFT if left else RIGHT)
+    s.words[8 * slot:8 * slot + 8] = [start, end, value, start, end, U, U, up]
+    s.paint(slot, 1)
+    s.count += 1
+    if up == U:
+        s.root = slot
+    else:
+        join(s, up, left, slot)
+    redden(s, slot)
+    at = slot
+    while at != U:
+        s.rehull(at)
+        at = s.get(at, PARENT)
+    return "%d %d %d %d" % (0, s.count, s.root, slot)
+
+
 # Looking up
 
 def allowed_left(q, hull_end):
