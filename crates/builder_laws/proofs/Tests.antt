@@ -1,16 +1,13 @@
 -- The tests of the input answer true exactly for what may be built.
 use mathlib.Core.Path.{_≡_, refl, sym}
-use mathlib.Core.Bool.{Bool, true, false, cond, _&&_, _||_, true≢false}
+use mathlib.Core.Bool.{Bool, true, false, cond, true≢false}
 use mathlib.Core.List.{List}
 use Prim.Native.Nat.{ℕ, zero, suc, _+_, _-_, _<_, _≤_}
 use native.Mathlib.Omega.{arith}
 use native.Mathlib.Numerals.{add-one}
-use lib.Dec.{eqb, leb, ltb}
-use borrow.Author.Tests.{eqb-true, eq-eqb, leb-true, le-leb, ltb-true, ltb-false, lt-ltb}
-use Rattle.words.specs.Intervals.{le}
-use Rattle.words.specs.declared.interval.Interval.{Interval}
-use Rattle.tree.specs.Order.{NotAfter}
+use borrow.Author.Tests.{ltb-true, lt-ltb}
 use Rattle.tree.proofs.Cases.{compare}
+use Rattle.tree.proofs.Orders.{le-sound, le-complete}
 use Rattle.builder.specs.Input.{startOf, endOf, intervalOf, count, every, properAt, inOrder, allProper, sorted}
 use Rattle.builder_laws.specs.Input.{Input}
 
@@ -31,29 +28,6 @@ module _ (p : ℕ → Bool) where
   every-complete (suc m) k h =
       let r : every p (suc k) m ≡ true = every-complete m (suc k) (λ j x y. h j (omega arith) (omega arith)) in
       rw (h k (omega arith) (omega arith)) r
-
--- the test of two intervals
-le-sound : (a b : Interval) → le a b ≡ true → NotAfter a b
-le-sound a b h = go (ltb (a .start) (b .start)) (eqb (a .start) (b .start)) refl refl h
-  where
-    go : (t u : Bool) → ltb (a .start) (b .start) ≡ t → eqb (a .start) (b .start) ≡ u → t || (u && leb (a .end) (b .end)) ≡ true
-        → NotAfter a b
-    go true u e i q =
-        let z : a .start < b .start = ltb-true (a .start) (b .start) e in
-        record { starts = omega arith; stops = λ x. absurd (omega arith) }
-    go false true e i q =
-        let z : a .start ≡ b .start = eqb-true (a .start) (b .start) i in
-        record { starts = omega arith; stops = λ x. leb-true (a .end) (b .end) q }
-    go false false e i q = absurd (true≢false (sym q))
-
-le-complete : (a b : Interval) → NotAfter a b → le a b ≡ true
-le-complete a b o = go (ltb (a .start) (b .start)) refl
-  where
-    go : (t : Bool) → ltb (a .start) (b .start) ≡ t → t || (eqb (a .start) (b .start) && leb (a .end) (b .end)) ≡ true
-    go true e = refl
-    go false e =
-        let z : b .start ≤ a .start = ltb-false (a .start) (b .start) e in
-        rw (eq-eqb (a .start) (b .start) (omega (arith, o .starts)), le-leb (a .end) (b .end) (o .stops z)) refl
 
 module _ (S : List ℕ) where
   pub tests-sound : allProper S ≡ true → sorted S ≡ true → Input S (count S)

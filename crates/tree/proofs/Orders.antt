@@ -1,11 +1,16 @@
 -- Laws of the order: of lists of intervals, then of lists of slots.
-use mathlib.Core.Path.{_≡_}
+use mathlib.Core.Path.{_≡_, refl, sym, _∙_}
+use mathlib.Core.Bool.{Bool, true, false, _&&_, _||_, true≢false}
 use mathlib.Core.List.{List, [], _∷_, _++_, map, map-append}
-use Prim.Native.Nat.{ℕ, _<_}
+use Prim.Native.Nat.{ℕ, _<_, _≤_}
 use native.Mathlib.Omega.{arith}
+use lib.Dec.{eqb, leb, ltb}
+use borrow.Author.Tests.{eqb-true, eq-eqb, leb-true, le-leb, ltb-true, ltb-false}
+use Rattle.words.specs.Intervals.{le}
 use Rattle.words.specs.Nodes.{interval}
 use Rattle.words.specs.declared.interval.Interval.{Interval}
 use Rattle.tree.specs.Order.{NotAfter, Rising, RisingAt}
+use Rattle.tree.proofs.Cases.{compare}
 use Rattle.tree.proofs.Slots.{hit-cases, times}
 
 pub after-self : (a : Interval) → NotAfter a a
@@ -13,6 +18,40 @@ after-self a = record { starts = omega arith; stops = λ h. omega arith }
 
 pub after-trans : {a b c : Interval} → NotAfter a b → NotAfter b c → NotAfter a c
 after-trans p q = record { starts = omega arith; stops = λ h. omega (arith, p .stops (omega arith), q .stops (omega arith)) }
+
+-- the test of two intervals
+pub le-sound : (a b : Interval) → le a b ≡ true → NotAfter a b
+le-sound a b h = go (ltb (a .start) (b .start)) (eqb (a .start) (b .start)) refl refl h
+  where
+    go : (t u : Bool) → ltb (a .start) (b .start) ≡ t → eqb (a .start) (b .start) ≡ u → t || (u && leb (a .end) (b .end)) ≡ true
+        → NotAfter a b
+    go true u e i q =
+        let z : a .start < b .start = ltb-true (a .start) (b .start) e in
+        record { starts = omega arith; stops = λ x. absurd (omega arith) }
+    go false true e i q =
+        let z : a .start ≡ b .start = eqb-true (a .start) (b .start) i in
+        record { starts = omega arith; stops = λ x. leb-true (a .end) (b .end) q }
+    go false false e i q = absurd (true≢false (sym q))
+
+pub le-complete : (a b : Interval) → NotAfter a b → le a b ≡ true
+le-complete a b o = go (ltb (a .start) (b .start)) refl
+  where
+    go : (t : Bool) → ltb (a .start) (b .start) ≡ t → t || (eqb (a .start) (b .start) && leb (a .end) (b .end)) ≡ true
+    go true e = refl
+    go false e =
+        let z : b .start ≤ a .start = ltb-false (a .start) (b .start) e in
+        rw (eq-eqb (a .start) (b .start) (omega (arith, o .starts)), le-leb (a .end) (b .end) (o .stops z)) refl
+
+-- what is greater is not at or before
+pub le-not : (a b : Interval) → le a b ≡ false → NotAfter b a
+le-not a b h =
+    record {
+      starts = compare (b .start) (a .start) (λ q. q) (λ q. absurd (no (record { starts = omega arith; stops = λ x. absurd (omega arith) })));
+      stops = λ x. compare (b .end) (a .end) (λ q. q) (λ q. absurd (no (record { starts = x; stops = λ y. omega arith })));
+    }
+  where
+    no : NotAfter a b → ⊥
+    no o = true≢false (sym (le-complete a b o) ∙ h)
 
 -- a is not after any of a list
 abbrev pub Before : Interval → List Interval → Type 0

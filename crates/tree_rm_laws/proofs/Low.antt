@@ -68,7 +68,7 @@ module _ (n : ℕ) where
   pub low-swap : (W : List ℕ) (i j : ℕ) → i < n → j < n → Low n W (swap W i j)
   low-swap W i j p q = (length-swap W i j, λ g a u. word-swap-slot W i j g a (omega arith) (omega arith))
 
-  low-putNode : (W : List ℕ) (s : ℕ) (e : Entry) (h : Interval) (left right up : ℕ) → s < n → Low n W (putNode W s e h left right up)
+  pub low-putNode : (W : List ℕ) (s : ℕ) (e : Entry) (h : Interval) (left right up : ℕ) → s < n → Low n W (putNode W s e h left right up)
   low-putNode W s e h left right up q = (length-putNode W s e h left right up, λ g a u. word-putNode-slot W s e h left right up g a (omega arith))
 
   pub low-cleared : (W : List ℕ) (z : ℕ) → z < n → Low n W (cleared W z)

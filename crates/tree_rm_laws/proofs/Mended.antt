@@ -38,7 +38,7 @@ module _ (n : ℕ) where
     pub colours-in : Dyed n C (S .colours)
     pub entries : (a : ℕ) → entry (S .words) a ≡ entry W a
 
-  mended-refl : (W C : List ℕ) (r : ℕ) → Mended W C (store W C r)
+  pub mended-refl : (W C : List ℕ) (r : ℕ) → Mended W C (store W C r)
   mended-refl W C r = record { words-in = low-refl n W; colours-in = dyed-refl n C; entries = λ a. refl }
 
   mended-act : (k : Case) (W C : List ℕ) (r ix : ℕ) (b : Bool) (P S c d : ℕ) → P < n → S < n → (k ≡ four → c < n)
@@ -75,7 +75,7 @@ module _ (n : ℕ) where
   four-close p s true d e = refl
   four-close p s false d e = absurd (false≢true (sym (not-four p s d) ∙ ap isFour e))
 
-  red-slot : (C : List ℕ) (k : ℕ) → redAt n C k ≡ true → k < n
+  pub red-slot : (C : List ℕ) (k : ℕ) → redAt n C k ≡ true → k < n
   red-slot C k = by-link n k (λ v. v ≡ true → k < n) (λ s. red C s) false (λ h e. h) (λ h e. absurd (false≢true e))
 
   mended-turn : (W C : List ℕ) (r ix P : ℕ) (b : Bool) → P < n → Mended W C (ending (turnAt n W C r ix P b))

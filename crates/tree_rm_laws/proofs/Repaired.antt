@@ -29,27 +29,27 @@ Good n x base w (done W C r) = Fixed n x base W (red C) r × (n ≤ length C * 8
 Good n x base w (again W C r ix) = Lighter n x base w W (red C) r ix × (n ≤ length C * 8)
 
 -- a link's colour is that of the tree it leads to
-red-link : (W C : List ℕ) (n : ℕ) → n ≤ 65535 → (p k : ℕ) (t : Tree) → Shape W n p k t → redAt n C k ≡ rootRed (red C) t
+pub red-link : (W C : List ℕ) (n : ℕ) → n ≤ 65535 → (p k : ℕ) (t : Tree) → Shape W n p k t → redAt n C k ≡ rootRed (red C) t
 red-link W C n m p k leaf h = on-none n k (omega arith) (λ s. red C s) false
 red-link W C n m p k (node l s r) h = rw (h .here) (on-slot n s (h .live) (λ s. red C s) false)
 
-red-live : (W : List ℕ) (K : ℕ → Bool) (n p k : ℕ) (t : Tree) → Shape W n p k t → rootRed K t ≡ true → k < n
+pub red-live : (W : List ℕ) (K : ℕ → Bool) (n p k : ℕ) (t : Tree) → Shape W n p k t → rootRed K t ≡ true → k < n
 red-live W K n p k leaf h e = absurd (false≢true e)
 red-live W K n p k (node l s r) h e = rw (h .here) (h .live)
 
 -- colours made one after the other
 module _ (n : ℕ) (C : List ℕ) (bits : n ≤ length C * 8) where
-  dye-one : (s : ℕ) (v : Bool) → s < n → (n ≤ length (dye C s v) * 8) × (red (dye C s v) ≡ paint (red C) s v)
+  pub dye-one : (s : ℕ) (v : Bool) → s < n → (n ≤ length (dye C s v) * 8) × (red (dye C s v) ≡ paint (red C) s v)
   dye-one s v q = (rw length-setBit bits, red-dye C s v (omega arith))
 
-dye-two : (n : ℕ) (C : List ℕ) (s a : ℕ) (v w : Bool) → n ≤ length C * 8 → s < n → a < n
+pub dye-two : (n : ℕ) (C : List ℕ) (s a : ℕ) (v w : Bool) → n ≤ length C * 8 → s < n → a < n
     → (n ≤ length (dye (dye C s v) a w) * 8) × (red (dye (dye C s v) a w) ≡ paint (paint (red C) s v) a w)
 dye-two n C s a v w bits q o =
     let (i, e) = dye-one n C bits s v q in
     let (j, f) = dye-one n (dye C s v) i a w o in
     (j, f ∙ rw e)
 
-dye-three : (n : ℕ) (C : List ℕ) (s a d : ℕ) (v w u : Bool) → n ≤ length C * 8 → s < n → a < n → d < n
+pub dye-three : (n : ℕ) (C : List ℕ) (s a d : ℕ) (v w u : Bool) → n ≤ length C * 8 → s < n → a < n → d < n
     → (n ≤ length (dye (dye (dye C s v) a w) d u) * 8) × (red (dye (dye (dye C s v) a w) d u) ≡ paint (paint (paint (red C) s v) a w) d u)
 dye-three n C s a d v w u bits q o p =
     let (i, e) = dye-two n C s a v w bits q o in

@@ -41,10 +41,10 @@ pub entry-fix : (n : ℕ) (W : List ℕ) (s a : ℕ) → entry (fix n W s) a ≡
 entry-fix n W s a = λ t. record { start = word-fix n W s Start a refl t; end = word-fix n W s End a refl t; value = word-fix n W s Value a refl t }
 
 module _ (n : ℕ) (W : List ℕ) (s : ℕ) where
-  hulls-fix : (t : Tree) → occ s t ≡ 0 → Hulls W t → Hulls (fix n W s) t
+  pub hulls-fix : (t : Tree) → occ s t ≡ 0 → Hulls W t → Hulls (fix n W s) t
   hulls-fix t z = hulls-same W (fix n W s) t (λ a o g q. word-fix-slot n W s g a (apart a s t z o))
 
-  by-fix : (c : List Frame) → occs s c ≡ 0 → HullsBy W c → HullsBy (fix n W s) c
+  pub by-fix : (c : List Frame) → occs s c ≡ 0 → HullsBy W c → HullsBy (fix n W s) c
   by-fix [] z h = tt
   by-fix (frame b k far ∷ c) z h = (hulls-fix far (omega arith) (h .0), by-fix c (omega arith) (h .1))
 
@@ -85,7 +85,7 @@ module _ (W : List ℕ) (n : ℕ) (small : n ≤ 65535) where
         right = hulls-fix n W s r zr hr;
       }
 
-  fix-bin : n * 8 ≤ length W → (p k : ℕ) (b : Bool) (t : Tree) (s : ℕ) (far : Tree)
+  pub fix-bin : n * 8 ≤ length W → (p k : ℕ) (b : Bool) (t : Tree) (s : ℕ) (far : Tree)
       → occ s t ≡ 0 → occ s far ≡ 0 → Shape W n p k (bin b t s far) → Hulls W t → Hulls W far → Hulls (fix n W s) (bin b t s far)
   fix-bin room p k true t s far zt zf h ht hf = fix-node p k t s far room zt zf h ht hf
   fix-bin room p k false t s far zt zf h ht hf = fix-node p k far s t room zf zt h hf ht
