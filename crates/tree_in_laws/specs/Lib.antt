@@ -1,3 +1,4 @@
 pub mod Descent
 pub mod Mend
 pub mod Insert
+pub mod Inserted

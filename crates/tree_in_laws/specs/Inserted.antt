@@ -1,0 +1,37 @@
+-- What the insertion of an entry owes, to a store that passes the check and has room.
+use mathlib.Core.Path.{_≡_}
+use mathlib.Core.Logic.{_≢_}
+use mathlib.Core.Bool.{Bool, cond, not}
+use mathlib.Core.List.{List, [], _∷_, _++_}
+use Prim.Native.Nat.{ℕ, _+_}
+use Rattle.words.specs.Intervals.{le}
+use Rattle.words.specs.Nodes.{interval, entry}
+use Rattle.words.specs.declared.interval.Interval.{Interval}
+use Rattle.words.specs.declared.node.Entry.{Entry}
+use Rattle.tree.specs.Tree.{slots}
+use Rattle.tree.specs.Passes.{Passes}
+use Rattle.tree_rm_laws.specs.Remove.{Store}
+use Rattle.tree_in_laws.specs.Insert.{own}
+
+-- the slots of a list that a test picks
+abbrev pub only : (ℕ → Bool) → List ℕ → List ℕ
+only p [] = []
+only p (a ∷ l) = cond (p a) (a ∷ only p l) (only p l)
+
+-- those whose interval is not greater than x, by start, then end; and those whose interval is greater
+abbrev pub notGreater : List ℕ → Interval → List ℕ → List ℕ
+notGreater W x l = only (λ a. le (interval W a) x) l
+
+abbrev pub greater : List ℕ → Interval → List ℕ → List ℕ
+greater W x l = only (λ a. not (le (interval W a) x)) l
+
+pub record Inserted (W C : List ℕ) (n r : ℕ) (e : Entry) (before : Passes W C n r) (S : Store) : Type 0 where
+  -- the store passes again, with one entry more
+  pub passes : Passes (S .words) (S .colours) (n + 1) (S .root)
+  -- in tree order the old entries are those that are not greater than the new one and then the greater ones, each in its slot; the new one
+  -- comes in between, after all its equals, in slot n
+  pub slots-were : slots (before .tree) ≡ notGreater W (own e) (slots (before .tree)) ++ greater W (own e) (slots (before .tree))
+  pub slots-are : slots (passes .tree) ≡ notGreater W (own e) (slots (before .tree)) ++ (n ∷ greater W (own e) (slots (before .tree)))
+  -- "no old slot moves"
+  pub entries-kept : (a : ℕ) → a ≢ n → entry (S .words) a ≡ entry W a
+  pub entry-new : entry (S .words) n ≡ e
