@@ -1,2 +1,5 @@
 pub mod Examples
 pub mod Ways
+pub mod Between
+pub mod Partly
+pub mod Rotate

@@ -1,0 +1,66 @@
+-- Entries and order: a new one between those that are not greater and the greater ones.
+use mathlib.Core.Path.{_≡_, refl, sym, ap, _∙_}
+use mathlib.Core.Bool.{Bool, true, false, cond, not}
+use mathlib.Core.List.{List, [], _∷_, _++_, map}
+use Prim.Native.Nat.{ℕ, _<_}
+use native.Mathlib.Omega.{arith}
+use Rattle.words.specs.Intervals.{le}
+use Rattle.words.specs.Nodes.{interval}
+use Rattle.words.specs.declared.interval.Interval.{Interval}
+use Rattle.tree.specs.Order.{NotAfter, Next, Rising}
+use Rattle.tree.proofs.Slots.{hit-same, times}
+use Rattle.tree.proofs.Orders.{Before}
+use Rattle.tree_in_laws.specs.Inserted.{only, notGreater, greater}
+
+module _ (p : ℕ → Bool) where
+  only-append : (A B : List ℕ) → only p (A ++ B) ≡ only p A ++ only p B
+  only-append [] B = refl
+  only-append (a ∷ A) B = go (p a) (only-append A B)
+    where
+      go : (t : Bool) → only p (A ++ B) ≡ only p A ++ only p B
+          → cond t (a ∷ only p (A ++ B)) (only p (A ++ B)) ≡ cond t (a ∷ only p A) (only p A) ++ only p B
+      go true e = rw e
+      go false e = e
+
+  only-all : (l : List ℕ) → ((a : ℕ) → 0 < times a l → p a ≡ true) → only p l ≡ l
+  only-all [] h = refl
+  only-all (a ∷ l) h = rw (h a (omega (arith, hit-same a)), only-all l (λ b o. h b (omega arith)))
+
+  only-none : (l : List ℕ) → ((a : ℕ) → 0 < times a l → p a ≡ false) → only p l ≡ []
+  only-none [] h = refl
+  only-none (a ∷ l) h = rw (h a (omega (arith, hit-same a)), only-none l (λ b o. h b (omega arith)))
+
+append-nil : (l : List ℕ) → l ++ [] ≡ l
+append-nil [] = refl
+append-nil (a ∷ l) = ap (λ (m : List ℕ). a ∷ m) (append-nil l)
+
+-- a row that is parted already
+module _ (W : List ℕ) (x : Interval) (A B : List ℕ) (f : (a : ℕ) → 0 < times a A → le (interval W a) x ≡ true)
+    (g : (a : ℕ) → 0 < times a B → le (interval W a) x ≡ false) where
+  pub first-part : notGreater W x (A ++ B) ≡ A
+  first-part =
+      only-append (λ a. le (interval W a) x) A B
+      ∙ rw (only-all (λ a. le (interval W a) x) A f, only-none (λ a. le (interval W a) x) B g) (append-nil A)
+
+  pub second-part : greater W x (A ++ B) ≡ B
+  second-part =
+      only-append (λ a. not (le (interval W a) x)) A B
+      ∙ rw (
+        only-none (λ a. not (le (interval W a) x)) A (λ a o. ap not (f a o)),
+        only-all (λ a. not (le (interval W a) x)) B (λ a o. ap not (g a o)),
+      ) refl
+
+-- each of a list is not after x
+abbrev pub Upto : List Interval → Interval → Type 0
+Upto [] x = Unit {0}
+Upto (a ∷ l) x = NotAfter a x × Upto l x
+
+before-first : (x : Interval) (B : List Interval) → Before x B → Next x B
+before-first x [] h = tt
+before-first x (b ∷ B) h = h .0
+
+-- one more in a rising row
+pub rising-between : (A : List Interval) (x : Interval) (B : List Interval) → Rising (A ++ B) → Upto A x → Before x B → Rising (A ++ (x ∷ B))
+rising-between [] x B h u v = (before-first x B v, h)
+rising-between (a ∷ []) x B h u v = (u .0, (before-first x B v, h .1))
+rising-between (a ∷ b ∷ A) x B h u v = (h .0, rising-between (b ∷ A) x B (h .1) (u .1) v)
