@@ -3,3 +3,5 @@ pub mod Ways
 pub mod Between
 pub mod Partly
 pub mod Rotate
+pub mod Reds
+pub mod Loop
