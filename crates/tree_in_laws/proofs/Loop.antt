@@ -12,23 +12,34 @@ use Rattle.words.specs.Nodes.{kid, par}
 use Rattle.tree.specs.Tree.{Tree, leaf, node, slots, hit, occ, Shape}
 use Rattle.tree.specs.Zipper.{bin, Frame, frame, plug, occs}
 use Rattle.tree.specs.Hues.{rootRed, Hues}
-use Rattle.tree.proofs.Slots.{hit-same, hit-zero, occ-bin, occ-plug}
+use Rattle.tree.proofs.Slots.{hit-same, hit-zero, apart, occ-bin, occ-plug}
 use Rattle.tree.proofs.Frames.{bin-flip, plug-shape}
 use Rattle.tree_rm_laws.specs.Links.{rootAfter}
-use Rattle.tree_rm_laws.proofs.Links.{not-not}
+use Rattle.tree_rm_laws.proofs.Links.{on-slot}
 use Rattle.tree_rm_laws.proofs.Paint.{paint, paint-same, paint-other}
-use Rattle.tree_rm_laws.proofs.Fits.{Fits, fits-plug, root-bin}
+use Rattle.tree_rm_laws.proofs.Fits.{Fits, Keeps, keeps, fits-plug}
 use Rattle.tree_rm_laws.proofs.Stand.{Stand, stand-up}
 use Rattle.tree_in_laws.specs.Mend.{rotated}
 use Rattle.tree_in_laws.proofs.Partly.{Partly, make-partly, hulls-partly, plug-partly}
 use Rattle.tree_in_laws.proofs.Rotate.{Placed, rotate}
 use Rattle.tree_in_laws.proofs.Reds.{Even, Dark, blackened, reddened, opened, keep-even, keep-dark, paint-keeps, paint-fits, two-keeps}
 
+-- x is the root of t, seen from either side
+abbrev pub Rooted : ℕ → Tree → Type 0
+Rooted x t = (b : Bool) → (A : Tree) × (B : Tree) × (t ≡ bin b A x B)
+
+pub rooted : (a : Bool) (l : Tree) (x : ℕ) (e : Tree) → Rooted x (bin a l x e)
+rooted true l x e true = (l, e, refl)
+rooted true l x e false = (e, l, refl)
+rooted false l x e true = (e, l, refl)
+rooted false l x e false = (l, e, refl)
+
 -- The red slot x stands where the way up c takes no red root: a black one with as many blacks would fit.
-pub record Held (n z : ℕ) (base W : List ℕ) (K : ℕ → Bool) (r x p : ℕ) (c : List Frame) (l e : Tree) (m : ℕ) : Type 0 where
-  pub placed : Placed W n z base r x p c (node l x e)
+pub record Held (n z : ℕ) (base W : List ℕ) (K : ℕ → Bool) (r x p : ℕ) (c : List Frame) (t : Tree) (m : ℕ) : Type 0 where
+  pub placed : Placed W n z base r x p c t
+  pub root : Rooted x t
   pub red : K x ≡ true
-  pub even : Even K m (node l x e)
+  pub even : Even K m t
   pub fits : Fits K c m false
 
 -- the whole tree is even, and its root black
@@ -92,3 +103,132 @@ crowned W n z base K r p b T G c X Y u m h ex dy du f =
     settle n z base (rotated n W (not b) G T) L (rootAfter n W r G T) T _ c (bin (not b) (bin (not b) u G Y) T X) (1 + m) g (all .even)
     (rw (all .black) (paint-fits _ G true c (1 + m) false (omega (arith, one G, hit-same G))
     (paint-fits K T false c (1 + m) false (omega (arith, one T, hit-same T)) f)))
+
+-- a rotation below another slot leaves the root
+root-stays : (W : List ℕ) (n r P S : ℕ) → par W P < n → rootAfter n W r P S ≡ r
+unfolding rootAfter
+root-stays W n r P S h = on-slot n (par W P) h (λ s. r) S
+
+module _ (n z : ℕ) (base W : List ℕ) (K : ℕ → Bool) (r x p : ℕ) (t : Tree) (m : ℕ) where
+  -- at the root: "root black last"
+  pub at-root : Held n z base W K r x p [] t m → Settled n z base W (paint K x false) r
+  at-root h =
+      let (A, B, e) = h .root true in
+      let g : Placed W n z base r x p [] (bin true A x B) = rw e at (h .placed) in
+      let (da, db) = opened K m true A x B (h .red) (rw e at (h .even)) in
+      let one : (a : ℕ) → occ a A + hit a x + occ a B ≤ 1 = λ a. omega (arith, g .stand .once a) in
+      let L : ℕ → Bool = paint K x false in
+      let d : Dark L (1 + m) (bin true A x B) =
+      blackened L m true A x B (paint-same K x false)
+      (keep-even K L m A (paint-keeps K x false A (omega (arith, one x, hit-same x))) (da .even))
+      (keep-even K L m B (paint-keeps K x false B (omega (arith, one x, hit-same x))) (db .even)) in
+      settle n z base W L r x p [] (bin true A x B) (1 + m) g (d .even) (d .black)
+
+  -- below a black parent a red root is taken
+  pub below-black : (b : Bool) (P : ℕ) (Y : Tree) (c : List Frame) → Held n z base W K r x p (frame b P Y ∷ c) t m → K P ≡ false
+      → Settled n z base W K r
+  below-black b P Y c h k =
+      settle n z base W K r x p (frame b P Y ∷ c) t m (h .placed) (h .even)
+      (record { even = h .fits .even; hues = h .fits .hues; calm = λ q. absurd (false≢true (sym k ∙ q)); rest = h .fits .rest })
+
+  -- a red parent is not the root
+  pub not-root : {A : Type 0} (b : Bool) (P : ℕ) (Y : Tree) → Held n z base W K r x p (frame b P Y ∷ []) t m → K P ≡ true → A
+  not-root b P Y h k = absurd (true≢false (sym k ∙ h .fits .rest))
+
+  -- below the red P, on its side d, and P on the side b of G
+  module _ (d : Bool) (P : ℕ) (Y : Tree) (b : Bool) (G : ℕ) (u : Tree) (c : List Frame)
+      (h : Held n z base W K r x p (frame d P Y ∷ frame b G u ∷ c) t m) (kp : K P ≡ true) where
+    above : Fits K (frame b G u ∷ c) (0 + m) true
+    above = rw kp at (h .fits .rest)
+
+    pub black-G : K G ≡ false
+    black-G = go (K G) refl
+      where
+        go : (v : Bool) → K G ≡ v → v ≡ false
+        go true e = above .calm e .0
+        go false e = refl
+
+    brother : Dark K m Y
+    brother = record { even = record { hues = h .fits .hues; count = sym (h .fits .even) }; black = h .fits .calm kp .1 }
+
+    uncle : Even K m u
+    uncle = record { hues = above .hues; count = sym (above .even) ∙ zero-add m }
+
+    beyond : Fits K c (1 + m) false
+    beyond = rw (black-G, zero-add m) at (above .rest)
+
+    up : Placed W n z base r P (par W P) (frame b G u ∷ c) (bin d t P Y)
+    up = placed-up W n z base r x p d P Y (frame b G u ∷ c) t (h .placed)
+
+    upper : Placed W n z base r G (par W G) c (bin b (bin d t P Y) G u)
+    upper = placed-up W n z base r P (par W P) b G u c (bin d t P Y) up
+
+    once : (a : ℕ) → occs a c + (occ a t + hit a P + occ a Y + hit a G + occ a u) ≤ 1
+    once a = omega (arith, upper .stand .once a, occ-bin a b (bin d t P Y) G u, occ-bin a d t P Y)
+
+    -- the uncle Q is red: "recolour", and G is where the loop goes on
+    module _ (v : Tree) (Q : ℕ) (w : Tree) (is : u ≡ node v Q w) (kq : K Q ≡ true) where
+      abbrev L : ℕ → Bool
+      L = paint (paint (paint K P false) Q false) G true
+
+      one : (a : ℕ) → occs a c + (occ a t + hit a P + occ a Y + hit a G + (occ a v + hit a Q + occ a w)) ≤ 1
+      one a = let o : occ a u ≡ occ a v + hit a Q + occ a w = rw is in omega (arith, once a)
+
+      stays : (s : Tree) → occ P s ≡ 0 → occ Q s ≡ 0 → occ G s ≡ 0 → Keeps K L s
+      stays s i j k =
+          keeps K L s (λ a o. paint-other _ G true a (apart a G s k o) ∙ paint-other _ Q false a (apart a Q s j o) ∙ paint-other K P false a (apart a P s i o))
+
+      at-P : (hit P Q ≡ 0) × (hit P G ≡ 0) × (occs P c ≡ 0) × (occ P t ≡ 0) × (occ P Y ≡ 0) × (occ P v ≡ 0) × (occ P w ≡ 0)
+      at-P = omega (arith, one P, hit-same P)
+
+      at-Q : (hit Q G ≡ 0) × (occs Q c ≡ 0) × (occ Q t ≡ 0) × (occ Q Y ≡ 0) × (occ Q v ≡ 0) × (occ Q w ≡ 0)
+      at-Q = omega (arith, one Q, hit-same Q)
+
+      at-G : (occs G c ≡ 0) × (occ G t ≡ 0) × (occ G Y ≡ 0) × (occ G v ≡ 0) × (occ G w ≡ 0)
+      at-G = omega (arith, one G, hit-same G)
+
+      dark-P : Dark L (1 + m) (bin d t P Y)
+      dark-P =
+          blackened L m d t P Y
+          (paint-other _ G true P (hit-zero P G (at-P .1)) ∙ paint-other _ Q false P (hit-zero P Q (at-P .0)) ∙ paint-same K P false)
+          (keep-even K L m t (stays t (at-P .3) (at-Q .2) (at-G .1)) (h .even))
+          (keep-even K L m Y (stays Y (at-P .4) (at-Q .3) (at-G .2)) (brother .even))
+
+      dark-Q : Dark L (1 + m) u
+      dark-Q =
+          let (dv, dw) = opened K m true v Q w kq (rw is at uncle) in
+          rw is
+          (blackened L m true v Q w (paint-other _ G true Q (hit-zero Q G (at-Q .0)) ∙ paint-same _ Q false)
+          (keep-even K L m v (stays v (at-P .5) (at-Q .4) (at-G .3)) (dv .even))
+          (keep-even K L m w (stays w (at-P .6) (at-Q .5) (at-G .4)) (dw .even)))
+
+      pub red-uncle : Held n z base W L r G (par W G) c (bin b (bin d t P Y) G u) (1 + m)
+      red-uncle =
+          record {
+            placed = upper;
+            root = rooted b (bin d t P Y) G u;
+            red = paint-same _ G true;
+            even = reddened L (1 + m) b (bin d t P Y) G u (paint-same _ G true) dark-P dark-Q;
+            fits = paint-fits _ G true c (1 + m) false (at-G .0)
+                (paint-fits _ Q false c (1 + m) false (at-Q .1) (paint-fits K P false c (1 + m) false (at-P .2) beyond));
+          }
+
+    -- the uncle is not red, and x an outer child of P: one rotation
+    pub outer-child : d ≡ b → rootRed K u ≡ false
+        → Settled n z base (rotated n W (not b) G P) (paint (paint K P false) G true) (rootAfter n W r G P)
+    outer-child e k =
+        crowned W n z base K r (par W G) b P G c t Y u m (rw e at upper) (h .even) brother (record { even = uncle; black = k }) beyond
+
+    -- and an inner child: two
+    pub inner-child : d ≡ not b → rootRed K u ≡ false
+        → Settled n z base (rotated n (rotated n W b P x) (not b) G x) (paint (paint K x false) G true) (rootAfter n (rotated n W b P x) r G x)
+    inner-child e k =
+        let (A, B, i) = h .root b in
+        let X : List ℕ = rotated n W b P x in
+        let at = up .stand .way in
+        let (da, db) = opened K m b A x B (h .red) (rw i at (h .even)) in
+        let g : Placed W n z base r P (par W P) (frame b G u ∷ c) (bin b Y P (bin b A x B)) = rw (e, bin-flip b Y P t, i) at up in
+        let q = rotate W n z base r (par W P) b P x (frame b G u ∷ c) Y A B g in
+        let root : rootAfter n W r P x ≡ r = root-stays W n r P x (omega (arith, at .at, at .live)) in
+        let o = placed-up X n z base r x _ b G u c (bin b (bin b Y P A) x B) (rw root at q) in
+        crowned X n z base K r (par X G) b x G c (bin b Y P A) B u m o (reddened K m b Y P A kp brother da) db (record { even = uncle; black = k }) beyond
