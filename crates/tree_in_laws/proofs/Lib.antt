@@ -5,3 +5,4 @@ pub mod Partly
 pub mod Rotate
 pub mod Reds
 pub mod Loop
+pub mod Mends
