@@ -6,3 +6,5 @@ pub mod Rotate
 pub mod Reds
 pub mod Loop
 pub mod Mends
+pub mod HungWords
+pub mod Hang
