@@ -38,7 +38,7 @@ module _ (W : List ℕ) (n : ℕ) (e : Entry) (p : ℕ) where
   unfolding hungNode
   word-Z f a d = word-putNode-slot W n e (own e) U U p f a d
 
-  by-hung : (P : List ℕ → Type 0) → (p < n → P (putKid Z g p n)) → P Z → P X
+  pub by-hung : (P : List ℕ → Type 0) → (p < n → P (putKid Z g p n)) → P Z → P X
   unfolding hungWords
   by-hung P f z = by-link n p P (λ s. putKid Z (goesLeft W (own e) s) s n) Z f (λ h. z)
 

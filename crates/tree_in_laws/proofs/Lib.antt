@@ -8,3 +8,4 @@ pub mod Loop
 pub mod Mends
 pub mod HungWords
 pub mod Hang
+pub mod Inside
