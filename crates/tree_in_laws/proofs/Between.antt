@@ -9,7 +9,7 @@ use Rattle.words.specs.Nodes.{interval}
 use Rattle.words.specs.declared.interval.Interval.{Interval}
 use Rattle.tree.specs.Order.{NotAfter, Next, Rising}
 use Rattle.tree.proofs.Slots.{hit-same, times}
-use Rattle.tree.proofs.Orders.{Before}
+use Rattle.tree.proofs.Orders.{le-sound, le-not, Before}
 use Rattle.tree_in_laws.specs.Inserted.{only, notGreater, greater}
 
 module _ (p : ℕ → Bool) where
@@ -64,3 +64,12 @@ pub rising-between : (A : List Interval) (x : Interval) (B : List Interval) → 
 rising-between [] x B h u v = (before-first x B v, h)
 rising-between (a ∷ []) x B h u v = (u .0, (before-first x B v, h .1))
 rising-between (a ∷ b ∷ A) x B h u v = (h .0, rising-between (b ∷ A) x B (h .1) (u .1) v)
+
+module _ (W : List ℕ) (x : Interval) where
+  pub upto-map : (l : List ℕ) → ((a : ℕ) → 0 < times a l → le (interval W a) x ≡ true) → Upto (map (interval W) l) x
+  upto-map [] h = tt
+  upto-map (a ∷ l) h = (le-sound (interval W a) x (h a (omega (arith, hit-same a))), upto-map l (λ b o. h b (omega arith)))
+
+  pub before-map : (l : List ℕ) → ((a : ℕ) → 0 < times a l → le (interval W a) x ≡ false) → Before x (map (interval W) l)
+  before-map [] h = tt
+  before-map (a ∷ l) h = (le-not (interval W a) x (h a (omega (arith, hit-same a))), before-map l (λ b o. h b (omega arith)))

@@ -15,37 +15,26 @@ use Rattle.tree.specs.Zipper.{Frame, frame, plug, occs, Above}
 use Rattle.tree.specs.Order.{RisingAt}
 use Rattle.tree.proofs.Cases.{compare}
 use Rattle.tree.proofs.Slots.{hit-same, hit-cases, hit-le, apart, apart-way, occ-plug}
-use Rattle.tree.proofs.Frames.{Same, way-live, keep, above-keep, unplug-shape}
+use Rattle.tree.proofs.Frames.{Same, shape-live, way-live, keep, above-keep, unplug-shape}
 use Rattle.tree_rm_laws.proofs.Links.{on-slot, on-none, not-not}
 use Rattle.tree_rm_laws.proofs.Stand.{Stand}
+use Rattle.tree_rm_laws.proofs.Moves.{shrink}
 use Rattle.tree_in_laws.specs.Descent.{goesLeft, descend, under}
 use Rattle.tree_in_laws.specs.Insert.{own, hungWords, hungRoot}
 use Rattle.tree_in_laws.proofs.Ways.{Parted, Hangs, descends}
 use Rattle.tree_in_laws.proofs.HungWords.{length-hung, same-hung, par-hung, kid-hung, kid-at, kid-not-at, par-at}
 
 -- one slot more
-module _ (W : List ℕ) (n : ℕ) where
-  shape-more : (p k : ℕ) (t : Tree) → Shape W n p k t → Shape W (n + 1) p k t
-  shape-more p k leaf h = h
-  shape-more p k (node l s r) h =
-      record {
-        here = h .here;
-        live = omega (arith, h .live);
-        up = h .up;
-        left = shape-more s (kid W true s) l (h .left);
-        right = shape-more s (kid W false s) r (h .right);
-      }
-
-  above-more : (r : ℕ) (c : List Frame) (p k : ℕ) → Above W n r c p k → Above W (n + 1) r c p k
-  above-more r [] p k h = h
-  above-more r (frame b s far ∷ c) p k h =
-      record {
-        at = h .at;
-        here = h .here;
-        live = omega (arith, h .live);
-        far = shape-more s (kid W (not b) s) far (h .far);
-        rest = above-more r c (par W s) s (h .rest);
-      }
+above-more : (W : List ℕ) (n r : ℕ) (c : List Frame) (p k : ℕ) → Above W n r c p k → Above W (n + 1) r c p k
+above-more W n r [] p k h = h
+above-more W n r (frame b s far ∷ c) p k h =
+    record {
+      at = h .at;
+      here = h .here;
+      live = omega (arith, h .live);
+      far = shrink W n (n + 1) s (kid W (not b) s) far (λ a o. omega (arith, shape-live W n s (kid W (not b) s) far a (h .far) o)) (h .far);
+      rest = above-more W n r c (par W s) s (h .rest);
+    }
 
 -- The new node at its place, in the words X with the root q: the way up from it, and that the entries lie parted around it.
 pub record Hung (W : List ℕ) (n : ℕ) (x : Interval) (t : Tree) (X : List ℕ) (q : ℕ) : Type 0 where

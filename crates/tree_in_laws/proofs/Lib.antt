@@ -9,3 +9,4 @@ pub mod Mends
 pub mod HungWords
 pub mod Hang
 pub mod Inside
+pub mod Insertion
