@@ -6,7 +6,7 @@ use mathlib.Core.List.{List, [], _∷_}
 use Prim.Native.Nat.{ℕ, _+_, _*_, _<_, _≤_}
 use native.Mathlib.Omega.{arith}
 use lib.ListN.{length}
-use Rattle.words.specs.Ix.{U}
+use Rattle.words.specs.Ix.{U, onLink}
 use Rattle.words.specs.Nodes.{kid, par}
 use Rattle.words.specs.declared.interval.Interval.{Interval}
 use Rattle.words.specs.declared.node.Entry.{Entry}
@@ -22,6 +22,7 @@ use Rattle.tree_rm_laws.proofs.Moves.{shrink}
 use Rattle.tree_in_laws.specs.Descent.{goesLeft, descend, under}
 use Rattle.tree_in_laws.specs.Insert.{own, hungWords, hungRoot}
 use Rattle.tree_in_laws.proofs.Ways.{Parted, Hangs, descends}
+use Rattle.tree_in_laws.proofs.Enough.{descend-more}
 use Rattle.tree_in_laws.proofs.HungWords.{length-hung, same-hung, par-hung, kid-hung, kid-at, kid-not-at, par-at}
 
 -- one slot more
@@ -152,3 +153,13 @@ module _ (W : List ℕ) (n r : ℕ) (e : Entry) (small : n + 1 ≤ 65535) (fit :
       let (o, q) = hung-at (node l s k) h one p d in
       let i : descend n 32 W (own e) r ≡ p = rw (h .here) in
       rw (on-slot n r (omega (arith, h .here, h .live)), i, on-slot n p q) o
+
+  -- more links down come to the same
+  pub under-more : (t : Tree) → Shape W n U r t → height t ≤ 33 → RisingAt W (slots t) → (levels : ℕ) → 32 ≤ levels
+      → onLink n r (λ s. descend n levels W (own e) s) U ≡ under n W r (own e)
+  unfolding under
+  under-more leaf h low rise levels m = rw (on-none n r (omega (arith, h)), on-none n r (omega (arith, h))) refl
+  under-more (node l s k) h low rise levels m =
+      let q : r < n = omega (arith, h .here, h .live) in
+      let d = descends W (own e) n (omega arith) 32 l s k U r low h rise in
+      rw (on-slot n r q, on-slot n r q, h .here) (descend-more W (own e) n (omega arith) 32 levels s m (d .free))

@@ -15,7 +15,7 @@ use Rattle.words.specs.declared.node.Entry.{Entry}
 use Rattle.bitvec.specs.Colours.{red, dye}
 use Rattle.bitvec.proofs.Bytes.{length-setBit}
 use Rattle.tree.specs.Tree.{Tree, leaf, node, slots, hit, occ, size, height, Shape}
-use Rattle.tree.specs.Zipper.{Frame, frame, plug, occs}
+use Rattle.tree.specs.Zipper.{Frame, frame, plug, occs, Above}
 use Rattle.tree.specs.Order.{RisingAt}
 use Rattle.tree.specs.Hulls.{Hulls}
 use Rattle.tree.specs.Passes.{Passes}
@@ -38,13 +38,14 @@ use Rattle.tree_rm_laws.proofs.Rows.{map-same}
 use Rattle.tree_in_laws.specs.Descent.{under}
 use Rattle.tree_in_laws.specs.Mend.{mend}
 use Rattle.tree_in_laws.specs.Insert.{own, hungWords, hungRoot, hung, mended, insertRule}
-use Rattle.tree_in_laws.specs.Inserted.{notGreater, greater, Inserted}
+use Rattle.tree_in_laws.specs.Inserted.{notGreater, greater, Inserted, insertWith}
 use Rattle.tree_in_laws.proofs.Ways.{front, back, slots-way, front-le, back-gt}
 use Rattle.tree_in_laws.proofs.Between.{first-part, second-part, rising-between, upto-map, before-map}
+use Rattle.tree_in_laws.proofs.Enough.{Ended, mend-more, fixUp-more}
 use Rattle.tree_in_laws.proofs.Partly.{Partly, partly-hulls, open-partly, partly-way}
 use Rattle.tree_in_laws.proofs.Reds.{Dark, reddened, paint-fits}
 use Rattle.tree_in_laws.proofs.HungWords.{kept-hung}
-use Rattle.tree_in_laws.proofs.Hang.{Hung, hangs}
+use Rattle.tree_in_laws.proofs.Hang.{Hung, hangs, under-more}
 use Rattle.tree_in_laws.proofs.Loop.{Held, Settled, rooted}
 use Rattle.tree_in_laws.proofs.Mends.{Loop, Finished, mends}
 use Rattle.tree_in_laws.proofs.Inside.{inserted-inside, entry-stays, entry-comes}
@@ -54,6 +55,10 @@ settled-of : (n z : ℕ) (base : List ℕ) (s : Next) → Finished n z base s
     → Settled n z base (ending s .words) (red (ending s .colours)) (ending s .root)
 settled-of n z base (done W C r) h = h .0
 settled-of n z base (again W C r x) h = absurd h
+
+ended-of : (n z : ℕ) (base : List ℕ) (s : Next) → Finished n z base s → Ended s
+ended-of n z base (done W C r) h = tt
+ended-of n z base (again W C r x) h = absurd h
 
 -- hulls worked out from the slot z, which is in the tree, up to the root
 module _ (n z : ℕ) (base W : List ℕ) (K : ℕ → Bool) (r : ℕ) (small : n ≤ 65535) (h : Settled n z base W K r) where
@@ -66,20 +71,50 @@ module _ (n z : ℕ) (base W : List ℕ) (K : ℕ → Bool) (r : ℕ) (small : n
       let l : height u ≤ 32 = height-32 K u (h .hues) (h .top) (omega arith) in
       omega (arith, way-height c t, ap height e)
 
-  walked : 0 < occ z u → Hulls (fixUp n 32 W z) u × Shape (fixUp n 32 W z) n U r u
-  walked o = find z u [] o go
+  -- the way from z up
+  record Way : Type 0 where
+    q : List Frame
+    l : Tree
+    k : Tree
+    link : ℕ
+    is : u ≡ plug q (node l z k)
+    one : (a : ℕ) → occs a q + (occ a l + hit a z + occ a k) ≤ 1
+    above : Above W n r (frame true z k ∷ q) z link
+    below : Shape W n z link l
+
+  way : 0 < occ z u → Way
+  way o = find z u [] o go
     where
-      go : (q : List Frame) (l k : Tree) → u ≡ plug q (node l z k) → Hulls (fixUp n 32 W z) u × Shape (fixUp n 32 W z) n U r u
+      go : (q : List Frame) (l k : Tree) → u ≡ plug q (node l z k) → Way
       go q l k e =
-          let one : (a : ℕ) → occs a q + (occ a l + hit a z + occ a k) ≤ 1 =
-          λ a. let i : occ a (plug q (node l z k)) ≤ 1 = rw e at (h .once a) in omega (arith, occ-plug a q (node l z k)) in
-          let (g, p) = partly-way W z q (node l z k) one (omega (arith, hit-same z)) (rw e at (h .partly)) in
           let (m, x, a, s) = unplug-shape W n r (frame true z k ∷ q) l (rw e at (h .shape)) in
-          let i = walk 32 W n r (frame true z k ∷ q) z x l small (h .room) (short (frame true z k ∷ q) l e) (λ a. omega (arith, one a))
-          (rw (a .at) at a) (rw (a .at) at s)
-          (partly-hulls W z l (p .1) (omega (arith, one z, hit-same z)))
-          (partly-hulls W z k (p .2) (omega (arith, one z, hit-same z)), g) in
-          rw e i
+          record {
+            q = q;
+            l = l;
+            k = k;
+            link = x;
+            is = e;
+            one = λ a. let i : occ a (plug q (node l z k)) ≤ 1 = rw e at (h .once a) in omega (arith, occ-plug a q (node l z k));
+            above = rw (a .at) at a;
+            below = rw (a .at) at s;
+          }
+
+  walked : 0 < occ z u → Hulls (fixUp n 32 W z) u × Shape (fixUp n 32 W z) n U r u
+  walked o =
+      let y : Way = way o in
+      let one = y .one in
+      let (g, p) = partly-way W z (y .q) (node (y .l) z (y .k)) one (omega (arith, hit-same z)) (rw (y .is) at (h .partly)) in
+      let i = walk 32 W n r (frame true z (y .k) ∷ y .q) z (y .link) (y .l) small (h .room) (short (frame true z (y .k) ∷ y .q) (y .l) (y .is))
+      (λ a. omega (arith, one a)) (y .above) (y .below)
+      (partly-hulls W z (y .l) (p .1) (omega (arith, one z, hit-same z)))
+      (partly-hulls W z (y .k) (p .2) (omega (arith, one z, hit-same z)), g) in
+      rw (y .is) i
+
+  walk-more : 0 < occ z u → (m : ℕ) → 32 ≤ m → fixUp n m W z ≡ fixUp n 32 W z
+  walk-more o m i =
+      let y : Way = way o in
+      let c : List Frame = frame true z (y .k) ∷ y .q in
+      fixUp-more c 32 m W n r z (y .link) small (short c (y .l) (y .is)) i (y .above)
 
 module _ (W C : List ℕ) (n r : ℕ) (e : Entry) (small : n + 1 ≤ 65535) (fit : (n + 1) * 8 ≤ length W) (bits : n + 1 ≤ length C * 8)
     (proper : e .start < e .end) (h : Passes W C n r) where
@@ -231,11 +266,13 @@ module _ (W C : List ℕ) (n r : ℕ) (e : Entry) (small : n + 1 ≤ 65535) (fit
       (λ z. let d : a ≢ n = hit-zero a n z in
       omega (arith, h .proper a (omega arith), ap (λ (j : Interval). j .start) (stays a d), ap (λ (j : Interval). j .end) (stays a d)))
 
+  there : 0 < occ n v
+  there = omega (arith, once n (omega arith))
+
   passes : Passes (S .words) (S .colours) (n + 1) (S .root)
   unfolding insertRule mended hung
   passes =
-      let (u, s) = walked (n + 1) n base (ending end .words) (red (ending end .colours)) (ending end .root) small settled
-      (omega (arith, once n (omega arith))) in
+      let (u, s) = walked (n + 1) n base (ending end .words) (red (ending end .colours)) (ending end .root) small settled there in
       record {
         tree = v;
         shape = s;
@@ -257,3 +294,13 @@ module _ (W C : List ℕ) (n r : ℕ) (e : Entry) (small : n + 1 ≤ 65535) (fit
         entries-kept = entry-stays W C n r e;
         entry-new = entry-comes W C n r e fit;
       }
+
+  -- the rule's numbers suffice: any greater ones come to the same
+  pub enough : (levels turns height : ℕ) → 32 ≤ levels → 32 ≤ turns → 32 ≤ height → insertWith levels turns height W C n r e ≡ insertRule W C n r e
+  unfolding insertWith insertRule mended hung
+  enough levels turns height i j k =
+      rw (
+        under-more W n r e small fit t (h .shape) (omega (arith, low)) (h .rising) levels i,
+        mend-more (n + 1) 32 turns X Y q n j (ended-of (n + 1) n base end finished),
+        walk-more (n + 1) n base (ending end .words) (red (ending end .colours)) (ending end .root) small settled there height k,
+      ) refl

@@ -6,6 +6,7 @@ pub mod Rotate
 pub mod Reds
 pub mod Loop
 pub mod Mends
+pub mod Enough
 pub mod HungWords
 pub mod Hang
 pub mod Inside

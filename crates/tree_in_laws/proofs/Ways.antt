@@ -72,6 +72,7 @@ module _ (W : List ℕ) (x : Interval) where
     pub c : List Frame
     pub tree-is : t ≡ plug (frame (goesLeft W x p) p far ∷ c) leaf
     pub parted : Parted (frame (goesLeft W x p) p far ∷ c)
+    pub free : kid W (goesLeft W x p) p ≡ U
 
   -- what is left aside at the slot s, on the side that b is not
   aside : (b : Bool) (near : Tree) (s : ℕ) (far : Tree) → goesLeft W x s ≡ b → RisingAt W (slots (bin b near s far))
@@ -110,10 +111,10 @@ module _ (W : List ℕ) (x : Interval) where
   -- the way down from the slot s, which has the tree bin b near s far, to such a place: W is a store of n entries
   module _ (n : ℕ) (small : n ≤ 65535) where
     -- the link on the side b, where there is nothing
-    no-link : (s : ℕ) (b : Bool) → goesLeft W x s ≡ b → kid W b s ≡ U → (levels : ℕ) → descend n levels W x s ≡ s
+    pub no-link : (s : ℕ) → kid W (goesLeft W x s) s ≡ U → (levels : ℕ) → descend n levels W x s ≡ s
     unfolding descend
-    no-link s b e u zero = refl
-    no-link s b e u (suc levels) = rw (e, u) (on-none n U (omega arith) _ s)
+    no-link s u zero = refl
+    no-link s u (suc levels) = rw u (on-none n U (omega arith) _ s)
 
     a-link : (s : ℕ) (b : Bool) (k : ℕ) → goesLeft W x s ≡ b → kid W b s ≡ k → k < n → (levels : ℕ)
         → descend n (suc levels) W x s ≡ descend n levels W x k
@@ -131,11 +132,13 @@ module _ (W : List ℕ) (x : Interval) where
         → Shape W n p k (bin b leaf s far) → RisingAt W (slots (bin b leaf s far)) → Parted c
         → Hangs (plug c (bin b leaf s far)) (descend n levels W x s)
     end levels c b s far p k e h rise d =
-        rw (no-link s b e (open-bin W n p k b leaf s far h .left) levels) (record {
+        let u : kid W (goesLeft W x s) s ≡ U = rw e (open-bin W n p k b leaf s far h .left) in
+        rw (no-link s u levels) (record {
           far = far;
           c = c;
           tree-is = rw e;
           parted = rw e (aside b leaf s far e rise, d);
+          free = u;
         })
 
     last : Down 0

@@ -1,17 +1,22 @@
 -- What the insertion of an entry owes, to a store that passes the check and has room.
 use mathlib.Core.Path.{_≡_}
 use mathlib.Core.Logic.{_≢_}
-use mathlib.Core.Bool.{Bool, cond, not}
+use mathlib.Core.Bool.{Bool, true, cond, not}
 use mathlib.Core.List.{List, [], _∷_, _++_}
 use Prim.Native.Nat.{ℕ, _+_}
+use Rattle.words.specs.Ix.{U, onLink}
 use Rattle.words.specs.Intervals.{le}
 use Rattle.words.specs.Nodes.{interval, entry}
 use Rattle.words.specs.declared.interval.Interval.{Interval}
 use Rattle.words.specs.declared.node.Entry.{Entry}
+use Rattle.bitvec.specs.Colours.{dye}
 use Rattle.tree.specs.Tree.{slots}
 use Rattle.tree.specs.Passes.{Passes}
-use Rattle.tree_rm_laws.specs.Remove.{Store}
-use Rattle.tree_in_laws.specs.Insert.{own}
+use Rattle.tree_rm_laws.specs.Links.{fixUp}
+use Rattle.tree_rm_laws.specs.Remove.{Store, store, ending}
+use Rattle.tree_in_laws.specs.Descent.{descend}
+use Rattle.tree_in_laws.specs.Mend.{mend}
+use Rattle.tree_in_laws.specs.Insert.{own, hungWords, hungRoot}
 
 -- the slots of a list that a test picks
 abbrev pub only : (ℕ → Bool) → List ℕ → List ℕ
@@ -35,3 +40,10 @@ pub record Inserted (W C : List ℕ) (n r : ℕ) (e : Entry) (before : Passes W 
   -- "no old slot moves"
   pub entries-kept : (a : ℕ) → a ≢ n → entry (S .words) a ≡ entry W a
   pub entry-new : entry (S .words) n ≡ e
+
+-- the rule with other numbers: so many links down at the most, so many turns of the repair, so many hulls up
+unfoldable pub insertWith : ℕ → ℕ → ℕ → List ℕ → List ℕ → ℕ → ℕ → Entry → Store
+insertWith levels turns height W C n r e =
+    let p : ℕ = onLink n r (λ s. descend n levels W (own e) s) U in
+    let t : Store = ending (mend (n + 1) turns (hungWords W n e p) (dye C n true) (hungRoot n r p) n) in
+    store (fixUp (n + 1) height (t .words) n) (t .colours) (t .root)
