@@ -1,15 +1,15 @@
 -- The whole insertion. Four separate arguments meet here.
 -- Shape and slots: HungWords, Hang, Rotate. Entries and order: Ways, Between. Hulls: Partly. Colours: Reds.
 -- They are joined along the rule: Hang up to the repair, Loop and Mends for the repair itself. Inside holds on any words, whatever tree there is.
-use mathlib.Core.Path.{_≡_, refl, sym, ap, _∙_}
+use mathlib.Core.Path.{_≡_, refl, ap, _∙_}
 use mathlib.Core.Logic.{_≢_}
 use mathlib.Core.Bool.{Bool, true, false}
 use mathlib.Core.List.{List, [], _∷_, _++_, map, map-append}
-use Prim.Native.Nat.{ℕ, suc, _+_, _*_, _<_, _≤_}
+use Prim.Native.Nat.{ℕ, _+_, _*_, _<_, _≤_}
 use native.Mathlib.Omega.{arith}
 use lib.ListN.{length}
 use Rattle.words.specs.Ix.{U}
-use Rattle.words.specs.Nodes.{start, stop, interval, entry, kid}
+use Rattle.words.specs.Nodes.{start, stop, interval}
 use Rattle.words.specs.declared.interval.Interval.{Interval}
 use Rattle.words.specs.declared.node.Entry.{Entry}
 use Rattle.bitvec.specs.Colours.{red, dye}
@@ -19,7 +19,7 @@ use Rattle.tree.specs.Zipper.{Frame, frame, plug, occs, Above}
 use Rattle.tree.specs.Order.{RisingAt}
 use Rattle.tree.specs.Hulls.{Hulls}
 use Rattle.tree.specs.Passes.{Passes}
-use Rattle.tree.proofs.Cases.{compare, not-any}
+use Rattle.tree.proofs.Cases.{not-any}
 use Rattle.tree.proofs.Slots.{hit-same, hit-cases, hit-zero, occ-plug, times, times-append, times-slots}
 use Rattle.tree.proofs.Frames.{shape-live, unplug-shape}
 use Rattle.tree.proofs.Sizes.{size-le}
@@ -42,13 +42,13 @@ use Rattle.tree_in_laws.specs.Inserted.{notGreater, greater, Inserted, i
 use Rattle.tree_in_laws.proofs.Ways.{front, back, slots-way, front-le, back-gt}
 use Rattle.tree_in_laws.proofs.Between.{first-part, second-part, rising-between, upto-map, before-map}
 use Rattle.tree_in_laws.proofs.Enough.{Ended, mend-more, fixUp-more}
-use Rattle.tree_in_laws.proofs.Partly.{Partly, partly-hulls, open-partly, partly-way}
+use Rattle.tree_in_laws.proofs.Partly.{partly-hulls, partly-way}
 use Rattle.tree_in_laws.proofs.Reds.{Dark, reddened, paint-fits}
 use Rattle.tree_in_laws.proofs.HungWords.{kept-hung}
 use Rattle.tree_in_laws.proofs.Hang.{Hung, hangs, under-more}
 use Rattle.tree_in_laws.proofs.Loop.{Held, Settled, rooted}
-use Rattle.tree_in_laws.proofs.Mends.{Loop, Finished, mends}
-use Rattle.tree_in_laws.proofs.Inside.{inserted-inside, entry-stays, entry-comes}
+use Rattle.tree_in_laws.proofs.Mends.{Finished, mends}
+use Rattle.tree_in_laws.proofs.Inside.{entry-stays, entry-comes}
 
 -- what is left when the repair is at its end
 settled-of : (n z : ℕ) (base : List ℕ) (s : Next) → Finished n z base s

@@ -10,7 +10,6 @@ use lib.Dec.{eqb}
 use Rattle.words.specs.Ix.{U}
 use Rattle.words.specs.Nodes.{kid, par, entry, fix}
 use Rattle.words.specs.declared.node.Entry.{Entry}
-use Rattle.words.specs.declared.node.Field.{Field}
 use Rattle.words.specs.declared.node.Field.the-variants.{Child}
 use Rattle.bitvec.specs.Colours.{red, dye, redAt}
 use Rattle.tree_rm_laws.specs.Repair.{turn, Next, done, again, goOn}
@@ -19,7 +18,7 @@ use Rattle.tree_rm_laws.specs.Removed.{Inside}
 use Rattle.tree_rm_laws.proofs.Carried.{kept-entry}
 use Rattle.tree_rm_laws.proofs.Links.{by-link, kept-turn}
 use Rattle.tree_rm_laws.proofs.Walk.{entry-fix, entry-fixUp}
-use Rattle.tree_rm_laws.proofs.Low.{Low, low-refl, low-trans, low-three, low-put, low-putNode, low-fix, low-fixUp, low-turn, dyed, dyed-refl}
+use Rattle.tree_rm_laws.proofs.Low.{Low, low-trans, low-three, low-put, low-putNode, low-fix, low-fixUp, low-turn, dyed, dyed-refl}
 use Rattle.tree_rm_laws.proofs.Mended.{Mended, mended-refl, red-slot}
 use Rattle.tree_in_laws.specs.Descent.{goesLeft, under}
 use Rattle.tree_in_laws.specs.Mend.{rotated, outer, inner, recoloured, mendAt, mendBelow, mendStep, mend}

@@ -11,3 +11,4 @@ pub mod HungWords
 pub mod Hang
 pub mod Inside
 pub mod Insertion
+pub mod Sequence

@@ -8,8 +8,8 @@ use native.Mathlib.Omega.{arith}
 use native.Mathlib.Nat.{zero-add}
 use lib.ListN.{length}
 use Rattle.words.specs.Ix.{U}
-use Rattle.words.specs.Nodes.{kid, par}
-use Rattle.tree.specs.Tree.{Tree, leaf, node, slots, hit, occ, Shape}
+use Rattle.words.specs.Nodes.{par}
+use Rattle.tree.specs.Tree.{Tree, node, slots, hit, occ, Shape}
 use Rattle.tree.specs.Zipper.{bin, Frame, frame, plug, occs}
 use Rattle.tree.specs.Hues.{rootRed, Hues}
 use Rattle.tree.proofs.Slots.{hit-same, hit-zero, apart, occ-bin, occ-plug}
@@ -18,7 +18,7 @@ use Rattle.tree_rm_laws.specs.Links.{rootAfter}
 use Rattle.tree_rm_laws.proofs.Links.{on-slot}
 use Rattle.tree_rm_laws.proofs.Paint.{paint, paint-same, paint-other}
 use Rattle.tree_rm_laws.proofs.Fits.{Fits, Keeps, keeps, fits-plug}
-use Rattle.tree_rm_laws.proofs.Stand.{Stand, stand-up}
+use Rattle.tree_rm_laws.proofs.Stand.{stand-up}
 use Rattle.tree_in_laws.specs.Mend.{rotated}
 use Rattle.tree_in_laws.proofs.Partly.{Partly, make-partly, hulls-partly, plug-partly}
 use Rattle.tree_in_laws.proofs.Rotate.{Placed, rotate}
@@ -91,7 +91,7 @@ crowned W n z base K r p b T G c X Y u m h ex dy du f =
     let one : (a : ℕ) → occs a c + (occ a X + hit a T + occ a Y + hit a G + occ a u) ≤ 1 =
     λ a. omega (arith, h .stand .once a, occ-bin a b (bin b X T Y) G u, occ-bin a b X T Y) in
     let t≢g : T ≢ G = hit-zero T G (omega (arith, one T, hit-same T)) in
-    let h′ : Placed W n z base r G p c (bin (not b) u G (bin (not b) Y T X)) = rw (bin-flip, bin-flip) h in
+    let h′ : Placed W n z base r G p c (bin (not b) u G (bin (not b) Y T X)) = rw (bin-flip b (bin (not b) Y T X) G u, bin-flip b X T Y) h in
     let g = rotate W n z base r p (not b) G T c u Y X h′ in
     let kx = two-keeps K T G false true X (omega (arith, one T, hit-same T)) (omega (arith, one G, hit-same G)) in
     let ky = two-keeps K T G false true Y (omega (arith, one T, hit-same T)) (omega (arith, one G, hit-same G)) in

@@ -1,6 +1,6 @@
 -- The repair, step by step on the bytes: each turn goes up two slots or ends, so that 32 turns suffice.
-use mathlib.Core.Path.{_≡_, refl, sym, ap, _∙_}
-use mathlib.Core.Bool.{Bool, true, false, not, false≢true}
+use mathlib.Core.Path.{_≡_, refl, sym, _∙_}
+use mathlib.Core.Bool.{Bool, true, false, not}
 use mathlib.Core.List.{List, [], _∷_}
 use Prim.Native.Nat.{ℕ, zero, suc, _+_, _*_, _<_, _≤_}
 use native.Mathlib.Omega.{arith}
@@ -9,7 +9,7 @@ use lib.Dec.{eqb}
 use borrow.Author.Tests.{eq-eqb, ne-eqb}
 use Rattle.words.specs.Nodes.{kid, par}
 use Rattle.bitvec.specs.Colours.{red, dye, redAt}
-use Rattle.tree.specs.Tree.{Tree, leaf, node, hit, occ}
+use Rattle.tree.specs.Tree.{Tree, leaf, node, occ}
 use Rattle.tree.specs.Zipper.{bin, Frame, frame}
 use Rattle.tree.specs.Hues.{rootRed}
 use Rattle.tree.proofs.Slots.{hit-same, occ-bin}

@@ -1,6 +1,6 @@
 -- Hulls while the repair runs: those of the subtrees that the new slot z is not in are right. A rotation keeps that, by working out two hulls.
-use mathlib.Core.Path.{_≡_, refl}
-use mathlib.Core.Bool.{Bool, true, false, not}
+use mathlib.Core.Path.{_≡_}
+use mathlib.Core.Bool.{Bool, true, false}
 use mathlib.Core.List.{List, [], _∷_}
 use Prim.Native.Nat.{ℕ, _+_, _*_, _<_, _≤_}
 use native.Mathlib.Omega.{arith}
@@ -10,11 +10,11 @@ use Rattle.words.proofs.Nodes.{length-fix, word-fix-slot}
 use Rattle.tree.specs.Tree.{Tree, leaf, node, hit, occ, Shape}
 use Rattle.tree.specs.Zipper.{bin, Frame, frame, plug, occs}
 use Rattle.tree.specs.Hulls.{Hulls}
-use Rattle.tree.proofs.Slots.{hit-same, apart, occ-bin, occ-plug}
+use Rattle.tree.proofs.Slots.{hit-same, apart, occ-bin}
 use Rattle.tree.proofs.Frames.{open-bin, keep}
 use Rattle.tree_rm_laws.proofs.Carried.{Kept}
 use Rattle.tree_rm_laws.proofs.Beside.{HullsBy, hulls-same}
-use Rattle.tree_rm_laws.proofs.Walk.{same-fix, hulls-fix, fix-bin}
+use Rattle.tree_rm_laws.proofs.Walk.{same-fix, fix-bin}
 
 abbrev pub Partly : List ℕ → ℕ → Tree → Type 0
 Partly W z leaf = Unit {0}

@@ -1,13 +1,12 @@
 -- Colours: trees with m blacks on each way down, and what becomes of them when a root is made black or red.
-use mathlib.Core.Path.{_≡_, refl, sym, _∙_}
+use mathlib.Core.Path.{_≡_, sym, _∙_}
 use mathlib.Core.Bool.{Bool, true, false, false≢true}
 use mathlib.Core.List.{List}
-use Prim.Native.Nat.{ℕ, _+_, _<_}
-use native.Mathlib.Omega.{arith}
+use Prim.Native.Nat.{ℕ, _+_}
 use native.Mathlib.Nat.{zero-add}
 use Rattle.tree.specs.Tree.{Tree, occ}
 use Rattle.tree.specs.Zipper.{bin, Frame, occs}
-use Rattle.tree.specs.Hues.{dark, rootRed, blacks, Hue, Hues}
+use Rattle.tree.specs.Hues.{rootRed, blacks, Hue, Hues}
 use Rattle.tree.proofs.Slots.{apart, apart-way}
 use Rattle.tree_rm_laws.proofs.Paint.{paint, paint-other}
 use Rattle.tree_rm_laws.proofs.Fits.{Fits, Keeps, keeps, fits-keep, open-hue, make-hue, blacks-bin, root-bin}

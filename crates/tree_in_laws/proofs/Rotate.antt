@@ -1,11 +1,10 @@
 -- Shape, order and hulls: a rotation at P, over which its child S comes up.
-use mathlib.Core.Path.{_≡_, sym, _∙_}
-use mathlib.Core.Bool.{Bool, true, false, not}
-use mathlib.Core.List.{List, [], _∷_}
+use mathlib.Core.Path.{_≡_, _∙_}
+use mathlib.Core.Bool.{Bool}
+use mathlib.Core.List.{List, _∷_}
 use Prim.Native.Nat.{ℕ, _+_, _<_, _≤_}
 use native.Mathlib.Omega.{arith}
 use Rattle.words.specs.Nodes.{kid, par, fix}
-use Rattle.words.proofs.Nodes.{word-fix-slot}
 use Rattle.tree.specs.Tree.{Tree, slots, hit, occ}
 use Rattle.tree.specs.Zipper.{bin, Frame, frame, plug, occs}
 use Rattle.tree.proofs.Slots.{hit-same, occ-bin}

@@ -12,7 +12,7 @@ use Rattle.tree_rm_laws.proofs.Inside.{removed-inside}
 use Rattle.tree_rm_laws.proofs.Removal.{removed}
 
 -- what is written below a lower count is written below a higher one
-inside-trans : (n m : ℕ) (S T R : Store) → m ≤ n → Inside n (S .words) (S .colours) T → Inside m (T .words) (T .colours) R
+pub inside-trans : (n m : ℕ) (S T R : Store) → m ≤ n → Inside n (S .words) (S .colours) T → Inside m (T .words) (T .colours) R
     → Inside n (S .words) (S .colours) R
 inside-trans n m S T R q f g =
     record {

@@ -41,7 +41,7 @@ pub entry-fix : (n : ℕ) (W : List ℕ) (s a : ℕ) → entry (fix n W s) a ≡
 entry-fix n W s a = λ t. record { start = word-fix n W s Start a refl t; end = word-fix n W s End a refl t; value = word-fix n W s Value a refl t }
 
 module _ (n : ℕ) (W : List ℕ) (s : ℕ) where
-  pub hulls-fix : (t : Tree) → occ s t ≡ 0 → Hulls W t → Hulls (fix n W s) t
+  hulls-fix : (t : Tree) → occ s t ≡ 0 → Hulls W t → Hulls (fix n W s) t
   hulls-fix t z = hulls-same W (fix n W s) t (λ a o g q. word-fix-slot n W s g a (apart a s t z o))
 
   pub by-fix : (c : List Frame) → occs s c ≡ 0 → HullsBy W c → HullsBy (fix n W s) c
