@@ -1,7 +1,8 @@
 -- Insertions worked out by the rule: each store is the one that tests/model.py leaves.
 use mathlib.Core.Path.{_≡_, refl}
-use mathlib.Core.List.{List, [], _∷_}
-use Prim.Native.Nat.{ℕ, _+_}
+use mathlib.Core.List.{List, [], _∷_, map}
+use Prim.Native.Nat.{ℕ}
+use lib.ListN.{replicate}
 use Rattle.words.specs.Ix.{U, onLink}
 use Rattle.words.specs.Nodes.{word, put, putEntry, putHull, joined, hullOf, fix, putNode}
 use Rattle.words.specs.declared.node.Entry.{Entry}
@@ -12,6 +13,7 @@ use Rattle.tree_rm_laws.specs.Remove.{Store, store}
 use Rattle.tree_in_laws.specs.Descent.{goesLeft, descend, under}
 use Rattle.tree_in_laws.specs.Mend.{rotated, outer, inner, recoloured, mendAt, mendBelow, mendStep, mend}
 use Rattle.tree_in_laws.specs.Insert.{hungNode, hungWords, hungRoot, hung, mended, insertRule}
+use Rattle.tree_in_laws.specs.Sequence.{insert, run}
 
 -- what the rows compute with
 reading : Unit {0}
@@ -29,10 +31,13 @@ inserting = record {}
 abbrev entryOf : ℕ → ℕ → ℕ → Entry
 entryOf a b v = record { start = a; end = b; value = v }
 
+-- an empty map in so many words
+abbrev empty : ℕ → Store
+empty m = store (replicate m 0) (0 ∷ []) U
+
 -- the store after each entry of a list is inserted into one of n entries
 abbrev filled : Store → ℕ → List Entry → Store
-filled S n [] = S
-filled S n (e ∷ l) = filled (insertRule (S .words) (S .colours) n (S .root) e) (n + 1) l
+filled S n l = run S n (map insert l)
 
 -- store A of document 01, with room for two more
 abbrev storeA : Store
@@ -48,7 +53,7 @@ storeA =
     (9 ∷ []) 2
 
 -- the first entry of an empty map: root, and black
-pub first-entry : filled (store (0 ∷ 0 ∷ 0 ∷ 0 ∷ 0 ∷ 0 ∷ 0 ∷ 0 ∷ 0 ∷ 0 ∷ 0 ∷ 0 ∷ 0 ∷ 0 ∷ 0 ∷ 0 ∷ []) (0 ∷ []) U) 0 (entryOf 5 9 1 ∷ []) ≡ store
+pub first-entry : filled (empty 16) 0 (entryOf 5 9 1 ∷ []) ≡ store
     (5 ∷ 9 ∷ 1 ∷ 5 ∷ 9 ∷ U ∷ U ∷ U ∷
     0 ∷ 0 ∷ 0 ∷ 0 ∷ 0 ∷ 0 ∷ 0 ∷ 0 ∷ [])
     (0 ∷ []) 0
@@ -56,7 +61,7 @@ unfolding reading linking inserting
 first-entry = refl
 
 -- an equal one hangs to the right of it
-pub equal-entry : filled (store (0 ∷ 0 ∷ 0 ∷ 0 ∷ 0 ∷ 0 ∷ 0 ∷ 0 ∷ 0 ∷ 0 ∷ 0 ∷ 0 ∷ 0 ∷ 0 ∷ 0 ∷ 0 ∷ []) (0 ∷ []) U) 0 (entryOf 5 9 1 ∷ entryOf 5 9 2 ∷ []) ≡ store
+pub equal-entry : filled (empty 16) 0 (entryOf 5 9 1 ∷ entryOf 5 9 2 ∷ []) ≡ store
     (5 ∷ 9 ∷ 1 ∷ 5 ∷ 9 ∷ U ∷ 1 ∷ U ∷
     5 ∷ 9 ∷ 2 ∷ 5 ∷ 9 ∷ U ∷ U ∷ 0 ∷ [])
     (2 ∷ []) 0
@@ -64,7 +69,7 @@ unfolding reading linking inserting
 equal-entry = refl
 
 -- an outer child: one rotation
-pub outer-child : filled (store (0 ∷ 0 ∷ 0 ∷ 0 ∷ 0 ∷ 0 ∷ 0 ∷ 0 ∷ 0 ∷ 0 ∷ 0 ∷ 0 ∷ 0 ∷ 0 ∷ 0 ∷ 0 ∷ 0 ∷ 0 ∷ 0 ∷ 0 ∷ 0 ∷ 0 ∷ 0 ∷ 0 ∷ []) (0 ∷ []) U) 0 (entryOf 1 2 1 ∷ entryOf 3 4 2 ∷ entryOf 5 6 3 ∷ []) ≡ store
+pub outer-child : filled (empty 24) 0 (entryOf 1 2 1 ∷ entryOf 3 4 2 ∷ entryOf 5 6 3 ∷ []) ≡ store
     (1 ∷ 2 ∷ 1 ∷ 1 ∷ 2 ∷ U ∷ U ∷ 1 ∷
     3 ∷ 4 ∷ 2 ∷ 1 ∷ 6 ∷ 0 ∷ 2 ∷ U ∷
     5 ∷ 6 ∷ 3 ∷ 5 ∷ 6 ∷ U ∷ U ∷ 1 ∷ [])
@@ -73,7 +78,7 @@ unfolding reading linking inserting
 outer-child = refl
 
 -- an inner child: two rotations
-pub inner-child : filled (store (0 ∷ 0 ∷ 0 ∷ 0 ∷ 0 ∷ 0 ∷ 0 ∷ 0 ∷ 0 ∷ 0 ∷ 0 ∷ 0 ∷ 0 ∷ 0 ∷ 0 ∷ 0 ∷ 0 ∷ 0 ∷ 0 ∷ 0 ∷ 0 ∷ 0 ∷ 0 ∷ 0 ∷ []) (0 ∷ []) U) 0 (entryOf 1 2 1 ∷ entryOf 5 6 2 ∷ entryOf 3 4 3 ∷ []) ≡ store
+pub inner-child : filled (empty 24) 0 (entryOf 1 2 1 ∷ entryOf 5 6 2 ∷ entryOf 3 4 3 ∷ []) ≡ store
     (1 ∷ 2 ∷ 1 ∷ 1 ∷ 2 ∷ U ∷ U ∷ 2 ∷
     5 ∷ 6 ∷ 2 ∷ 5 ∷ 6 ∷ U ∷ U ∷ 2 ∷
     3 ∷ 4 ∷ 3 ∷ 1 ∷ 6 ∷ 0 ∷ 1 ∷ U ∷ [])
@@ -82,7 +87,7 @@ unfolding reading linking inserting
 inner-child = refl
 
 -- a red uncle: recoloured
-pub red-uncle : filled (store (0 ∷ 0 ∷ 0 ∷ 0 ∷ 0 ∷ 0 ∷ 0 ∷ 0 ∷ 0 ∷ 0 ∷ 0 ∷ 0 ∷ 0 ∷ 0 ∷ 0 ∷ 0 ∷ 0 ∷ 0 ∷ 0 ∷ 0 ∷ 0 ∷ 0 ∷ 0 ∷ 0 ∷ 0 ∷ 0 ∷ 0 ∷ 0 ∷ 0 ∷ 0 ∷ 0 ∷ 0 ∷ []) (0 ∷ []) U) 0 (entryOf 3 4 1 ∷ entryOf 1 2 2 ∷ entryOf 5 6 3 ∷ entryOf 7 8 4 ∷ []) ≡ store
+pub red-uncle : filled (empty 32) 0 (entryOf 3 4 1 ∷ entryOf 1 2 2 ∷ entryOf 5 6 3 ∷ entryOf 7 8 4 ∷ []) ≡ store
     (3 ∷ 4 ∷ 1 ∷ 1 ∷ 8 ∷ 1 ∷ 2 ∷ U ∷
     1 ∷ 2 ∷ 2 ∷ 1 ∷ 2 ∷ U ∷ U ∷ 0 ∷
     5 ∷ 6 ∷ 3 ∷ 5 ∷ 8 ∷ U ∷ 3 ∷ 0 ∷

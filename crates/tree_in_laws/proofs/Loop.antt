@@ -176,7 +176,8 @@ module _ (n z : ℕ) (base W : List ℕ) (K : ℕ → Bool) (r x p : ℕ) (t : T
 
       stays : (s : Tree) → occ P s ≡ 0 → occ Q s ≡ 0 → occ G s ≡ 0 → Keeps K L s
       stays s i j k =
-          keeps K L s (λ a o. paint-other _ G true a (apart a G s k o) ∙ paint-other _ Q false a (apart a Q s j o) ∙ paint-other K P false a (apart a P s i o))
+          keeps K L s (λ a o. paint-other _ G true a (apart a G s k o) ∙ paint-other _ Q false a (apart a Q s j o)
+          ∙ paint-other K P false a (apart a P s i o))
 
       at-P : (hit P Q ≡ 0) × (hit P G ≡ 0) × (occs P c ≡ 0) × (occ P t ≡ 0) × (occ P Y ≡ 0) × (occ P v ≡ 0) × (occ P w ≡ 0)
       at-P = omega (arith, one P, hit-same P)
@@ -231,4 +232,5 @@ module _ (n z : ℕ) (base W : List ℕ) (K : ℕ → Bool) (r x p : ℕ) (t : T
         let q = rotate W n z base r (par W P) b P x (frame b G u ∷ c) Y A B g in
         let root : rootAfter n W r P x ≡ r = root-stays W n r P x (omega (arith, at .at, at .live)) in
         let o = placed-up X n z base r x _ b G u c (bin b (bin b Y P A) x B) (rw root at q) in
-        crowned X n z base K r (par X G) b x G c (bin b Y P A) B u m o (reddened K m b Y P A kp brother da) db (record { even = uncle; black = k }) beyond
+        crowned X n z base K r (par X G) b x G c (bin b Y P A) B u m o (reddened K m b Y P A kp brother da) db
+        (record { even = uncle; black = k }) beyond

@@ -152,7 +152,8 @@ module _ (W : List ℕ) (x : Interval) where
         rw (a-link s b a e (o .here) (o .live) levels) (by-near
         (λ t. height t ≤ suc levels → Shape W n s (kid W b s) t → RisingAt W (slots t) → Hangs (plug (frame b s far ∷ c) t) (descend n levels W x a))
         (goesLeft W x a) l a r
-        (λ d′ near away e′ low′ h′ rise′. rec (frame b s far ∷ c) d′ near a away s (kid W b s) e′ low′ h′ rise′ (aside b (node l a r) s far e rise, d))
+        (λ d′ near away e′ low′ h′ rise′.
+        rec (frame b s far ∷ c) d′ near a away s (kid W b s) e′ low′ h′ rise′ (aside b (node l a r) s far e rise, d))
         (omega (arith, height-near b (node l a r) s far)) o (rising-near b (node l a r) s far rise))
 
     down : (levels : ℕ) → Down levels
