@@ -9,7 +9,7 @@ use Prim.Native.Nat.{ℕ, _+_, _*_, _<_, _≤_}
 use native.Mathlib.Omega.{arith}
 use lib.ListN.{length}
 use Rattle.words.specs.Ix.{U}
-use Rattle.words.specs.Nodes.{start, stop, interval}
+use Rattle.words.specs.Nodes.{start, stop, interval, entry}
 use Rattle.words.specs.declared.interval.Interval.{Interval}
 use Rattle.words.specs.declared.node.Entry.{Entry}
 use Rattle.bitvec.specs.Colours.{red, dye}
@@ -249,13 +249,16 @@ module _ (W C : List ℕ) (n r : ℕ) (e : Entry) (small : n + 1 ≤ 65535) (fit
   in-order : (a : ℕ) → 0 < times a (A ++ B) → a ≢ n
   in-order a o = let l : a < n = live a (omega (arith, times-slots a t, ap (λ (l : List ℕ). times a l) old-slots)) in omega arith
 
+  -- whatever the old slots keep, in tree order
+  mapped : {Z : Type 0} (f g : ℕ → Z) → ((a : ℕ) → a ≢ n → g a ≡ f a) → map g (slots v) ≡ map f A ++ (g n ∷ map f B)
+  mapped f g k =
+      let x : map g A ≡ map f A = map-same f g A (λ a o. k a (in-order a (omega (arith, times-append a A B)))) in
+      let y : map g B ≡ map f B = map-same f g B (λ a o. k a (in-order a (omega (arith, times-append a A B)))) in
+      rw (new-slots, map-append, x, y)
+
   rising : RisingAt (S .words) (slots v)
   rising =
-      let f : map (interval (S .words)) A ≡ map (interval W) A =
-      map-same (interval W) (interval (S .words)) A (λ a o. stays a (in-order a (omega (arith, times-append a A B)))) in
-      let g : map (interval (S .words)) B ≡ map (interval W) B =
-      map-same (interval W) (interval (S .words)) B (λ a o. stays a (in-order a (omega (arith, times-append a A B)))) in
-      rw (new-slots, map-append, f, g, comes)
+      rw (mapped (interval W) (interval (S .words)) stays, comes)
       (rising-between (map (interval W) A) x (map (interval W) B) (rw (old-slots, map-append) at (h .rising))
       (upto-map W x A (front-le W x c (hang .parted))) (before-map W x B (back-gt W x c (hang .parted))))
 
@@ -291,6 +294,8 @@ module _ (W C : List ℕ) (n r : ℕ) (e : Entry) (small : n + 1 ≤ 65535) (fit
         passes = passes;
         slots-were = rw (not-greater, greater-ones) old-slots;
         slots-are = rw (not-greater, greater-ones) new-slots;
+        entries = rw (not-greater, greater-ones)
+            (mapped (entry W) (entry (S .words)) (entry-stays W C n r e) ∙ rw (entry-comes W C n r e fit));
         entries-kept = entry-stays W C n r e;
         entry-new = entry-comes W C n r e fit;
       }

@@ -2,7 +2,7 @@
 use mathlib.Core.Path.{_≡_}
 use mathlib.Core.Logic.{_≢_}
 use mathlib.Core.Bool.{Bool, true, cond, not}
-use mathlib.Core.List.{List, [], _∷_, _++_}
+use mathlib.Core.List.{List, [], _∷_, _++_, map}
 use Prim.Native.Nat.{ℕ, _+_}
 use Rattle.words.specs.Ix.{U, onLink}
 use Rattle.words.specs.Intervals.{le}
@@ -33,10 +33,13 @@ greater W x l = only (λ a. not (le (interval W a) x)) l
 pub record Inserted (W C : List ℕ) (n r : ℕ) (e : Entry) (before : Passes W C n r) (S : Store) : Type 0 where
   -- the store passes again, with one entry more
   pub passes : Passes (S .words) (S .colours) (n + 1) (S .root)
-  -- in tree order the old entries are those that are not greater than the new one and then the greater ones, each in its slot; the new one
-  -- comes in between, after all its equals, in slot n
+  -- in tree order the old slots are those of entries that are not greater than the new one and then those of the greater ones; slot n, which
+  -- the new one is in, comes in between, after all its equals
   pub slots-were : slots (before .tree) ≡ notGreater W (own e) (slots (before .tree)) ++ greater W (own e) (slots (before .tree))
   pub slots-are : slots (passes .tree) ≡ notGreater W (own e) (slots (before .tree)) ++ (n ∷ greater W (own e) (slots (before .tree)))
+  -- and so the entries
+  pub entries : map (entry (S .words)) (slots (passes .tree))
+      ≡ map (entry W) (notGreater W (own e) (slots (before .tree))) ++ (e ∷ map (entry W) (greater W (own e) (slots (before .tree))))
   -- "no old slot moves"
   pub entries-kept : (a : ℕ) → a ≢ n → entry (S .words) a ≡ entry W a
   pub entry-new : entry (S .words) n ≡ e
