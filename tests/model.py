@@ -1,6 +1,6 @@
 #!/usr/bin/env python3
-"""What the calls answer and leave, from the words of document 01, in plain lists and recursion: neither the crate's code nor this project's.
-tests/drive.py speaks for it."""
+"""What the calls answer and leave, from the words of document 01, and of document 02 for insertion, in plain lists and recursion: neither the
+crate's code nor this project's. tests/drive.py speaks for it."""
 
 U = 4294967295
 START, END, VALUE, LO, HI, LEFT, RIGHT, PARENT = range(8)

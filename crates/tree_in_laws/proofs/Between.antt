@@ -1,7 +1,7 @@
 -- Entries and order: a new one between those that are not greater and the greater ones.
 use mathlib.Core.Path.{_≡_, refl, ap, _∙_}
 use mathlib.Core.Bool.{Bool, true, false, cond, not}
-use mathlib.Core.List.{List, [], _∷_, _++_, map}
+use mathlib.Core.List.{List, [], _∷_, _++_, append-nil, map}
 use Prim.Native.Nat.{ℕ, _<_}
 use native.Mathlib.Omega.{arith}
 use Rattle.words.specs.Intervals.{le}
@@ -29,10 +29,6 @@ module _ (p : ℕ → Bool) where
   only-none : (l : List ℕ) → ((a : ℕ) → 0 < times a l → p a ≡ false) → only p l ≡ []
   only-none [] h = refl
   only-none (a ∷ l) h = rw (h a (omega (arith, hit-same a)), only-none l (λ b o. h b (omega arith)))
-
-append-nil : (l : List ℕ) → l ++ [] ≡ l
-append-nil [] = refl
-append-nil (a ∷ l) = ap (λ (m : List ℕ). a ∷ m) (append-nil l)
 
 -- a row that is parted already
 module _ (W : List ℕ) (x : Interval) (A B : List ℕ) (f : (a : ℕ) → 0 < times a A → le (interval W a) x ≡ true)

@@ -1,7 +1,7 @@
 -- Entries and order: the way down to the place of a new entry has those that are not greater before it, and the greater ones after it.
 use mathlib.Core.Path.{_≡_, refl, sym, ap, _∙_}
 use mathlib.Core.Bool.{Bool, true, false, not, true≢false}
-use mathlib.Core.List.{List, [], _∷_, _++_, append-assoc}
+use mathlib.Core.List.{List, [], _∷_, _++_, append-assoc, append-nil}
 use Prim.Native.Nat.{ℕ, zero, suc, _+_, _<_, _≤_}
 use native.Mathlib.Omega.{arith}
 use Rattle.words.specs.Ix.{U}
@@ -29,12 +29,8 @@ back [] = []
 back (frame true s far ∷ c) = s ∷ (slots far ++ back c)
 back (frame false s far ∷ c) = back c
 
-append-nil : (l : List ℕ) → l ≡ l ++ []
-append-nil [] = refl
-append-nil (a ∷ l) = ap (λ (m : List ℕ). a ∷ m) (append-nil l)
-
 pub slots-way : (c : List Frame) (t : Tree) → slots (plug c t) ≡ front c ++ (slots t ++ back c)
-slots-way [] t = append-nil (slots t)
+slots-way [] t = sym (append-nil (slots t))
 slots-way (frame true s far ∷ c) t = slots-way c (node t s far) ∙ simp append-assoc
 slots-way (frame false s far ∷ c) t = slots-way c (node far s t) ∙ simp append-assoc
 

@@ -33,7 +33,7 @@ pub red-link : (W C : List ℕ) (n : ℕ) → n ≤ 65535 → (p k : ℕ) (t : T
 red-link W C n m p k leaf h = on-none n k (omega arith) (λ s. red C s) false
 red-link W C n m p k (node l s r) h = rw (h .here) (on-slot n s (h .live) (λ s. red C s) false)
 
-pub red-live : (W : List ℕ) (K : ℕ → Bool) (n p k : ℕ) (t : Tree) → Shape W n p k t → rootRed K t ≡ true → k < n
+red-live : (W : List ℕ) (K : ℕ → Bool) (n p k : ℕ) (t : Tree) → Shape W n p k t → rootRed K t ≡ true → k < n
 red-live W K n p k leaf h e = absurd (false≢true e)
 red-live W K n p k (node l s r) h e = rw (h .here) (h .live)
 

@@ -127,7 +127,7 @@ around (frame false s far ∷ c) k =
     around c (λ A B f. k (A ++ (slots far ++ (s ∷ []))) B (λ t. f (node far s t) ∙ simp append-assoc))
 
 -- a turn keeps the slots in tree order
-pub slots-plug : (c : List Frame) (t u : Tree) → slots t ≡ slots u → slots (plug c t) ≡ slots (plug c u)
+slots-plug : (c : List Frame) (t u : Tree) → slots t ≡ slots u → slots (plug c t) ≡ slots (plug c u)
 slots-plug [] t u e = e
 slots-plug (frame b s far ∷ c) t u e = slots-plug c (bin b t s far) (bin b u s far) (go b)
   where
