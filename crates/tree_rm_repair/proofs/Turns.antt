@@ -2,9 +2,8 @@
 use mathlib.Core.Path.{_≡_, refl, sym, ap, _∙_}
 use mathlib.Core.Bool.{Bool, true, false, cond, not, _&&_, Bool·not-not, true≢false}
 use mathlib.Core.List.{List}
-use Prim.Native.Nat.{ℕ, zero, suc, _-_, _*_, _<_, _≤_}
+use Prim.Native.Nat.{ℕ, _*_, _<_, _≤_}
 use native.Mathlib.Omega.{arith}
-use native.Mathlib.Numerals.{sub-one}
 use lib.ListN.{length}
 use lib.Dec.{eqb, leb}
 use borrow.Author.Tests.{leb-false}
@@ -14,14 +13,13 @@ use Rattle.words.specs.declared.ix.Link.{Link}
 use Rattle.words.specs.declared.ix.Link.the-variants.{Slot}
 use Rattle.bitvec.specs.Colours.{red, redAt, dye}
 use Rattle.tree_rm_laws.specs.Links.{rootAfter}
-use Rattle.tree_rm_laws.specs.Repair.{turn, turn-4, dyeAt, Case, one, two, three, four, five, choose, Next, done, again, act, goOn, turnOf, turnAt, step, repair}
+use Rattle.tree_rm_laws.specs.Repair.{turn, turn-4, dyeAt, Case, one, two, three, four, five, choose, Next, done, again, act, turnOf, turnAt, step, repair}
 use Rattle.tree_rm_laws.specs.Remove.{Store, store, ending, restructure}
-use Rattle.tree_rm_repair.specs.Answers.{caseOf, next}
+use Rattle.tree_rm_repair.specs.Answers.{caseOf}
 use Rattle.tree_rm_repair.specs.declared.Case as K
 use Rattle.tree_rm_repair.specs.declared.Case.the-variants as ks
-use Rattle.tree_rm_repair.specs.declared.Turn as T
-use Rattle.tree_rm_repair.specs.declared.Turn.the-variants as ts
 use Rattle.tree_rm_links.proofs.LinkLaws.{read-linked}
+use Rattle.tree_rm_repair.proofs.Loops.{Loop, link-stays}
 
 -- the choice among the cases, by which of the four are black
 pub choose-black : (p s c d : Bool)
@@ -112,17 +110,7 @@ act-stays n three W C r ix b P S c d X D q i h l e = let z : _≡_ {A = ℕ} 0 1
 act-stays n four W C r ix b P S c d X D q i h l e = let z : ix ≡ i = cc in omega arith
 act-stays n five W C r ix b P S c d X D q i h l e = let z : _≡_ {A = ℕ} 0 1 = cc in absurd (omega arith)
 
--- what leaves the loop standing at a slot, by cases on a link word
-link-stays : (n w : ℕ) (f : ℕ → Next) (W C : List ℕ) (r : ℕ) (X D : List ℕ) (q i : ℕ) → ((s : ℕ) → s < n → f s ≡ again X D q i → i < n)
-    → onLink n w f (done W C r) ≡ again X D q i → i < n
-unfolding onLink
-link-stays n w f W C r X D q i h e = go (leb n w) refl e
-  where
-    go : (t : Bool) → leb n w ≡ t → cond t (done W C r) (f w) ≡ again X D q i → i < n
-    go true p z = let y : _≡_ {A = ℕ} 0 1 = cc in absurd (omega arith)
-    go false p z = h w (leb-false n w p) z
-
-step-stays : (n : ℕ) (W C : List ℕ) (r ix : ℕ) (X D : List ℕ) (q i : ℕ) → ix < n → step n W C r ix ≡ again X D q i → i < n
+pub step-stays : (n : ℕ) (W C : List ℕ) (r ix : ℕ) (X D : List ℕ) (q i : ℕ) → ix < n → step n W C r ix ≡ again X D q i → i < n
 unfolding step turnAt turnOf
 step-stays n W C r ix X D q i h e =
     link-stays n (par W ix) (λ (P : ℕ). turnAt n W C r ix P (eqb (kid W true P) ix)) W C r X D q i
@@ -134,35 +122,10 @@ step-stays n W C r ix X D q i h e =
     at-turn P b S l z =
         act-stays n (choose (red C P) (red C S) (redAt n C (kid W b S)) (redAt n C (kid W (not b) S))) W C r ix b P S (kid W b S) (kid W (not b) S) X D q i h l z
 
--- the loop's turns
-repair-again : (n f : ℕ) (W C : List ℕ) (r ix : ℕ) (X D : List ℕ) (q i : ℕ) → 0 < f → step n W C r ix ≡ again X D q i
-    → repair n f W C r ix ≡ repair n (f - 1) X D q i
+-- the loop
+pub repairs : (n : ℕ) → Loop (step n) (repair n)
 unfolding repair
-repair-again n zero W C r ix X D q i h e = absurd (omega arith)
-repair-again n (suc f) W C r ix X D q i h e = rw (sub-one (suc f)) (ap (λ (s : Next). goOn s (λ A B a j. repair n f A B a j)) e)
-
-repair-done : (n f : ℕ) (W C : List ℕ) (r ix : ℕ) (X D : List ℕ) (q : ℕ) → 0 < f → step n W C r ix ≡ done X D q → repair n f W C r ix ≡ done X D q
-unfolding repair
-repair-done n zero W C r ix X D q h e = absurd (omega arith)
-repair-done n (suc f) W C r ix X D q h e = ap (λ (s : Next). goOn s (λ A B a j. repair n f A B a j)) e
-
-repair-none : (n f : ℕ) (W C : List ℕ) (r ix : ℕ) → f ≤ 0 → repair n f W C r ix ≡ again W C r ix
-unfolding repair
-repair-none n zero W C r ix h = refl
-repair-none n (suc f) W C r ix h = absurd (omega arith)
-
-module _ (n f : ℕ) (N : Next) (W C : List ℕ) (r ix : ℕ) (X D : List ℕ) (t : T.Turn) (q : ℕ) where
-  pub loop-on : (i : ℕ) → N ≡ repair n f W C r ix → next t X D ≡ step n W C r ix → t ≡ ts.Again q i → 0 < f → N ≡ repair n (f - 1) X D q i
-  loop-on i e p z h = e ∙ repair-again n f W C r ix X D q i h (sym p ∙ ap (λ (s : T.Turn). next s X D) z)
-
-  pub loop-done : N ≡ repair n f W C r ix → next t X D ≡ step n W C r ix → t ≡ ts.Done q → 0 < f → store X D q ≡ ending N
-  loop-done e p z h = sym (ap ending (e ∙ repair-done n f W C r ix X D q h (sym p ∙ ap (λ (s : T.Turn). next s X D) z)))
-
-pub loop-stays : (n : ℕ) (W C : List ℕ) (r ix : ℕ) (X D : List ℕ) (t : T.Turn) (q i : ℕ) → t ≡ ts.Again q i → next t X D ≡ step n W C r ix → ix < n → i < n
-loop-stays n W C r ix X D t q i z p h = step-stays n W C r ix X D q i h (sym p ∙ ap (λ (s : T.Turn). next s X D) z)
-
-pub loop-none : (n f : ℕ) (N : Next) (W C : List ℕ) (r ix : ℕ) → N ≡ repair n f W C r ix → f ≤ 0 → store W C r ≡ ending N
-loop-none n f N W C r ix e h = sym (ap ending (e ∙ repair-none n f W C r ix h))
+repairs n = record { stops = λ W C r ix. refl; turns = λ f W C r ix. refl }
 
 -- before a slot is vacated
 red-child : (w a t : Bool) → w ≡ not a → not w ≡ t → a ≡ t

@@ -108,8 +108,9 @@ fn turn_four(
     set_child(nodes, count, parent, close, !node_is_left);
 }
 
-// Case five's links: as in case two, with the last two writes in the other order.
-fn turn_five(
+// The sibling turns into the place of the parent, as in case two with the last two writes in the other order: case five's
+// links, and those of a rotation after an insertion. The answer is the root.
+pub fn turn_up(
     nodes: &mut [u64],
     count: u64,
     root: u64,
@@ -204,7 +205,7 @@ fn case_five(
     copy_colour(colours, parent, sibling);
     set_black(colours, parent);
     set_black_at(colours, count, distant);
-    let top = turn_five(nodes, count, root, node_is_left, parent, sibling);
+    let top = turn_up(nodes, count, root, node_is_left, parent, sibling);
     Turn::Done(top)
 }
 

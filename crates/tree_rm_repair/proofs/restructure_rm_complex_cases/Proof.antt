@@ -1,7 +1,8 @@
-use Rattle.tree_rm_repair.proofs.Turns.{loop-done, loop-none, loop-on, loop-stays}
+use Rattle.tree_rm_repair.proofs.Turns.{repairs, step-stays}
+use Rattle.tree_rm_repair.proofs.Loops.{loop-done, loop-none, loop-on, loop-stays}
 use mathlib.Core.Path.{refl}
 use native.Mathlib.Omega.{arith}
-use Rattle.tree_rm_laws.specs.Repair.{repair}
+use Rattle.tree_rm_laws.specs.Repair.{repair, step}
 use lib.ListN.{length}
 use mathlib.Core.Path.{_≡_}
 use Prim.Native.Nat.{_<_}
@@ -25,11 +26,11 @@ restructure-rm-complex-cases-spec =
     (λ c. omega arith)
     (λ c. omega arith)
     (λ c. omega arith)
-    (λ c. search loop-done)
+    (λ c. search (loop-done step repair repairs))
     (λ c. omega arith)
     (λ c. omega arith)
     (λ c. omega arith)
-    (λ c. (search loop-on, omega arith, omega arith, search loop-stays))
+    (λ c. (search (loop-on step repair repairs), omega arith, omega arith, search (loop-stays step step-stays)))
     (λ c. omega arith)
     (λ c. omega arith)
-    (λ c. search loop-none))
+    (λ c. search (loop-none step repair repairs)))

@@ -1,0 +1,60 @@
+-- A loop of turns, in the form that `search` takes: that of the repair before a removal, and that of the repair after an insertion.
+use mathlib.Core.Path.{_≡_, refl, sym, ap, _∙_}
+use mathlib.Core.Bool.{Bool, true, false, cond}
+use mathlib.Core.List.{List}
+use Prim.Native.Nat.{ℕ, zero, suc, _-_, _<_, _≤_}
+use native.Mathlib.Omega.{arith}
+use native.Mathlib.Numerals.{sub-one}
+use lib.Dec.{leb}
+use borrow.Author.Tests.{leb-false}
+use Rattle.words.specs.Ix.{onLink}
+use Rattle.tree_rm_laws.specs.Repair.{Next, done, again, goOn}
+use Rattle.tree_rm_laws.specs.Remove.{store, ending}
+use Rattle.tree_rm_repair.specs.Answers.{next}
+use Rattle.tree_rm_repair.specs.declared.Turn as T
+use Rattle.tree_rm_repair.specs.declared.Turn.the-variants as ts
+
+-- what leaves a loop standing at a slot, by cases on a link word
+pub link-stays : (n w : ℕ) (f : ℕ → Next) (W C : List ℕ) (r : ℕ) (X D : List ℕ) (q i : ℕ) → ((s : ℕ) → s < n → f s ≡ again X D q i → i < n)
+    → onLink n w f (done W C r) ≡ again X D q i → i < n
+unfolding onLink
+link-stays n w f W C r X D q i h e = go (leb n w) refl e
+  where
+    go : (t : Bool) → leb n w ≡ t → cond t (done W C r) (f w) ≡ again X D q i → i < n
+    go true p z = let y : _≡_ {A = ℕ} 0 1 = cc in absurd (omega arith)
+    go false p z = h w (leb-false n w p) z
+
+-- `run` is the loop over `step`, at most so many turns of it
+pub record Loop (step : List ℕ → List ℕ → ℕ → ℕ → Next) (run : ℕ → List ℕ → List ℕ → ℕ → ℕ → Next) : Type 0 where
+  pub stops : (W C : List ℕ) (r ix : ℕ) → run 0 W C r ix ≡ again W C r ix
+  pub turns : (f : ℕ) (W C : List ℕ) (r ix : ℕ) → run (suc f) W C r ix ≡ goOn (step W C r ix) (λ X D q i. run f X D q i)
+
+module _ (step : ℕ → List ℕ → List ℕ → ℕ → ℕ → Next) (run : ℕ → ℕ → List ℕ → List ℕ → ℕ → ℕ → Next) (loop : (n : ℕ) → Loop (step n) (run n)) where
+  -- one turn was made
+  module _ (n f : ℕ) (N : Next) (W C : List ℕ) (r ix : ℕ) (X D : List ℕ) (t : T.Turn) (q : ℕ) where
+    turned : (g : ℕ) → N ≡ run n (suc g) W C r ix → next t X D ≡ step n W C r ix → (u : T.Turn) → t ≡ u → N ≡ goOn (next u X D) (λ A B a j. run n g A B a j)
+    turned g e p u z = e ∙ loop n .turns g W C r ix ∙ ap (λ (s : Next). goOn s (λ A B a j. run n g A B a j)) (sym p ∙ ap (λ (s : T.Turn). next s X D) z)
+
+    pub loop-on : (i : ℕ) → N ≡ run n f W C r ix → next t X D ≡ step n W C r ix → t ≡ ts.Again q i → 0 < f → N ≡ run n (f - 1) X D q i
+    loop-on i e p z h = go f e h
+      where
+        go : (g : ℕ) → N ≡ run n g W C r ix → 0 < g → N ≡ run n (g - 1) X D q i
+        go zero d k = absurd (omega arith)
+        go (suc g) d k = rw (sub-one (suc g)) (turned g d p (ts.Again q i) z)
+
+    pub loop-done : N ≡ run n f W C r ix → next t X D ≡ step n W C r ix → t ≡ ts.Done q → 0 < f → store X D q ≡ ending N
+    loop-done e p z h = go f e h
+      where
+        go : (g : ℕ) → N ≡ run n g W C r ix → 0 < g → store X D q ≡ ending N
+        go zero d k = absurd (omega arith)
+        go (suc g) d k = sym (ap ending (turned g d p (ts.Done q) z))
+
+  pub loop-none : (n f : ℕ) (N : Next) (W C : List ℕ) (r ix : ℕ) → N ≡ run n f W C r ix → f ≤ 0 → store W C r ≡ ending N
+  loop-none n zero N W C r ix e h = sym (ap ending (e ∙ loop n .stops W C r ix))
+  loop-none n (suc f) N W C r ix e h = absurd (omega arith)
+
+-- the loop stands at a slot
+module _ (step : ℕ → List ℕ → List ℕ → ℕ → ℕ → Next)
+    (stays : (n : ℕ) (W C : List ℕ) (r ix : ℕ) (X D : List ℕ) (q i : ℕ) → ix < n → step n W C r ix ≡ again X D q i → i < n) where
+  pub loop-stays : (n : ℕ) (W C : List ℕ) (r ix : ℕ) (X D : List ℕ) (t : T.Turn) (q i : ℕ) → t ≡ ts.Again q i → next t X D ≡ step n W C r ix → ix < n → i < n
+  loop-stays n W C r ix X D t q i z p h = stays n W C r ix X D q i h (sym p ∙ ap (λ (s : T.Turn). next s X D) z)
