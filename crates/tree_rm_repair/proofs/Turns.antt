@@ -94,12 +94,16 @@ pub turn-is : (n : ℕ) (W C : List ℕ) (r ix P : ℕ) (b : Bool) (S c d : ℕ)
 unfolding turnOf
 turn-is n W C r ix P b S c d k N e f g h = rw (← e, ← f, ← g) h
 
+-- a slot's parent p, with the side that the slot is on
+pub at-side : (F : ℕ → Bool → Next) (z : Next) (n : ℕ) (W : List ℕ) (ix : ℕ) (N : Next) (w p x : ℕ) (l : Link) → w ≡ par W ix → l ≡ linkOf n w
+    → l ≡ Slot p → x ≡ kid W true p → N ≡ F p (eqb x ix) → N ≡ onLink n (par W ix) (λ P. F P (eqb (kid W true P) ix)) z
+at-side F z n W ix N w p x l e q k f h =
+    read-linked N n (par W ix) w l (λ (P : ℕ). F P (eqb (kid W true P) ix)) z e q p k (h ∙ ap (λ (y : ℕ). F p (eqb y ix)) f)
+
 pub at-parent : (n : ℕ) (W C : List ℕ) (r ix : ℕ) (N : Next) (w p x : ℕ) (l : Link) → w ≡ par W ix → l ≡ linkOf n w → l ≡ Slot p
     → x ≡ kid W true p → N ≡ turnAt n W C r ix p (eqb x ix) → N ≡ step n W C r ix
 unfolding step
-at-parent n W C r ix N w p x l e q k f h =
-    read-linked N n (par W ix) w l (λ (P : ℕ). turnAt n W C r ix P (eqb (kid W true P) ix)) (done W C r) e q p k
-    (h ∙ ap (λ (y : ℕ). turnAt n W C r ix p (eqb y ix)) f)
+at-parent n W C r ix = at-side (λ (P : ℕ) (b : Bool). turnAt n W C r ix P b) (done W C r) n W ix
 
 -- the loop stands at a slot
 act-stays : (n : ℕ) (k : Case) (W C : List ℕ) (r ix : ℕ) (b : Bool) (P S c d : ℕ) (X D : List ℕ) (q i : ℕ) → ix < n → P < n
@@ -128,7 +132,7 @@ unfolding repair
 repairs n = record { stops = λ W C r ix. refl; turns = λ f W C r ix. refl }
 
 -- before a slot is vacated
-red-child : (w a t : Bool) → w ≡ not a → not w ≡ t → a ≡ t
+pub red-child : (w a t : Bool) → w ≡ not a → not w ≡ t → a ≡ t
 red-child w a t f z = sym (Bool·not-not a) ∙ ap not (sym f) ∙ z
 
 pub red-fits : (n : ℕ) (C : List ℕ) (k : ℕ) (w : Bool) → n ≤ length C * 8 → w ≡ not (redAt n C k) → not w ≡ true → k < length C * 8

@@ -1,0 +1,76 @@
+-- The descent and the hanging of a new node, in the form that `search` takes.
+use mathlib.Core.Path.{_≡_, refl, sym, _∙_}
+use mathlib.Core.Bool.{Bool, true}
+use mathlib.Core.List.{List}
+use Prim.Native.Nat.{ℕ, zero, suc, _+_, _-_, _*_, _<_, _≤_}
+use native.Mathlib.Omega.{arith}
+use native.Mathlib.Numerals.{sub-one}
+use Rattle.words.specs.Ix.{U, linkOf, onLink}
+use Rattle.words.specs.Nodes.{kid, putKid, putNode}
+use Rattle.words.specs.declared.interval.Interval.{Interval}
+use Rattle.words.specs.declared.ix.Link.{Link}
+use Rattle.words.specs.declared.ix.Link.the-variants.{Slot, Nil}
+use Rattle.words.specs.declared.node.Entry.{Entry}
+use Rattle.words.proofs.Laws.{linked, slot-live}
+use Rattle.bitvec.specs.Colours.{dye}
+use Rattle.tree_rm_laws.specs.Links.{fixUp}
+use Rattle.tree_rm_laws.specs.Remove.{Store, store, ending}
+use Rattle.tree_rm_links.proofs.LinkLaws.{read-linked, read-unlinked}
+use Rattle.tree_in_laws.specs.Descent.{goesLeft, descend, under}
+use Rattle.tree_in_laws.specs.Insert.{own, hungNode, hungWords, hungRoot, hung, mended, insertRule}
+use Rattle.tree_in_laws.specs.Mend.{mend}
+
+-- one step of the way down
+module _ (n : ℕ) (W : List ℕ) (x : Interval) (t k : ℕ) where
+  module _ (w : ℕ) (l : Link) (p : w ≡ kid W (goesLeft W x k) k) (d : l ≡ linkOf n w) where
+    pub down-on : (h s : ℕ) → t ≡ descend n h W x k → l ≡ Slot s → 0 < h → t ≡ descend n (h - 1) W x s
+    unfolding descend
+    down-on zero s e q z = absurd (omega arith)
+    down-on (suc h) s e q z =
+        rw (sub-one (suc h))
+        (e ∙ sym (read-linked (descend n h W x s) n (kid W (goesLeft W x k) k) w l (λ (i : ℕ). descend n h W x i) k p d s q refl))
+
+    pub down-ends : (h : ℕ) → t ≡ descend n h W x k → l ≡ Nil → k ≡ t
+    unfolding descend
+    down-ends zero e q = sym e
+    down-ends (suc h) e q = read-unlinked k n (kid W (goesLeft W x k) k) w l (λ (i : ℕ). descend n h W x i) k p d q refl ∙ sym e
+
+  pub down-none : (h : ℕ) → t ≡ descend n h W x k → h ≤ 0 → k ≡ t
+  unfolding descend
+  down-none zero e z = sym e
+  down-none (suc h) e z = absurd (omega arith)
+
+-- the slot above has room in words with room for one node more
+module _ (n w s a : ℕ) (l : Link) (e : l ≡ linkOf n w) (q : l ≡ Slot s) (h : n * 8 + 8 ≤ a) where
+  pub room-above : s * 8 + 8 ≤ a
+  room-above = omega (arith, slot-live n w s l e q)
+
+  pub room-then : (b : ℕ) → b ≡ a → s * 8 + 8 ≤ b
+  room-then b i = omega (arith, slot-live n w s l e q)
+
+-- the new node
+pub node-is : (W X : List ℕ) (n : ℕ) (e : Entry) (i : Interval) (p : ℕ) → i ≡ own e → X ≡ putNode W n e i U U p → X ≡ hungNode W n e p
+unfolding hungNode
+node-is W X n e i p f h = rw (← f) h
+
+pub hung-words : (W X Y : List ℕ) (n : ℕ) (e : Entry) (i : Interval) (p s : ℕ) (v : Bool) (l : Link) → l ≡ linkOf n p → l ≡ Slot s → i ≡ own e
+    → v ≡ goesLeft W i s → X ≡ hungNode W n e p → Y ≡ putKid X v s n → Y ≡ hungWords W n e p
+unfolding hungWords
+hung-words W X Y n e i p s v l d q f g h j =
+    linked Y n p s l (λ (k : ℕ). putKid (hungNode W n e p) (goesLeft W (own e) k) k n) (hungNode W n e p) d q (rw (← f, ← g, ← h) j)
+
+pub hung-is : (W C X D : List ℕ) (n r q : ℕ) (e : Entry) (p : ℕ) → D ≡ dye C n true → q ≡ hungRoot n r p → X ≡ hungWords W n e p
+    → store X D q ≡ hung W C n r e p
+unfolding hung
+hung-is W C X D n r q e p f g h = rw (← f, ← g, ← h)
+
+-- the whole insertion
+pub mended-is : (W C X D Y : List ℕ) (n r q x : ℕ) → store X D q ≡ ending (mend n 32 W C r x) → Y ≡ fixUp n 32 X x
+    → store Y D q ≡ mended (store W C r) n x
+unfolding mended
+mended-is W C X D Y n r q x e f = rw (← e, ← f)
+
+pub insert-is : (W C X D : List ℕ) (n r q p : ℕ) (e : Entry) (i : Interval) (S : Store) → i ≡ own e → p ≡ under n W r i
+    → store X D q ≡ hung W C n r e p → S ≡ mended (store X D q) (n + 1) n → S ≡ insertRule W C n r e
+unfolding insertRule
+insert-is W C X D n r q p e i S f g h j = rw (← f, ← g, ← h) j

@@ -1,0 +1,104 @@
+-- The turns of the repair, in the form that `search` takes.
+use mathlib.Core.Path.{_≡_, refl, sym, ap, _∙_}
+use mathlib.Core.Bool.{Bool, true, false, cond, not}
+use mathlib.Core.List.{List}
+use Prim.Native.Nat.{ℕ, _*_, _<_, _≤_}
+use native.Mathlib.Omega.{arith}
+use lib.ListN.{length}
+use lib.Dec.{eqb}
+use borrow.Author.Tests.{eq-eqb, ne-eqb}
+use Rattle.words.specs.Ix.{linkOf, onLink}
+use Rattle.words.specs.Nodes.{kid, par, fix}
+use Rattle.words.specs.declared.ix.Link.{Link}
+use Rattle.words.specs.declared.ix.Link.the-variants.{Slot, Nil}
+use Rattle.bitvec.specs.Colours.{red, redAt, dye}
+use Rattle.tree_rm_laws.specs.Links.{rootAfter}
+use Rattle.tree_rm_laws.specs.Repair.{turn, Next, done, again}
+use Rattle.tree_rm_links.proofs.LinkLaws.{read-linked, read-unlinked}
+use Rattle.tree_rm_repair.proofs.Loops.{Loop, link-stays}
+use Rattle.tree_rm_repair.proofs.Turns.{at-side, red-child, red-fits}
+use Rattle.tree_in_laws.specs.Mend.{rotated, outer, inner, recoloured, mendAt, mendBelow, mendStep, mend}
+
+-- the rotations
+pub rotated-is : (n : ℕ) (W : List ℕ) (b : Bool) (P S : ℕ) (W₁ W₂ W₃ : List ℕ) → W₁ ≡ turn n W b P S → W₂ ≡ fix n W₁ P → W₃ ≡ fix n W₂ S
+    → W₃ ≡ rotated n W b P S
+unfolding rotated
+rotated-is n W b P S W₁ W₂ W₃ e f g = rw (← e, ← f) g
+
+pub outer-is : (n : ℕ) (W C : List ℕ) (r : ℕ) (b : Bool) (P G : ℕ) (X C₁ C₂ : List ℕ) (q : ℕ) → q ≡ rootAfter n W r G P → X ≡ rotated n W (not b) G P
+    → C₁ ≡ dye C P false → C₂ ≡ dye C₁ G true → done X C₂ q ≡ outer n W C r b P G
+unfolding outer
+outer-is n W C r b P G X C₁ C₂ q e f g h = rw (← e, ← f, ← g, ← h)
+
+pub inner-is : (n : ℕ) (W C : List ℕ) (r x : ℕ) (b : Bool) (P G : ℕ) (X : List ℕ) (N : Next) → X ≡ rotated n W b P x → N ≡ outer n X C r b x G
+    → N ≡ inner n W C r x b P G
+unfolding inner
+inner-is n W C r x b P G X N e f = rw (← e) f
+
+-- a test of a word that was read
+module _ {A : Type 0} (v w x : ℕ) (r y z : A) (e : w ≡ v) where
+  pub read-equal : w ≡ x → r ≡ y → r ≡ cond (eqb v x) y z
+  read-equal q h = rw (← e, eq-eqb w x q) h
+
+  pub read-unequal : (w ≡ x → ⊥) → r ≡ z → r ≡ cond (eqb v x) y z
+  read-unequal q h = rw (← e, ne-eqb w x q) h
+
+-- the uncle u, of which v says that it is black or not there
+module _ (n : ℕ) (C : List ℕ) (u : ℕ) (v : Bool) (f : v ≡ not (redAt n C u)) where
+  pub uncle-fits : n ≤ length C * 8 → v ≡ false → u < length C * 8
+  uncle-fits h q = red-fits n C u v h f (ap not q)
+
+  module _ (W : List ℕ) (r x P G : ℕ) (b : Bool) (e : u ≡ kid W (not b) G) where
+    pub uncle-black : (N : Next) → v ≡ true → N ≡ cond (eqb (kid W (not b) P) x) (inner n W C r x b P G) (outer n W C r b P G)
+        → N ≡ mendAt n W C r x P G b
+    unfolding mendAt
+    uncle-black N q h = rw (← e, red-child v (redAt n C u) false f (ap not q)) h
+
+    pub uncle-red : (D : List ℕ) → v ≡ false → D ≡ dye (dye (dye C P false) u false) G true → again W D r G ≡ mendAt n W C r x P G b
+    unfolding mendAt recoloured
+    uncle-red D q h = rw (← e, red-child v (redAt n C u) true f (ap not q), ← h)
+
+-- the grandparent g, and the parent p of the slot x
+pub at-grandparent : (n : ℕ) (W C : List ℕ) (r x P : ℕ) (N : Next) (w g t : ℕ) (l : Link) → w ≡ par W P → l ≡ linkOf n w → l ≡ Slot g → t ≡ kid W true g
+    → N ≡ mendAt n W C r x P g (eqb t P) → N ≡ mendBelow n W C r x P
+unfolding mendBelow
+at-grandparent n W C r x P N w g t l e q k f h = at-side (λ (G : ℕ) (b : Bool). mendAt n W C r x P G b) (done W C r) n W P N w g t l e q k f h
+
+module _ (n : ℕ) (W C : List ℕ) (r x w : ℕ) (l : Link) (e : w ≡ par W x) (f : l ≡ linkOf n w) where
+  abbrev below : ℕ → Next
+  below P = cond (red C P) (mendBelow n W C r x P) (done W C r)
+
+  pub root-black : (D : List ℕ) → l ≡ Nil → D ≡ dye C x false → done W D r ≡ mendStep n W C r x
+  unfolding mendStep
+  root-black D q h = read-unlinked (done W D r) n (par W x) w l below (done W (dye C x false) r) e f q (ap (λ (B : List ℕ). done W B r) h)
+
+  module _ (p : ℕ) (v : Bool) (q : l ≡ Slot p) (g : v ≡ red C p) where
+    pub parent-red : (N : Next) → v ≡ true → N ≡ mendBelow n W C r x p → N ≡ mendStep n W C r x
+    unfolding mendStep
+    parent-red N z h = read-linked N n (par W x) w l below (done W (dye C x false) r) e f p q (rw (sym g ∙ z) h)
+
+    pub parent-black : v ≡ false → done W C r ≡ mendStep n W C r x
+    unfolding mendStep
+    parent-black z = read-linked (done W C r) n (par W x) w l below (done W (dye C x false) r) e f p q (rw (sym g ∙ z))
+
+-- the loop
+pub mends : (n : ℕ) → Loop (mendStep n) (mend n)
+unfolding mend
+mends n = record { stops = λ W C r x. refl; turns = λ f W C r x. refl }
+
+pub mend-stays : (n : ℕ) (W C : List ℕ) (r x : ℕ) (X D : List ℕ) (q i : ℕ) → x < n → mendStep n W C r x ≡ again X D q i → i < n
+unfolding mendStep mendBelow mendAt recoloured inner outer
+mend-stays n W C r x X D q i h e =
+    link-stays n (par W x) (λ (P : ℕ). cond (red C P) (mendBelow n W C r x P) (done W C r)) W (dye C x false) r X D q i (λ P l z. parent P (red C P) z) e
+  where
+    uncle : (P G : ℕ) (b t u : Bool) → G < n
+        → cond t (recoloured W C r P (kid W (not b) G) G) (cond u (inner n W C r x b P G) (outer n W C r b P G)) ≡ again X D q i → i < n
+    uncle P G b true u l z = let y : G ≡ i = cc in omega arith
+    uncle P G b false true l z = let y : _≡_ {A = ℕ} 0 1 = cc in absurd (omega arith)
+    uncle P G b false false l z = let y : _≡_ {A = ℕ} 0 1 = cc in absurd (omega arith)
+
+    parent : (P : ℕ) (t : Bool) → cond t (mendBelow n W C r x P) (done W C r) ≡ again X D q i → i < n
+    parent P true z =
+        link-stays n (par W P) (λ (G : ℕ). mendAt n W C r x P G (eqb (kid W true G) P)) W C r X D q i
+        (λ G l y. uncle P G (eqb (kid W true G) P) (redAt n C (kid W (not (eqb (kid W true G) P)) G)) (eqb (kid W (not (eqb (kid W true G) P)) P) x) l y) z
+    parent P false z = let y : _≡_ {A = ℕ} 0 1 = cc in absurd (omega arith)

@@ -1,0 +1,18 @@
+use Rattle.tree_in_laws.specs.Descent.{under}
+use Rattle.words.proofs.Laws.{linked, slot-live, unlinked}
+use native.Mathlib.Omega.{arith}
+use borrow.Author.Needs.{needs}
+use Rattle.tree_in.proofs.descent.slot_above.Statement.{statement}
+use Rattle.tree_in.proofs.descent.slot_above.Tie as tie
+
+pub slot-above-spec : {M : Type 1} → statement M
+unfolding under
+slot-above-spec =
+    tie.close
+    (tie.spec
+    (λ c κs. search needs)
+    (λ c. search needs)
+    (λ c. search needs)
+    (λ c. search unlinked)
+    (λ c κs. (omega arith, search slot-live))
+    (λ c. search linked))

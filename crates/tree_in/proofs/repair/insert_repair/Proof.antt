@@ -1,0 +1,35 @@
+use Rattle.tree_in.proofs.Mends.{mend-stays, mends}
+use Rattle.tree_in_laws.specs.Mend.{mend, mendStep}
+use Rattle.tree_rm_repair.proofs.Loops.{loop-done, loop-none, loop-on, loop-stays}
+use Prim.Native.Nat.{_<_}
+use lib.ListN.{length}
+use mathlib.Core.Path.{_≡_, refl}
+use native.Mathlib.Omega.{arith}
+use Rattle.tree_in.proofs.repair.insert_repair.Statement.{statement}
+use Rattle.tree_in.proofs.repair.insert_repair.Tie as tie
+
+abbrev Inv-loop : tie.InvT-loop
+Inv-loop nodes₀ colours₀ count root index at₀ top₀ turns₀ nodes colours at top turns = (mend count 32 nodes₀ colours₀ root index ≡ mend count turns nodes colours top at) × (length nodes ≡ length nodes₀) × (length colours ≡ length colours₀) × (at < count)
+
+abbrev μ-loop : tie.MeasureT-loop
+μ-loop nodes₀ colours₀ count root index at₀ top₀ turns₀ nodes colours at top turns = turns
+
+pub insert-repair-spec : {M : Type 1} → statement M
+insert-repair-spec =
+    tie.close
+    (tie.spec
+    Inv-loop
+    μ-loop
+    (λ c. (refl, refl, refl, omega arith))
+    (λ c κs. omega arith)
+    (λ c. omega arith)
+    (λ c. omega arith)
+    (λ c. omega arith)
+    (λ c. search (loop-done mendStep mend mends))
+    (λ c. omega arith)
+    (λ c. omega arith)
+    (λ c. omega arith)
+    (λ c. (search (loop-on mendStep mend mends), omega arith, omega arith, search (loop-stays mendStep mend-stays)))
+    (λ c. omega arith)
+    (λ c. omega arith)
+    (λ c. search (loop-none mendStep mend mends)))

@@ -1,0 +1,27 @@
+use Rattle.tree_in.proofs.Mends.{parent-black, parent-red, root-black}
+use Rattle.words.proofs.Laws.{slot-below, slot-live}
+use native.Mathlib.Omega.{arith}
+use borrow.Author.Needs.{needs}
+use Rattle.tree_in.proofs.repair.one_turn.Statement.{statement}
+use Rattle.tree_in.proofs.repair.one_turn.Tie as tie
+
+pub one-turn-spec : {M : Type 1} → statement M
+one-turn-spec =
+    tie.close
+    (tie.spec
+    (λ c κs. search needs)
+    (λ c κs. search needs)
+    (λ c. search needs)
+    (λ c. search needs)
+    (λ c κs. search needs)
+    (λ c. search needs)
+    (λ c. search needs)
+    (λ c. search root-black)
+    (λ c κs. search slot-below)
+    (λ c κs. (omega arith, omega arith, omega arith, search slot-live))
+    (λ c. search needs)
+    (λ c. search needs)
+    (λ c. search parent-red)
+    (λ c. search needs)
+    (λ c. search needs)
+    (λ c. search parent-black))

@@ -1,0 +1,14 @@
+use Rattle.tree_in.proofs.Mends.{inner-is}
+use borrow.Author.Needs.{needs}
+use Rattle.tree_in.proofs.repair.rotate_inner.Statement.{statement}
+use Rattle.tree_in.proofs.repair.rotate_inner.Tie as tie
+
+pub rotate-inner-spec : {M : Type 1} → statement M
+rotate-inner-spec =
+    tie.close
+    (tie.spec
+    (λ c κs. search needs)
+    (λ c κs. search needs)
+    (λ c. search needs)
+    (λ c. search needs)
+    (λ c. search inner-is))

@@ -1,0 +1,20 @@
+use Rattle.tree_in.proofs.Mends.{uncle-black, uncle-fits, uncle-red}
+use native.Mathlib.Omega.{arith}
+use borrow.Author.Needs.{needs}
+use Rattle.tree_in.proofs.repair.turn_at.Statement.{statement}
+use Rattle.tree_in.proofs.repair.turn_at.Tie as tie
+
+pub turn-at-spec : {M : Type 1} → statement M
+turn-at-spec =
+    tie.close
+    (tie.spec
+    (λ c κs. search needs)
+    (λ c κs. search needs)
+    (λ c κs. search needs)
+    (λ c. search needs)
+    (λ c. search needs)
+    (λ c. search uncle-black)
+    (λ c κs. (omega arith, search uncle-fits, omega arith))
+    (λ c. search needs)
+    (λ c. search needs)
+    (λ c. search uncle-red))

@@ -1,0 +1,25 @@
+use Rattle.tree_in.proofs.Mends.{at-grandparent}
+use Rattle.tree_in_laws.specs.Mend.{mendBelow}
+use Rattle.tree_rm_links.proofs.LinkLaws.{read-unlinked}
+use Rattle.words.proofs.Laws.{slot-live, slot-room}
+use native.Mathlib.Omega.{arith}
+use borrow.Author.Needs.{needs}
+use Rattle.tree_in.proofs.repair.turn_below.Statement.{statement}
+use Rattle.tree_in.proofs.repair.turn_below.Tie as tie
+
+pub turn-below-spec : {M : Type 1} → statement M
+unfolding mendBelow
+turn-below-spec =
+    tie.close
+    (tie.spec
+    (λ c κs. search needs)
+    (λ c κs. search needs)
+    (λ c. search needs)
+    (λ c. search needs)
+    (λ c. search needs)
+    (λ c. search read-unlinked)
+    (λ c κs. search slot-room)
+    (λ c κs. (omega arith, omega arith, omega arith, omega arith, search slot-live))
+    (λ c. search needs)
+    (λ c. search needs)
+    (λ c. search at-grandparent))

@@ -1,0 +1,18 @@
+use Rattle.tree_in.proofs.Mends.{read-equal, read-unequal}
+use borrow.Author.Needs.{needs}
+use Rattle.tree_in.proofs.repair.turn_rotated.Statement.{statement}
+use Rattle.tree_in.proofs.repair.turn_rotated.Tie as tie
+
+pub turn-rotated-spec : {M : Type 1} → statement M
+turn-rotated-spec =
+    tie.close
+    (tie.spec
+    (λ c κs. search needs)
+    (λ c κs. search needs)
+    (λ c. search needs)
+    (λ c. search needs)
+    (λ c. search read-equal)
+    (λ c κs. search needs)
+    (λ c. search needs)
+    (λ c. search needs)
+    (λ c. search read-unequal))

@@ -1,0 +1,55 @@
+// The way down to the place of a new entry.
+use words::interval::Interval;
+use words::ix::Link;
+use words::ix::U;
+use words::node::child_of;
+use words::node::interval_of;
+ghost use mathlib.Core.Path.{_≡_};
+ghost use Prim.Native.Nat.{_+_, _*_, _<_, _≤_};
+ghost use lib.ListN.{length};
+ghost use Rattle.words.specs.Nodes.{kid};
+ghost use Rattle.tree_in_laws.specs.Descent.{goesLeft, descend, under};
+
+// The new interval is less than that of slot k. An equal one goes right.
+pub fn goes_left(nodes: &[u64], interval: Interval, k: u64) -> bool
+    requires { ⌜ k * 8 + 8 ≤ length (now nodes) ⌝ }
+    ensures { λ r. ⌜ r ≡ goesLeft (now (nodes .entry)) interval k ⌝ }
+{
+    !interval_of(nodes, k).le(interval)
+}
+
+// The link word of slot k on the side that the new interval goes to.
+fn next_down(nodes: &[u64], interval: Interval, k: u64) -> u64
+    requires { ⌜ k * 8 + 8 ≤ length (now nodes) ⌝ }
+    ensures { λ r. ⌜ r ≡ kid (now (nodes .entry)) (goesLeft (now (nodes .entry)) interval k) k ⌝ }
+{
+    child_of(nodes, k, goes_left(nodes, interval, k))
+}
+
+// The slot from `top` down under which there is nothing on the side to go to.
+fn last_down(nodes: &[u64], count: u64, top: u64, interval: Interval) -> u64
+    requires { ⌜ (count * 8 ≤ length (now nodes)) × (top < count) ⌝ }
+    ensures { λ r. ⌜ r ≡ descend count 32 (now (nodes .entry)) interval top ⌝ }
+{
+    let mut current = top;
+    let mut height: u64 = 32;
+    while height > 0 {
+        let Link::Slot(child) = Link::new(next_down(nodes, interval, current), count) else {
+            return current;
+        };
+        current = child;
+        height -= 1;
+    }
+    current
+}
+
+// The slot that the new node hangs under; U where the map is empty.
+pub fn slot_above(nodes: &[u64], count: u64, root: u64, interval: Interval) -> u64
+    requires { ⌜ count * 8 ≤ length (now nodes) ⌝ }
+    ensures { λ r. ⌜ r ≡ under count (now (nodes .entry)) root interval ⌝ }
+{
+    let Link::Slot(top) = Link::new(root, count) else {
+        return U;
+    };
+    last_down(nodes, count, top, interval)
+}

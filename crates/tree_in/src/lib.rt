@@ -1,0 +1,97 @@
+// The insertion of one entry: the crate's `force_insert` and what it calls. Each function works on any words; in a store that
+// passes the check a way down is never longer than 32.
+pub mod descent;
+pub mod repair;
+
+use crate::descent::goes_left;
+use crate::descent::slot_above;
+use crate::repair::insert_repair;
+use bitvec::colours::set_red;
+use tree_rm_links::fix_intervals_up;
+use words::interval::Interval;
+use words::ix::Link;
+use words::ix::U;
+use words::node::Entry;
+use words::node::put_child;
+use words::node::put_node;
+ghost use mathlib.Core.Path.{_≡_};
+ghost use Prim.Native.Nat.{_+_, _*_, _<_, _≤_};
+ghost use lib.ListN.{length};
+ghost use Rattle.tree_rm_laws.specs.Remove.{store};
+ghost use Rattle.tree_in_laws.specs.Insert.{own, hungNode, hungWords, hungRoot, hung, mended, insertRule};
+
+// The interval of an entry.
+fn interval_in(entry: Entry) -> Interval
+    ensures { λ r. ⌜ r ≡ own entry ⌝ }
+{
+    Interval {
+        start: entry.start,
+        end: entry.end,
+    }
+}
+
+// Slot `index` holds a new node below the link word `parent`. It starts with its own interval as hull.
+fn new_node(nodes: &mut [u64], index: u64, entry: Entry, parent: u64)
+    requires { ⌜ index * 8 + 8 ≤ length (now nodes) ⌝ }
+    ensures { λ _. ⌜ now (nodes .exit) ≡ hungNode (now (nodes .entry)) index entry parent ⌝ }
+{
+    let interval = interval_in(entry);
+    put_node(nodes, index, entry, interval, U, U, parent);
+}
+
+// The new node in slot `count`, with a link from its parent where there is one; the answer is the root.
+fn hang_node(nodes: &mut [u64], count: u64, root: u64, entry: Entry, parent: u64) -> u64
+    requires { ⌜ count * 8 + 8 ≤ length (now nodes) ⌝ }
+    ensures { λ r. ⌜ (r ≡ hungRoot count root parent) × (now (nodes .exit) ≡ hungWords (now (nodes .entry)) count entry parent) ⌝ }
+{
+    let Link::Slot(above) = Link::new(parent, count) else {
+        new_node(nodes, count, entry, parent);
+        return count;
+    };
+    let left_child = goes_left(nodes, interval_in(entry), above);
+    new_node(nodes, count, entry, parent);
+    put_child(nodes, above, left_child, count);
+    root
+}
+
+// Hangs the new red node in slot `count` below the link word `parent`; the answer is the root.
+fn insert_at(
+    nodes: &mut [u64],
+    colours: &mut [u8],
+    count: u64,
+    root: u64,
+    entry: Entry,
+    parent: u64,
+) -> u64
+    requires { ⌜ (count * 8 + 8 ≤ length (now nodes)) × (count < length (now colours) * 8) ⌝ }
+    ensures { λ r. ⌜ store (now (nodes .exit)) (now (colours .exit)) r ≡ hung (now (nodes .entry)) (now (colours .entry)) count root entry parent ⌝ }
+{
+    set_red(colours, count);
+    hang_node(nodes, count, root, entry, parent)
+}
+
+// The repair from the new node, and then its hull and those of all above it; the answer is the root.
+fn mend_from(nodes: &mut [u64], colours: &mut [u8], count: u64, root: u64, index: u64) -> u64
+    requires { ⌜ (count * 8 ≤ length (now nodes)) × (count ≤ length (now colours) * 8) × (index < count) ⌝ }
+    ensures { λ r. ⌜ store (now (nodes .exit)) (now (colours .exit)) r ≡ mended (store (now (nodes .entry)) (now (colours .entry)) root) count index ⌝ }
+{
+    let top = insert_repair(nodes, colours, count, root, index);
+    fix_intervals_up(nodes, count, index);
+    top
+}
+
+// The new entry goes to slot `count`, and the count is one more then; the answer is the root. Equal intervals are kept.
+pub fn force_insert(
+    nodes: &mut [u64],
+    colours: &mut [u8],
+    count: u64,
+    root: u64,
+    entry: Entry,
+) -> u64
+    requires { ⌜ (count * 8 + 8 ≤ length (now nodes)) × (count < length (now colours) * 8) ⌝ }
+    ensures { λ r. ⌜ store (now (nodes .exit)) (now (colours .exit)) r ≡ insertRule (now (nodes .entry)) (now (colours .entry)) count root entry ⌝ }
+{
+    let parent = slot_above(nodes, count, root, interval_in(entry));
+    let top = insert_at(nodes, colours, count, root, entry, parent);
+    mend_from(nodes, colours, count + 1, top, count)
+}

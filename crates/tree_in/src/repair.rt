@@ -1,0 +1,224 @@
+// The repair after an insertion: recolour while the uncle is red, otherwise one or two rotations, root black last.
+use bitvec::colours::is_black_or_nil;
+use bitvec::colours::is_red;
+use bitvec::colours::set_black;
+use bitvec::colours::set_red;
+use tree_rm_repair::Turn;
+use tree_rm_repair::turn_up;
+use words::ix::Link;
+use words::node::child_of;
+use words::node::parent_of;
+use words::node::update_subtree_interval;
+ghost use mathlib.Core.Path.{_≡_};
+ghost use mathlib.Core.Bool.{true, false, cond, not};
+ghost use Prim.Native.Nat.{_+_, _*_, _<_, _≤_};
+ghost use lib.ListN.{length};
+ghost use lib.Dec.{eqb};
+ghost use Rattle.words.specs.Nodes.{kid};
+ghost use Rattle.bitvec.specs.Colours.{dye};
+ghost use Rattle.tree_rm_laws.specs.Links.{rootAfter};
+ghost use Rattle.tree_rm_laws.specs.Remove.{store, ending};
+ghost use Rattle.tree_rm_repair.specs.Answers.{next};
+ghost use Rattle.tree_in_laws.specs.Mend.{rotated, outer, inner, mendAt, mendBelow, mendStep, mend};
+
+// The link word of the sibling of the child on that side.
+fn sibling(nodes: &[u64], parent: u64, left_side: bool) -> u64
+    requires { ⌜ parent * 8 + 8 ≤ length (now nodes) ⌝ }
+    ensures { λ r. ⌜ r ≡ kid (now (nodes .entry)) (not «left_side») parent ⌝ }
+{
+    child_of(nodes, parent, !left_side)
+}
+
+// Rotates left where `left_side`, else right: slot `up`, the child of `index` on the other side, comes up over it. The answer
+// is the root. The hull of the one that went down is worked out first: the other's depends on it.
+fn rotate(nodes: &mut [u64], count: u64, root: u64, left_side: bool, index: u64, up: u64) -> u64
+    requires { ⌜ (count * 8 ≤ length (now nodes)) × (index < count) × (up < count) ⌝ }
+    ensures { λ r. ⌜ (r ≡ rootAfter count (now (nodes .entry)) root index up) × (now (nodes .exit) ≡ rotated count (now (nodes .entry)) «left_side» index up) ⌝ }
+{
+    let top = turn_up(nodes, count, root, left_side, index, up);
+    update_subtree_interval(nodes, count, index);
+    update_subtree_interval(nodes, count, up);
+    top
+}
+
+// The parent, on that side of the grandparent, comes up over it: the parent becomes black and the grandparent red.
+fn rotate_outer(
+    nodes: &mut [u64],
+    colours: &mut [u8],
+    count: u64,
+    root: u64,
+    left_side: bool,
+    parent: u64,
+    grandparent: u64,
+) -> Turn
+    requires { ⌜ (count * 8 ≤ length (now nodes)) × (count ≤ length (now colours) * 8) × (parent < count) × (grandparent < count) ⌝ }
+    ensures { λ r. ⌜ next r (now (nodes .exit)) (now (colours .exit)) ≡ outer count (now (nodes .entry)) (now (colours .entry)) root «left_side» parent grandparent ⌝ }
+{
+    let top = rotate(nodes, count, root, !left_side, grandparent, parent);
+    set_black(colours, parent);
+    set_red(colours, grandparent);
+    Turn::Done(top)
+}
+
+// The slot `index` is the child of its parent on the other side: it comes up over the parent first. The root stays, since
+// the parent has one too.
+fn rotate_inner(
+    nodes: &mut [u64],
+    colours: &mut [u8],
+    count: u64,
+    root: u64,
+    index: u64,
+    left_side: bool,
+    parent: u64,
+    grandparent: u64,
+) -> Turn
+    requires { ⌜ (count * 8 ≤ length (now nodes)) × (count ≤ length (now colours) * 8) × (index < count) × (parent < count) × (grandparent < count) ⌝ }
+    ensures { λ r. ⌜ next r (now (nodes .exit)) (now (colours .exit)) ≡ inner count (now (nodes .entry)) (now (colours .entry)) root index «left_side» parent grandparent ⌝ }
+{
+    rotate(nodes, count, root, left_side, parent, index);
+    rotate_outer(nodes, colours, count, root, left_side, index, grandparent)
+}
+
+// Parent and uncle become black, the grandparent red.
+fn recolour(colours: &mut [u8], parent: u64, uncle: u64, grandparent: u64)
+    requires { ⌜ (parent < length (now colours) * 8) × (uncle < length (now colours) * 8) × (grandparent < length (now colours) * 8) ⌝ }
+    ensures { λ _. ⌜ now (colours .exit) ≡ dye (dye (dye (now (colours .entry)) parent false) uncle false) grandparent true ⌝ }
+{
+    set_black(colours, parent);
+    set_black(colours, uncle);
+    set_red(colours, grandparent);
+}
+
+// One turn where the uncle is not red.
+fn turn_rotated(
+    nodes: &mut [u64],
+    colours: &mut [u8],
+    count: u64,
+    root: u64,
+    index: u64,
+    left_side: bool,
+    parent: u64,
+    grandparent: u64,
+) -> Turn
+    requires { ⌜ (count * 8 ≤ length (now nodes)) × (count ≤ length (now colours) * 8) × (index < count) × (parent < count) × (grandparent < count) ⌝ }
+    ensures { λ r. ⌜ next r (now (nodes .exit)) (now (colours .exit))
+        ≡ cond (eqb (kid (now (nodes .entry)) (not «left_side») parent) index)
+        (inner count (now (nodes .entry)) (now (colours .entry)) root index «left_side» parent grandparent)
+        (outer count (now (nodes .entry)) (now (colours .entry)) root «left_side» parent grandparent) ⌝ }
+{
+    if child_of(nodes, parent, !left_side) == index {
+        return rotate_inner(
+            nodes,
+            colours,
+            count,
+            root,
+            index,
+            left_side,
+            parent,
+            grandparent,
+        );
+    }
+    rotate_outer(nodes, colours, count, root, left_side, parent, grandparent)
+}
+
+// One turn, with the grandparent at hand and the side of it that the parent is on.
+fn turn_at(
+    nodes: &mut [u64],
+    colours: &mut [u8],
+    count: u64,
+    root: u64,
+    index: u64,
+    parent: u64,
+    grandparent: u64,
+    left_side: bool,
+) -> Turn
+    requires { ⌜ (count * 8 ≤ length (now nodes)) × (count ≤ length (now colours) * 8) × (index < count) × (parent < count) × (grandparent < count) ⌝ }
+    ensures { λ r. ⌜ next r (now (nodes .exit)) (now (colours .exit)) ≡ mendAt count (now (nodes .entry)) (now (colours .entry)) root index parent grandparent «left_side» ⌝ }
+{
+    let uncle = sibling(nodes, grandparent, left_side);
+    if is_black_or_nil(colours, count, uncle) {
+        return turn_rotated(
+            nodes,
+            colours,
+            count,
+            root,
+            index,
+            left_side,
+            parent,
+            grandparent,
+        );
+    }
+    recolour(colours, parent, uncle, grandparent);
+    Turn::Again(root, grandparent)
+}
+
+// One turn below a red parent. In a store that passes the check it has a parent too, since the root is black.
+fn turn_below(
+    nodes: &mut [u64],
+    colours: &mut [u8],
+    count: u64,
+    root: u64,
+    index: u64,
+    parent: u64,
+) -> Turn
+    requires { ⌜ (count * 8 ≤ length (now nodes)) × (count ≤ length (now colours) * 8) × (index < count) × (parent < count) ⌝ }
+    ensures { λ r. ⌜ next r (now (nodes .exit)) (now (colours .exit)) ≡ mendBelow count (now (nodes .entry)) (now (colours .entry)) root index parent ⌝ }
+{
+    let Link::Slot(grandparent) = Link::new(parent_of(nodes, parent), count) else {
+        return Turn::Done(root);
+    };
+    let left_side = child_of(nodes, grandparent, true) == parent;
+    turn_at(
+        nodes,
+        colours,
+        count,
+        root,
+        index,
+        parent,
+        grandparent,
+        left_side,
+    )
+}
+
+// One turn of the loop, at the red slot `index`.
+fn one_turn(nodes: &mut [u64], colours: &mut [u8], count: u64, root: u64, index: u64) -> Turn
+    requires { ⌜ (count * 8 ≤ length (now nodes)) × (count ≤ length (now colours) * 8) × (index < count) ⌝ }
+    ensures { λ r. ⌜ next r (now (nodes .exit)) (now (colours .exit)) ≡ mendStep count (now (nodes .entry)) (now (colours .entry)) root index ⌝ }
+{
+    let Link::Slot(parent) = Link::new(parent_of(nodes, index), count) else {
+        set_black(colours, index);
+        return Turn::Done(root);
+    };
+    if is_red(colours, parent) {
+        return turn_below(nodes, colours, count, root, index, parent);
+    }
+    Turn::Done(root)
+}
+
+// Repairs the tree from the red slot `index` upward; the answer is the root. Each turn that goes on goes up two levels, so in
+// a store that passes the check 32 turns are enough.
+pub fn insert_repair(
+    nodes: &mut [u64],
+    colours: &mut [u8],
+    count: u64,
+    root: u64,
+    index: u64,
+) -> u64
+    requires { ⌜ (count * 8 ≤ length (now nodes)) × (count ≤ length (now colours) * 8) × (index < count) ⌝ }
+    ensures { λ r. ⌜ store (now (nodes .exit)) (now (colours .exit)) r ≡ ending (mend count 32 (now (nodes .entry)) (now (colours .entry)) root index) ⌝ }
+{
+    let mut at = index;
+    let mut top = root;
+    let mut turns: u64 = 32;
+    while turns > 0 {
+        match one_turn(nodes, colours, count, top, at) {
+            Turn::Done(r) => return r,
+            Turn::Again(r, i) => {
+                top = r;
+                at = i;
+                turns -= 1;
+            }
+        }
+    }
+    top
+}
