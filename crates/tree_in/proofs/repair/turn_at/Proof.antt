@@ -14,7 +14,7 @@ turn-at-spec =
     (λ c. search needs)
     (λ c. search needs)
     (λ c. search uncle-black)
-    (λ c κs. (omega arith, search uncle-fits, omega arith))
+    (λ c κs. (omega arith, uncle-fits _ _ _ _ (c .before .before .is-black-or-nil .ensures) (omega arith) (c .before .if1 .left), omega arith))
     (λ c. search needs)
     (λ c. search needs)
     (λ c. search uncle-red))
