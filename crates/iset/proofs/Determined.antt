@@ -22,6 +22,11 @@ use Rattle.iset.specs.Remove.{RemoveAnswer, removePaper}
 use Rattle.iset.specs.declared.Map.{Map}
 use Rattle.iset.specs.declared.remove.Removal.{Removal}
 use Rattle.iset.specs.declared.remove.Removal.the-variants as removal
+use Rattle.iset.specs.Insert.{InsertAnswer, insertPaper}
+use Rattle.iset.specs.declared.insert.Insertion.{Insertion}
+use Rattle.iset.specs.declared.insert.Insertion.the-variants as insertion
+use Rattle.iset.proofs.Map.insert.Reads as insert-reads
+use Rattle.iset.proofs.Map.insert.Kinds as insert-kinds
 use Rattle.iset.proofs.Map.remove.Reads as remove-reads
 use Rattle.iset.proofs.Map.remove.Kinds as remove-kinds
 use Rattle.iter.specs.declared.Cursor.{Cursor}
@@ -96,6 +101,23 @@ pub remove-determined :
     → remove-reads.Post κs a r s → remove-reads.Post κs a r′ s′ → (r ≡ r′) × (now (s .1 .0) ≡ now (s′ .1 .0)) × (now (s .1 .1 .0) ≡ now (s′ .1 .1 .0))
 remove-determined κs a r r′ s s′ p q =
     (sym (removal-back _ r) ∙ ap removalAt (p .0 ∙ sym (q .0)) ∙ removal-back _ r′, p .1 ∙ sym (q .1), p .2 ∙ sym (q .2))
+
+-- and an insertion's
+abbrev insertionAt : InsertAnswer → Insertion
+insertionAt x =
+    cond (eqb (x .no) 0)
+    (insertion.Done (record { map = record { count = x .count; root = x .root }; slot = x .slot }))
+    (insertion.Refused (refusalAt (x .no)))
+
+insertion-back : (m : Map) (r : Insertion) → insertionAt (insertPaper m r) ≡ r
+insertion-back m (insertion.Done g) = refl
+insertion-back m (insertion.Refused y) = rw (ne-eqb (refusalNumber y) 0 (omega (arith, number-pos y)), at-number y)
+
+pub insert-determined :
+    (κs : Lfts 2) (a : K.Dens κs insert-kinds.ps) (r r′ : K.resT insert-kinds.r κs .Denot) (s s′ : AtExit (K.endedOf 2 insert-kinds.ps insert-kinds.r) κs)
+    → insert-reads.Post κs a r s → insert-reads.Post κs a r′ s′ → (r ≡ r′) × (now (s .1 .0) ≡ now (s′ .1 .0)) × (now (s .1 .1 .0) ≡ now (s′ .1 .1 .0))
+insert-determined κs a r r′ s s′ p q =
+    (sym (insertion-back _ r) ∙ ap insertionAt (p .0 ∙ sym (q .0)) ∙ insertion-back _ r′, p .1 ∙ sym (q .1), p .2 ∙ sym (q .2))
 
 -- a fresh cursor's, a step's and a drain's
 abbrev startedAt : StartAnswer → Started

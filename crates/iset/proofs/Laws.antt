@@ -2,7 +2,7 @@
 use mathlib.Core.Path.{_≡_, refl, sym, ap, _∙_}
 use mathlib.Core.Bool.{Bool, true, false, cond}
 use mathlib.Core.List.{List}
-use Prim.Native.Nat.{ℕ, _-_, _*_, _/_, _%_, _<_, _≤_}
+use Prim.Native.Nat.{ℕ, _+_, _-_, _*_, _/_, _%_, _<_, _≤_}
 use native.Mathlib.Omega.{arith}
 use lib.ListN.{length}
 use lib.Dec.{eqb, ltb}
@@ -10,10 +10,11 @@ use borrow.Author.Tests.{lt-ltb, le-ltb, ltb-false, eq-eqb, ne-eqb}
 use Rattle.words.specs.Ix.{U}
 use Rattle.words.specs.Nodes.{room}
 use Rattle.words.specs.Refusals.{refusalNumber}
+use Rattle.words.specs.declared.node.Entry.{Entry}
 use Rattle.words.specs.declared.refusal.Refusal.{Refusal}
 use Rattle.words.proofs.Refusals.{number-pos}
 use Rattle.builder.specs.Input.{allProper, sorted}
-use Rattle.tree_rm_laws.specs.Remove.{Removal}
+use Rattle.tree_rm_laws.specs.Remove.{Removal, Store, store}
 use Rattle.tree_rm.specs.Answers.{removal}
 use Rattle.tree_rm.specs.declared.remove.Removed.{Removed}
 use Rattle.iset.specs.Check.{checkNumber, checkRule}
@@ -23,7 +24,9 @@ use Rattle.iset.specs.Build.{buildNumber, BuildAnswer}
 use Rattle.iset.specs.declared.Checked.{Checked}
 use Rattle.iset.specs.declared.Checked.the-variants.{Sound, Refused}
 use Rattle.iset.proofs.Checks.{check-zero}
+use Rattle.iset.specs.Insert.{insertNumber, InsertAnswer, refusedInsertion, insertDone}
 use Rattle.iset.proofs.Removals.{accepts}
+use Rattle.iset.proofs.Insertions as insertions
 
 -- a count that the slices hold
 module _ (n words bytes c : ℕ) (e : c ≡ room words bytes) where
@@ -32,6 +35,14 @@ module _ (n words bytes c : ℕ) (e : c ≡ room words bytes) where
 
   pub in-room : {A : Type 0} (r x y : A) → n ≤ c → r ≡ y → r ≡ cond (ltb (room words bytes) n) x y
   in-room r x y h q = rw (← e, le-ltb c n h) q
+
+-- a count that the slices hold one entry more than
+module _ (n words bytes c : ℕ) (e : c ≡ room words bytes) where
+  pub has-room : {A : Type 0} (r x y : A) → n < c → r ≡ x → r ≡ cond (ltb n (room words bytes)) x y
+  has-room r x y h q = rw (← e, lt-ltb n c h) q
+
+  pub is-full : {A : Type 0} (r x y : A) → c ≤ n → r ≡ y → r ≡ cond (ltb n (room words bytes)) x y
+  is-full r x y h q = rw (← e, le-ltb n c h) q
 
 -- a call that its tests let through, and one that they refuse
 module _ {A : Type 0} (k : ℕ) (t : Checked) (e : checkNumber t ≡ k) (r x y : A) where
@@ -107,3 +118,29 @@ module _ (a : Removed) (X K : List ℕ) (R : Removal) (e : removal a X K ≡ R) 
 
   pub removed-colours : K ≡ R .store .colours
   removed-colours = ap (λ (S : Removal). S .store .colours) e
+
+-- what the tests of an insertion leave: slices with room for one entry more
+module _ (m : Map) (W C : List ℕ) (e : Entry) (t : Checked) (f : checkNumber t ≡ insertNumber m W C e) (q : t ≡ Sound) where
+  insertable : m .count < room (length W) (length C)
+  insertable = insertions.accepts m W C e (sym f ∙ ap checkNumber q) .0
+
+  pub insertable-words : m .count * 8 + 8 ≤ length W
+  insertable-words = omega (arith, insertable)
+
+  pub insertable-bytes : m .count < length C * 8
+  insertable-bytes = omega (arith, insertable)
+
+pub refused-insertion : (m : Map) (k : ℕ) (t : Checked) (z : Refusal) → checkNumber t ≡ k → t ≡ Refused z
+    → refusedInsertion m (refusalNumber z) ≡ refusedInsertion m k
+refused-insertion m k t z e q = ap (λ (i : ℕ). refusedInsertion m i) (sym (ap checkNumber q) ∙ e)
+
+-- the parts of what the insertion's code answers and leaves
+module _ (r : ℕ) (X K : List ℕ) (S : Store) (e : store X K r ≡ S) where
+  pub inserted-answer : (m : Map) → _≡_ {A = InsertAnswer} (record { no = 0; slot = m .count; count = m .count + 1; root = r }) (insertDone m S)
+  inserted-answer m = ap (λ (T : Store). insertDone m T) e
+
+  pub inserted-words : X ≡ S .words
+  inserted-words = ap (λ (T : Store). T .words) e
+
+  pub inserted-colours : K ≡ S .colours
+  inserted-colours = ap (λ (T : Store). T .colours) e

@@ -1,6 +1,7 @@
 pub mod Checks
 pub mod Builds
 pub mod Removals
+pub mod Insertions
 pub mod Sequence
 pub mod Lookups
 pub mod Found

@@ -2,4 +2,5 @@ pub mod Maps
 pub mod Check
 pub mod Build
 pub mod Remove
+pub mod Insert
 pub mod Lookup

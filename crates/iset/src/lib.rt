@@ -1,6 +1,7 @@
 // The interval map of loaded code: its public calls. Each takes any numbers and any lent slices, tests everything
 // itself, and gives the first refusal in document 01's order, with nothing lent changed.
 pub mod build;
+pub mod insert;
 pub mod lookup;
 pub mod remove;
 

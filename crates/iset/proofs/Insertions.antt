@@ -1,0 +1,54 @@
+-- What an insertion guarantees: it is refused exactly as document 02 says.
+use mathlib.Core.Path.{_≡_, refl}
+use mathlib.Core.Bool.{Bool, true, false, cond}
+use mathlib.Core.List.{List}
+use Prim.Native.Nat.{ℕ, _<_, _≤_}
+use native.Mathlib.Omega.{arith}
+use lib.ListN.{length}
+use lib.Dec.{eqb, ltb}
+use borrow.Author.Tests.{ltb-true, lt-ltb, le-ltb, ne-eqb}
+use Rattle.words.specs.Nodes.{room}
+use Rattle.words.specs.declared.node.Entry.{Entry}
+use Rattle.tree.specs.Passes.{Passes}
+use Rattle.iset.specs.Check.{checkRule}
+use Rattle.iset.specs.Insert.{properNumber, insertNumber}
+use Rattle.iset.specs.declared.Map.{Map}
+use Rattle.iset.proofs.Checks.{both-zero, check-zero}
+
+module _ (m : Map) (W C : List ℕ) (e : Entry) where
+  abbrev held : ℕ
+  held = room (length W) (length C)
+
+  -- 1 if the count has reached the capacity or is above it
+  pub no-room : held ≤ m .count → insertNumber m W C e ≡ 1
+  unfolding insertNumber
+  no-room h = rw (le-ltb (m .count) held h)
+
+  -- then the check's refusal
+  pub check-next : m .count < held → (checkRule m W C ≡ 0 → ⊥) → insertNumber m W C e ≡ checkRule m W C
+  unfolding insertNumber properNumber
+  check-next h d = rw (lt-ltb (m .count) held h, ne-eqb (checkRule m W C) 0 d)
+
+  -- 5 exactly if the store has room and passes, and the interval holds no address
+  pub bad-interval : m .count < held → checkRule m W C ≡ 0 → e .end ≤ e .start → insertNumber m W C e ≡ 5
+  unfolding insertNumber properNumber
+  bad-interval h c i = rw (lt-ltb (m .count) held h, c, le-ltb (e .start) (e .end) i)
+
+  pub accepted : m .count < held → checkRule m W C ≡ 0 → e .start < e .end → insertNumber m W C e ≡ 0
+  unfolding insertNumber properNumber
+  accepted h c i = rw (lt-ltb (m .count) held h, c, lt-ltb (e .start) (e .end) i)
+
+  pub accepts : insertNumber m W C e ≡ 0 → (m .count < held) × (checkRule m W C ≡ 0) × (e .start < e .end)
+  unfolding insertNumber properNumber
+  accepts z = go (ltb (m .count) held) (ltb (e .start) (e .end)) refl refl z
+    where
+      go : (a b : Bool) → ltb (m .count) held ≡ a → ltb (e .start) (e .end) ≡ b
+          → _≡_ {A = ℕ} (cond a (cond (eqb (checkRule m W C) 0) (cond b 0 5) (checkRule m W C)) 1) 0
+          → (m .count < held) × (checkRule m W C ≡ 0) × (e .start < e .end)
+      go true true p q y = (ltb-true (m .count) held p, both-zero (checkRule m W C) 0 y .0, ltb-true (e .start) (e .end) q)
+      go true false p q y = absurd (omega (arith, both-zero (checkRule m W C) 5 y .1))
+      go false b p q y = absurd (omega arith)
+
+  -- the tree of the store that an accepted insertion was made in
+  pub tree-before : insertNumber m W C e ≡ 0 → Passes W C (m .count) (m .root)
+  tree-before z = check-zero m W C (accepts z .1) .1

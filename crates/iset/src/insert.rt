@@ -1,0 +1,90 @@
+// Adding one entry.
+use crate::Checked;
+use crate::Map;
+use tree_in::force_insert;
+use words::node::Entry;
+use words::node::capacity;
+use words::refusal::Refusal;
+ghost use mathlib.Core.Path.{_≡_};
+ghost use Prim.Native.Nat.{_+_, _*_, _≤_, _<_};
+ghost use lib.ListN.{length};
+ghost use Rattle.tree_in_laws.specs.Insert.{insertRule};
+ghost use Rattle.iset.specs.Check.{checkNumber};
+ghost use Rattle.iset.specs.Insert.{entryOf, properNumber, insertNumber, insertDone, insertPaper, insertCall, insertNodes, insertColours};
+
+// The map with the entry, and the entry's slot.
+pub struct Added {
+    pub map: Map,
+    pub slot: u64,
+}
+
+// What an insertion answers. Where it is refused the map is as it was given.
+pub enum Insertion {
+    Done(Added),
+    Refused(Refusal),
+}
+
+impl Map {
+    // The first refusal of an entry in a store that has room for it.
+    fn test_entry(self, nodes: &[u64], colours: &[u8], entry: Entry) -> Checked
+        ensures { λ r. ⌜ checkNumber r ≡ properNumber self (now (nodes .entry)) (now (colours .entry)) entry ⌝ }
+    {
+        match self.check(nodes, colours) {
+            Checked::Refused(why) => Checked::Refused(why),
+            Checked::Sound => if entry.start < entry.end {
+                Checked::Sound
+            } else {
+                Checked::Refused(Refusal::BadInterval)
+            },
+        }
+    }
+
+    // The first refusal of an insertion. A count that has reached the capacity, or is above it, has no room.
+    fn test_insert(self, nodes: &[u64], colours: &[u8], entry: Entry) -> Checked
+        ensures { λ r. ⌜ checkNumber r ≡ insertNumber self (now (nodes .entry)) (now (colours .entry)) entry ⌝ }
+    {
+        if self.count < capacity(nodes.len(), colours.len()) {
+            self.test_entry(nodes, colours, entry)
+        } else {
+            Checked::Refused(Refusal::NoRoom)
+        }
+    }
+
+    // The insertion of an entry that there is room for.
+    fn insert_entry(self, nodes: &mut [u64], colours: &mut [u8], entry: Entry) -> Insertion
+        requires { ⌜ (self .count * 8 + 8 ≤ length (now nodes)) × (self .count < length (now colours) * 8) ⌝ }
+        ensures { λ r. ⌜ (insertPaper self r ≡ insertDone self (insertRule (now (nodes .entry)) (now (colours .entry)) (self .count) (self .root) entry))
+            × (now (nodes .exit) ≡ insertRule (now (nodes .entry)) (now (colours .entry)) (self .count) (self .root) entry .words)
+            × (now (colours .exit) ≡ insertRule (now (nodes .entry)) (now (colours .entry)) (self .count) (self .root) entry .colours) ⌝ }
+    {
+        let count = self.count;
+        let root = force_insert(nodes, colours, count, self.root, entry);
+        Insertion::Done(Added {
+            map: Map {
+                count: count + 1,
+                root,
+            },
+            slot: count,
+        })
+    }
+
+    // Adds one entry in slot `count`; no other entry changes slot. Equal intervals are kept, the new one after them.
+    pub fn insert(
+        self,
+        nodes: &mut [u64],
+        colours: &mut [u8],
+        start: u64,
+        end: u64,
+        value: u64,
+    ) -> Insertion
+        ensures { λ r. ⌜ (insertPaper self r ≡ insertCall self (now (nodes .entry)) (now (colours .entry)) (entryOf start end value))
+            × (now (nodes .exit) ≡ insertNodes self (now (nodes .entry)) (now (colours .entry)) (entryOf start end value))
+            × (now (colours .exit) ≡ insertColours self (now (nodes .entry)) (now (colours .entry)) (entryOf start end value)) ⌝ }
+    {
+        let entry = Entry { start, end, value };
+        let Checked::Refused(why) = self.test_insert(nodes, colours, entry) else {
+            return self.insert_entry(nodes, colours, entry);
+        };
+        Insertion::Refused(why)
+    }
+}
