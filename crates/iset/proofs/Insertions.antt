@@ -1,4 +1,5 @@
--- What an insertion guarantees: it is refused exactly as document 02 says.
+-- What an insertion guarantees: it is refused exactly as document 02 says, and what it leaves passes the check and holds the old entries in
+-- their slots and their order, with the new one among them.
 use mathlib.Core.Path.{_≡_, refl}
 use mathlib.Core.Bool.{Bool, true, false, cond}
 use mathlib.Core.List.{List}
@@ -10,6 +11,9 @@ use borrow.Author.Tests.{ltb-true, lt-ltb, le-ltb, ne-eqb}
 use Rattle.words.specs.Nodes.{room}
 use Rattle.words.specs.declared.node.Entry.{Entry}
 use Rattle.tree.specs.Passes.{Passes}
+use Rattle.tree_in_laws.specs.Insert.{insertRule}
+use Rattle.tree_in_laws.specs.Inserted.{Inserted}
+use Rattle.tree_in_laws.proofs.Insertion.{inserted}
 use Rattle.iset.specs.Check.{checkRule}
 use Rattle.iset.specs.Insert.{properNumber, insertNumber}
 use Rattle.iset.specs.declared.Map.{Map}
@@ -52,3 +56,8 @@ module _ (m : Map) (W C : List ℕ) (e : Entry) where
   -- the tree of the store that an accepted insertion was made in
   pub tree-before : insertNumber m W C e ≡ 0 → Passes W C (m .count) (m .root)
   tree-before z = check-zero m W C (accepts z .1) .1
+
+  pub inserts : (z : insertNumber m W C e ≡ 0) → Inserted W C (m .count) (m .root) e (tree-before z) (insertRule W C (m .count) (m .root) e)
+  inserts z =
+      let h : m .count < held = accepts z .0 in
+      inserted W C (m .count) (m .root) e (omega arith) (omega arith) (omega arith) (accepts z .2) (tree-before z)

@@ -36,8 +36,7 @@ module _ (n words bytes c : ℕ) (e : c ≡ room words bytes) where
   pub in-room : {A : Type 0} (r x y : A) → n ≤ c → r ≡ y → r ≡ cond (ltb (room words bytes) n) x y
   in-room r x y h q = rw (← e, le-ltb c n h) q
 
--- a count that the slices hold one entry more than
-module _ (n words bytes c : ℕ) (e : c ≡ room words bytes) where
+  -- and one entry more than that
   pub has-room : {A : Type 0} (r x y : A) → n < c → r ≡ x → r ≡ cond (ltb n (room words bytes)) x y
   has-room r x y h q = rw (← e, lt-ltb n c h) q
 

@@ -3,4 +3,5 @@ pub mod Check
 pub mod Build
 pub mod Remove
 pub mod Insert
+pub mod Sequence
 pub mod Lookup
