@@ -3,7 +3,7 @@
 use mathlib.Core.Path.{_≡_, refl}
 use mathlib.Core.Bool.{cond}
 use mathlib.Core.List.{List, [], _∷_}
-use Prim.Native.Nat.{ℕ, zero, suc, _+_, _-_, _*_, _/_, _≤_}
+use Prim.Native.Nat.{ℕ, zero, suc, _+_, _-_, _/_, _≤_}
 use native.Mathlib.Omega.{arith}
 use lib.ListN.{length}
 use lib.Dec.{eqb}
@@ -50,14 +50,15 @@ build-then-remove W C S l e w =
     (omega (arith, a .room-for, b .bits-length)) (b .passes) w
 
 -- a build, and any insertions and removals after it that find their slot or room
-pub build-then-change : (W C S : List ℕ) (l : List Change) → buildNumber (length W) (length C) S ≡ 0 → TakesAll (room (length W) (length C)) (length S / 3) l
+pub build-then-change : (W C S : List ℕ) (l : List Change) → buildNumber (length W) (length C) S ≡ 0
+    → TakesAll (room (length W) (length C)) (length S / 3) l
     → Passes (run (builtStore W C S) (length S / 3) l .words) (run (builtStore W C S) (length S / 3) l .colours) (total (length S / 3) l)
     (run (builtStore W C S) (length S / 3) l .root)
 build-then-change W C S l e t =
     let a : Accepted (length W) (length C) S = accepted (length W) (length C) S e in
     let b : Built S W C (length S / 3) (buildNodes W C S) (buildColour W C S) (buildRule W C S .root) = builds W C S e in
-    ran l (builtStore W C S) (length S / 3) (room (length W) (length C)) (omega arith) (omega (arith, b .words-length)) (omega (arith, b .bits-length))
-    (a .room-for) (b .passes) t .0
+    ran l (builtStore W C S) (length S / 3) (room (length W) (length C)) (omega arith) (omega (arith, b .words-length))
+    (omega (arith, b .bits-length)) (a .room-for) (b .passes) t .0
 
 -- the map of no entries passes in any words
 pub empty-passes : (W C : List ℕ) → checkRule emptyMap W C ≡ 0
@@ -93,7 +94,8 @@ module _ (m : Map) (W C : List ℕ) where
   unfolding buildRule buildNodes buildColour
   build-sound l =
       by-number (λ (a : BuildAnswer). a .count) (λ (a : BuildAnswer). a .root) (buildNumber (length W) (length C) l)
-      (record { no = 0; count = length l / 3; root = buildRoot (length l / 3) }) (record { no = buildNumber (length W) (length C) l; count = 0; root = U })
+      (record { no = 0; count = length l / 3; root = buildRoot (length l / 3) })
+      (record { no = buildNumber (length W) (length C) l; count = 0; root = U })
       (buildWords l (length l / 3) W) W (buildColours (length l / 3) C) C
       (λ e. let a : Accepted (length W) (length C) l = accepted (length W) (length C) l e in
       let b = rw (eq-eqb (buildNumber (length W) (length C) l) 0 e) at (builds W C l e) in

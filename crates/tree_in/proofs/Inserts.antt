@@ -5,7 +5,7 @@ use mathlib.Core.List.{List}
 use Prim.Native.Nat.{ℕ, zero, suc, _+_, _-_, _*_, _<_, _≤_}
 use native.Mathlib.Omega.{arith}
 use native.Mathlib.Numerals.{sub-one}
-use Rattle.words.specs.Ix.{U, linkOf, onLink}
+use Rattle.words.specs.Ix.{U, linkOf}
 use Rattle.words.specs.Nodes.{kid, putKid, putNode}
 use Rattle.words.specs.declared.interval.Interval.{Interval}
 use Rattle.words.specs.declared.ix.Link.{Link}

@@ -7,7 +7,7 @@ use native.Mathlib.Omega.{arith}
 use lib.ListN.{length}
 use lib.Dec.{eqb}
 use borrow.Author.Tests.{eq-eqb, ne-eqb}
-use Rattle.words.specs.Ix.{linkOf, onLink}
+use Rattle.words.specs.Ix.{linkOf}
 use Rattle.words.specs.Nodes.{kid, par, fix}
 use Rattle.words.specs.declared.ix.Link.{Link}
 use Rattle.words.specs.declared.ix.Link.the-variants.{Slot, Nil}
@@ -59,8 +59,8 @@ module _ (n : ℕ) (C : List ℕ) (u : ℕ) (v : Bool) (f : v ≡ not (redAt n C
     uncle-red D q h = rw (← e, red-child v (redAt n C u) true f (ap not q), ← h)
 
 -- the grandparent g, and the parent p of the slot x
-pub at-grandparent : (n : ℕ) (W C : List ℕ) (r x P : ℕ) (N : Next) (w g t : ℕ) (l : Link) → w ≡ par W P → l ≡ linkOf n w → l ≡ Slot g → t ≡ kid W true g
-    → N ≡ mendAt n W C r x P g (eqb t P) → N ≡ mendBelow n W C r x P
+pub at-grandparent : (n : ℕ) (W C : List ℕ) (r x P : ℕ) (N : Next) (w g t : ℕ) (l : Link) → w ≡ par W P → l ≡ linkOf n w → l ≡ Slot g
+    → t ≡ kid W true g → N ≡ mendAt n W C r x P g (eqb t P) → N ≡ mendBelow n W C r x P
 unfolding mendBelow
 at-grandparent n W C r x P N w g t l e q k f h = at-side (λ (G : ℕ) (b : Bool). mendAt n W C r x P G b) (done W C r) n W P N w g t l e q k f h
 
@@ -89,7 +89,8 @@ mends n = record { stops = λ W C r x. refl; turns = λ f W C r x. refl }
 pub mend-stays : (n : ℕ) (W C : List ℕ) (r x : ℕ) (X D : List ℕ) (q i : ℕ) → x < n → mendStep n W C r x ≡ again X D q i → i < n
 unfolding mendStep mendBelow mendAt recoloured inner outer
 mend-stays n W C r x X D q i h e =
-    link-stays n (par W x) (λ (P : ℕ). cond (red C P) (mendBelow n W C r x P) (done W C r)) W (dye C x false) r X D q i (λ P l z. parent P (red C P) z) e
+    link-stays n (par W x) (λ (P : ℕ). cond (red C P) (mendBelow n W C r x P) (done W C r)) W (dye C x false) r X D q i
+    (λ P l z. parent P (red C P) z) e
   where
     uncle : (P G : ℕ) (b t u : Bool) → G < n
         → cond t (recoloured W C r P (kid W (not b) G) G) (cond u (inner n W C r x b P G) (outer n W C r b P G)) ≡ again X D q i → i < n
@@ -100,5 +101,6 @@ mend-stays n W C r x X D q i h e =
     parent : (P : ℕ) (t : Bool) → cond t (mendBelow n W C r x P) (done W C r) ≡ again X D q i → i < n
     parent P true z =
         link-stays n (par W P) (λ (G : ℕ). mendAt n W C r x P G (eqb (kid W true G) P)) W C r X D q i
-        (λ G l y. uncle P G (eqb (kid W true G) P) (redAt n C (kid W (not (eqb (kid W true G) P)) G)) (eqb (kid W (not (eqb (kid W true G) P)) P) x) l y) z
+        (λ G l y. uncle P G (eqb (kid W true G) P) (redAt n C (kid W (not (eqb (kid W true G) P)) G))
+        (eqb (kid W (not (eqb (kid W true G) P)) P) x) l y) z
     parent P false z = let y : _≡_ {A = ℕ} 0 1 = cc in absurd (omega arith)

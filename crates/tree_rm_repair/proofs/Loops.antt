@@ -32,8 +32,10 @@ pub record Loop (step : List ℕ → List ℕ → ℕ → ℕ → Next) (run : �
 module _ (step : ℕ → List ℕ → List ℕ → ℕ → ℕ → Next) (run : ℕ → ℕ → List ℕ → List ℕ → ℕ → ℕ → Next) (loop : (n : ℕ) → Loop (step n) (run n)) where
   -- one turn was made
   module _ (n f : ℕ) (N : Next) (W C : List ℕ) (r ix : ℕ) (X D : List ℕ) (t : T.Turn) (q : ℕ) where
-    turned : (g : ℕ) → N ≡ run n (suc g) W C r ix → next t X D ≡ step n W C r ix → (u : T.Turn) → t ≡ u → N ≡ goOn (next u X D) (λ A B a j. run n g A B a j)
-    turned g e p u z = e ∙ loop n .turns g W C r ix ∙ ap (λ (s : Next). goOn s (λ A B a j. run n g A B a j)) (sym p ∙ ap (λ (s : T.Turn). next s X D) z)
+    turned : (g : ℕ) → N ≡ run n (suc g) W C r ix → next t X D ≡ step n W C r ix
+        → (u : T.Turn) → t ≡ u → N ≡ goOn (next u X D) (λ A B a j. run n g A B a j)
+    turned g e p u z =
+        e ∙ loop n .turns g W C r ix ∙ ap (λ (s : Next). goOn s (λ A B a j. run n g A B a j)) (sym p ∙ ap (λ (s : T.Turn). next s X D) z)
 
     pub loop-on : (i : ℕ) → N ≡ run n f W C r ix → next t X D ≡ step n W C r ix → t ≡ ts.Again q i → 0 < f → N ≡ run n (f - 1) X D q i
     loop-on i e p z h = go f e h
@@ -56,5 +58,6 @@ module _ (step : ℕ → List ℕ → List ℕ → ℕ → ℕ → Next) (run : 
 -- the loop stands at a slot
 module _ (step : ℕ → List ℕ → List ℕ → ℕ → ℕ → Next)
     (stays : (n : ℕ) (W C : List ℕ) (r ix : ℕ) (X D : List ℕ) (q i : ℕ) → ix < n → step n W C r ix ≡ again X D q i → i < n) where
-  pub loop-stays : (n : ℕ) (W C : List ℕ) (r ix : ℕ) (X D : List ℕ) (t : T.Turn) (q i : ℕ) → t ≡ ts.Again q i → next t X D ≡ step n W C r ix → ix < n → i < n
+  pub loop-stays : (n : ℕ) (W C : List ℕ) (r ix : ℕ) (X D : List ℕ) (t : T.Turn) (q i : ℕ)
+      → t ≡ ts.Again q i → next t X D ≡ step n W C r ix → ix < n → i < n
   loop-stays n W C r ix X D t q i z p h = stays n W C r ix X D q i h (sym p ∙ ap (λ (s : T.Turn). next s X D) z)
