@@ -104,6 +104,11 @@ class Drive:
         numbers.end()
         return self.on_store(model.remove, slot)
 
+    def do_insert(self, numbers):
+        entry = numbers.one(), numbers.one(), numbers.one()
+        numbers.end()
+        return self.on_store(model.insert, *entry)
+
     def do_fresh(self, numbers):
         query = numbers.query()
         numbers.end()
