@@ -31,7 +31,7 @@ CHANGES = {
     "iter.rs": [
         ("    fn push(& mut self) {\n", "    fn push(& mut self) {\n        crate::probe::count_push();\n"),
     ],
-    # The five cases of the repair are counted, by side.
+    # The five cases of removal's repair are counted, by side.
     "tree_rm.rs": [
         (text, text + f"\n                crate::probe::count_case({number}, node_is_left);")
         for number, text in enumerate((
@@ -41,6 +41,19 @@ CHANGES = {
             "else if sibling_black && distant_nephew_black && !close_nephew_black {",
             "debug_assert!(sibling_black && !distant_nephew_black);",
         ))
+    ],
+    # So are the three of insertion's repair, by the side of the parent: a red uncle, two rotations, one.
+    "lib.rs": [
+        (text, text + f"\n                crate::probe::count_case({number}, {left});")
+        for number, left, text in (
+            (5, "parent == self.nodes[grandparent.get()].left", "if uncle.defined() && self.is_red(uncle) {"),
+            (6, "true", "self.rotate_left(parent);"),
+            (6, "false", "self.rotate_right(parent);"),
+        )
+    ] + [
+        ("                index = self.nodes[index.get()].right;\n            }\n",
+         "                index = self.nodes[index.get()].right;\n            } else {\n"
+         "                crate::probe::count_case(7, parent == self.nodes[grandparent.get()].left);\n            }\n"),
     ],
 }
 

@@ -52,7 +52,7 @@ pub mod probe {
 
     static PUSHES: AtomicU64 = AtomicU64::new(0);
     const NONE: AtomicU64 = AtomicU64::new(0);
-    static CASES: [AtomicU64; 10] = [NONE; 10];
+    static CASES: [AtomicU64; 16] = [NONE; 16];
 
     pub fn count_push() {
         PUSHES.fetch_add(1, Relaxed);
@@ -66,7 +66,7 @@ pub mod probe {
         CASES[2 * number + !left as usize].fetch_add(1, Relaxed);
     }
 
-    /// How often each case of the repair ran: case 1 left, case 1 right, case 2 left, ...
+    /// How often each case of a repair ran, the five of removal and the three of insertion: case 1 left, case 1 right, case 2 left, ...
     pub fn cases() -> Vec<u64> {
         CASES.iter().map(|c| c.load(Relaxed)).collect()
     }

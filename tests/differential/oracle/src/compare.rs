@@ -20,6 +20,28 @@ impl Difference {
     }
 }
 
+/// Whether a request inserts an interval that the store has. The session's store is still the one before it.
+fn is_of_an_equal(request: &str, session: &Session) -> bool {
+    let Some(entry) = request.strip_prefix("insert ") else { return false };
+    let numbers: Vec<u64> = entry.split(' ').map(|n| n.parse().expect("no number")).collect();
+    session.store.has(numbers[0], numbers[1])
+}
+
+/// How often each case of a repair ran. Whether all did, on both sides.
+fn show_cases(cases: &[u64], names: &[&str]) -> bool {
+    for (sides, name) in cases.chunks(2).zip(names) {
+        println!("{:>9} {name} on the left; {} on the right", sides[0], sides[1]);
+    }
+    if cases.contains(&0) {
+        println!("a case of the repair did not occur");
+    }
+    !cases.contains(&0)
+}
+
+const REMOVAL: [&str; 5] = ["repair case 1, node", "repair case 2, node", "repair case 3, node", "repair case 4, node", "repair case 5, node"];
+
+const INSERTION: [&str; 3] = ["insertion: red uncle, parent", "insertion: two rotations, parent", "insertion: one rotation, parent"];
+
 /// 0 if all is equal and every case of the repair was seen on both sides; else 1.
 pub fn run(requests: &str, answers: &str) -> i32 {
     let open = |name: &str| BufReader::new(File::open(name).expect(name)).lines().map(|l| l.expect("text is wanted"));
@@ -50,6 +72,8 @@ pub fn run(requests: &str, answers: &str) -> i32 {
         let number = crate_says.split(' ').next().unwrap();
         if number != "0" {
             *counts.entry(format!("(refused {number:0>2})")).or_default() += 1;
+        } else if is_of_an_equal(&request, &session) {
+            *counts.entry("(inserted beside an equal entry)".to_string()).or_default() += 1;
         }
         if crate_says != drive_says && !apart {
             differed = true;
@@ -80,13 +104,9 @@ pub fn run(requests: &str, answers: &str) -> i32 {
     for (kind, count) in &counts {
         println!("{count:>9} {kind}");
     }
-    if counts.contains_key("remove") {
-        let cases = probe::cases();
-        for (i, sides) in cases.chunks(2).enumerate() {
-            println!("{:>9} repair case {}, node on the left; {} on the right", sides[0], i + 1, sides[1]);
-        }
-        if cases.contains(&0) {
-            println!("a case of the repair did not occur");
+    let cases = probe::cases();
+    for (kind, cases, names) in [("remove", &cases[..10], &REMOVAL[..]), ("insert", &cases[10..], &INSERTION)] {
+        if counts.contains_key(kind) && !show_cases(cases, names) {
             return 1;
         }
     }

@@ -44,7 +44,7 @@ pub fn wanted(kind: &str) -> bool {
 
 /// Whether any wanted request needs a store.
 pub fn on_stores() -> bool {
-    ["check", "remove", "lookup", "exact"].iter().any(|kind| wanted(kind))
+    ["check", "remove", "insert", "lookup", "exact"].iter().any(|kind| wanted(kind))
 }
 
 /// Where addresses are taken from.
@@ -89,7 +89,7 @@ impl<'a> Gen<'a> {
         }
     }
 
-    fn range(&mut self, keys: Keys) -> (u64, u64) {
+    pub fn range(&mut self, keys: Keys) -> (u64, u64) {
         loop {
             let a = self.point(keys);
             let b = match keys {
@@ -278,33 +278,107 @@ impl<'a> Gen<'a> {
         }
     }
 
-    /// Removals one after the other. A cursor made before is tried on the store after them.
+    /// What was done becomes the store. A cursor made before is tried on it, and at times a new one is made; at times the store is checked.
+    fn settle(&mut self, carried: &mut Vec<(Query, Cursor)>, keys: Keys) {
+        self.say("commit");
+        for (query, c) in std::mem::take(carried) {
+            self.step(query, c);
+            self.drain(query, c, 2, 2);
+        }
+        if self.rng.one_in(4) {
+            let query = if self.rng.one_in(2) { self.overlap(keys) } else { self.exact(keys) };
+            let kind = if matches!(query, Query::Exact(..)) { "exact" } else { "lookup" };
+            if wanted(kind) && query.refusal() == 0 {
+                let a = self.say(&format!("fresh {}", query.text()));
+                let (slot, c) = self.step(query, Cursor { slot: a[1], levels: a[2], bits: a[3] });
+                if slot != U {
+                    carried.push((query, c));
+                }
+            }
+        }
+        if wanted("check") && self.rng.one_in(16) {
+            self.say("check");
+        }
+    }
+
+    /// Removals one after the other.
     pub fn chain(&mut self, length: u64, keys: Keys) {
         let way = self.rng.below(6);
-        let mut carried: Vec<(Query, Cursor)> = vec![];
+        let mut carried = vec![];
         for _ in 0..length.min(self.session.store.count) {
             let slot = self.pick(way);
             self.say(&format!("remove {slot}"));
-            self.say("commit");
-            for (query, c) in std::mem::take(&mut carried) {
-                self.step(query, c);
-                self.drain(query, c, 2, 2);
-            }
-            if self.rng.one_in(4) {
-                let query = if self.rng.one_in(2) { self.overlap(keys) } else { self.exact(keys) };
-                let kind = if matches!(query, Query::Exact(..)) { "exact" } else { "lookup" };
-                if wanted(kind) && query.refusal() == 0 {
-                    let a = self.say(&format!("fresh {}", query.text()));
-                    let (slot, c) = self.step(query, Cursor { slot: a[1], levels: a[2], bits: a[3] });
-                    if slot != U {
-                        carried.push((query, c));
-                    }
-                }
-            }
-            if wanted("check") && self.rng.one_in(16) {
-                self.say("check");
-            }
+            self.settle(&mut carried, keys);
         }
+    }
+
+    /// Gives a store so many slots more than it has entries, at least, with anything in them.
+    pub fn widen(&mut self, store: &mut Store, more: u64) {
+        let slots = store.count + more;
+        while (store.words.len() as u64) < 8 * slots {
+            store.words.push(self.rng.next());
+        }
+        while (store.bytes.len() as u64) * 8 < slots {
+            store.bytes.push(self.rng.next() as u8);
+        }
+    }
+
+    /// An insertion after all entries, before them, equal to one of them, or anywhere; at times of what is no interval. Gives the refusal's number.
+    pub fn insert(&mut self, way: u64, keys: Keys) -> u64 {
+        let store = &self.session.store;
+        let mut there = (0..store.count).map(|slot| (store.link(slot, 0), store.link(slot, 1)));
+        let some = match way {
+            0 => there.max().map(|(a, b)| (a, b.saturating_add(1))),
+            1 => there.min().map(|(a, b)| (a.saturating_sub(1), b)),
+            2 if store.count > 0 => there.nth(self.rng.below(store.count) as usize),
+            _ => None,
+        };
+        let (a, b) = if self.rng.one_in(5) { None } else { some }.unwrap_or_else(|| self.range(keys));
+        let (a, b) = match self.rng.below(40) {
+            0 => (b, a),
+            1 => (a, a),
+            _ => (a, b),
+        };
+        let value = self.rng.below(100);
+        self.say(&format!("insert {a} {b} {value}"))[0]
+    }
+
+    /// Insertions and removals mixed. The store grows until it is full, shrinks until it is empty, or turns before that.
+    pub fn mixed(&mut self, length: u64, keys: Keys) {
+        let (mut lean, mut way) = (8, self.rng.below(6));
+        let mut carried = vec![];
+        for _ in 0..length {
+            if self.rng.one_in(64) {
+                lean = 2 + 3 * self.rng.below(3);
+                way = self.rng.below(6);
+            }
+            let count = self.session.store.count;
+            if count == 0 {
+                lean = 8;
+            }
+            if count == 0 || !wanted("remove") || self.rng.below(10) < lean {
+                if self.insert(way, keys) == 1 {
+                    lean = 2;
+                }
+            } else {
+                let slot = self.pick(way);
+                self.say(&format!("remove {slot}"));
+            }
+            self.settle(&mut carried, keys);
+        }
+    }
+
+    /// Into the present store, given more room: single insertions, then a mixed chain, and what is left is damaged.
+    pub fn insertions(&mut self, more: u64, keys: Keys) {
+        let mut store = self.session.store.clone();
+        self.widen(&mut store, more);
+        self.say(&store.line());
+        for _ in 0..6 {
+            let way = self.rng.below(6);
+            self.insert(way, keys);
+        }
+        self.mixed(3 * more + 6, keys);
+        self.damage(keys);
     }
 
     /// Builds into slices of any content, sometimes refused. The last good one becomes the store.
@@ -379,6 +453,9 @@ impl<'a> Gen<'a> {
         }
         if wanted("remove") {
             self.say(&format!("remove {slot}"));
+        }
+        if wanted("insert") {
+            self.insert(3, keys);
         }
         if wanted("lookup") {
             let query = self.overlap(keys);
@@ -497,6 +574,13 @@ impl<'a> Gen<'a> {
             let length = if count < 60 || self.rng.one_in(2) { count } else { 30 };
             self.chain(length, keys);
             self.queries(1, 3, keys);
+        }
+        if wanted("insert") {
+            // What the removals left, or the store before them.
+            if self.rng.one_in(2) {
+                self.say(&whole);
+            }
+            self.insertions(n, keys);
         }
     }
 }

@@ -28,6 +28,11 @@ impl Store {
         self.words[8 * slot as usize + word]
     }
 
+    /// Whether an entry has this interval.
+    pub fn has(&self, start: u64, end: u64) -> bool {
+        (0..self.count).any(|slot| (self.link(slot, 0), self.link(slot, 1)) == (start, end))
+    }
+
     /// The held cursor of a slot under `top`, by the parent links; none where it is not under it.
     pub fn held(&self, top: u64, slot: u64) -> Option<Cursor> {
         if slot >= self.count {
@@ -214,6 +219,7 @@ impl Session {
             "check" => self.store_refusal().to_string(),
             "build" => self.build(&t.list()),
             "remove" => self.remove(t.num()),
+            "insert" => self.insert(t.num(), t.num(), t.num()),
             "step" => self.step(t.query(), t.cursor()),
             "drain" => self.drain(t.query(), t.cursor(), t.num(), t.num()),
             "fresh" => return Some(self.fresh(t.query())),
@@ -310,6 +316,33 @@ impl Session {
         pairs.resize(3, (U, U));
         let pairs: Vec<_> = pairs.iter().map(|p| format!("{} {}", p.0, p.1)).collect();
         format!("0 {} {} {root} {}", self.store.link(slot, 2), left.count, pairs.join(" "))
+    }
+
+    fn insert(&mut self, start: u64, end: u64, value: u64) -> String {
+        let count = self.store.count;
+        let bad = start >= end;
+        if bad {
+            assert!(panics(|| probe::Map::new().force_insert(start..end, 0)), "force_insert takes what is refused here");
+        }
+        let full = count >= self.store.capacity();
+        let no = if full { 1 } else if self.broken { 2 } else if bad { 5 } else { 0 };
+        if no != 0 {
+            return format!("{no} {count} {} {U}", self.store.root);
+        }
+        let mut map = self.map();
+        map.force_insert(start..end, count);
+        let (words, colours, root) = probe::read(&map);
+        let left = &mut self.left_store;
+        left.count = count + 1;
+        left.root = root as u64;
+        left.words[..words.len()].copy_from_slice(&words);
+        left.bytes.copy_from_slice(&colours);
+        // Inside the map a value is the slot the entry had before; the new one's is the old count.
+        for slot in 0..left.count {
+            assert_eq!(left.link(slot, 2), slot, "an entry lies in another slot");
+            left.words[8 * slot as usize + 2] = if slot == count { value } else { self.store.link(slot, 2) };
+        }
+        format!("0 {} {root} {count}", left.count)
     }
 
     /// Where a fresh cursor of this query stands.

@@ -1,4 +1,5 @@
-//! Every red-black tree of up to 8 nodes, each slot removed, with the slots numbered in several ways; and a build of every size up to 130.
+//! Every red-black tree of up to 8 nodes, each slot removed and an entry inserted at each place, with the slots numbered in several ways; and a build of
+//! every size up to 130.
 
 use crate::gen::{on_stores, wanted, Rng};
 use crate::session::{Store, U};
@@ -34,13 +35,18 @@ fn trees(n: usize, blacks: usize, may_be_red: bool) -> Vec<Option<Box<Tree>>> {
     all
 }
 
+/// The interval of the k-th node in tree order.
+fn interval(k: u64, equal: bool) -> (u64, u64) {
+    if equal { (5, 9) } else { (3 * k, 3 * k + 1 + (7 * k + 3) % 11) }
+}
+
 /// Puts a tree into the store: the k-th node in tree order lies in slot `slots[k]`. Gives its slot and hull.
 fn put(tree: &Option<Box<Tree>>, parent: u64, next: &mut usize, slots: &[u64], equal: bool, store: &mut Store) -> (u64, u64, u64) {
     let Some(node) = tree else { return (U, u64::MAX, 0) };
     let size_of_left = size(&node.left);
     let k = *next + size_of_left;
     let slot = slots[k];
-    let (start, end) = if equal { (5, 9) } else { (3 * k as u64, 3 * k as u64 + 1 + (7 * k as u64 + 3) % 11) };
+    let (start, end) = interval(k as u64, equal);
     let left = put(&node.left, slot, next, slots, equal, store);
     *next += 1;
     let right = put(&node.right, slot, next, slots, equal, store);
@@ -90,6 +96,28 @@ pub fn run() {
     }
 }
 
+/// What is inserted: into distinct entries an interval for each gap, once short and once with an end beyond all others, and one equal to each entry; into
+/// equal ones an equal interval, a lesser and a greater one. Each gap of a tree is one of the places where a new node can hang.
+fn newcomers(n: u64, equal: bool) -> Vec<(u64, u64)> {
+    if equal {
+        return vec![(5, 9), (5, 8), (4, 99), (5, 10), (6, 7)];
+    }
+    let gaps = (0..=n).map(|k| (3 * k).saturating_sub(1)).flat_map(|start| [(start, start + 1), (start, 99)]);
+    // Before [0,4) there is room for [0,1) alone.
+    gaps.filter(|entry| *entry != (0, 99)).chain((0..n).map(|k| interval(k, false))).collect()
+}
+
+/// Insertions into the store, given one slot more with anything in it. The new slot's colour bit is red before in every other store.
+fn insertions(mut store: Store, number: usize, equal: bool, out: &mut impl Write) {
+    store.words.extend([9; 8]);
+    store.bytes.resize(store.count as usize / 8 + 1, 0);
+    store.bytes[store.count as usize / 8] |= ((number % 2) as u8) << (store.count % 8);
+    writeln!(out, "{}", store.line()).unwrap();
+    for (start, end) in newcomers(store.count, equal) {
+        writeln!(out, "insert {start} {end} 7").unwrap();
+    }
+}
+
 fn trees_of_up_to_8(out: &mut impl Write) {
     let mut rng = Rng::new(8);
     for n in 1..=8 {
@@ -104,6 +132,9 @@ fn trees_of_up_to_8(out: &mut impl Write) {
                     }
                     if wanted("remove") {
                         (0..n).for_each(|slot| writeln!(out, "remove {slot}").unwrap());
+                    }
+                    if wanted("insert") {
+                        insertions(store.clone(), i, equal, out);
                     }
                     if wanted("exact") && i == 0 && equal {
                         writeln!(out, "fresh e 5 9\ndrain e 5 9 {} 1 0 8 8", store.root).unwrap();

@@ -37,34 +37,59 @@ fn examples(gen: &mut Gen) {
     gen.say("bfrom 10 1");
 }
 
-/// Stores that show a case of the repair not seen so far.
-fn repairs(gen: &mut Gen) {
-    gen.say("# each case of the repair, on each side");
-    let mut seen = [false; 10];
-    while seen.contains(&false) {
+/// Stores that show a case of a repair not seen so far: by removals the first ten, node on the left and on the right, by insertions the others.
+fn repairs(gen: &mut Gen, cases: std::ops::Range<usize>) {
+    let mut seen = vec![];
+    while seen.len() < cases.len() {
         let n = 5 + gen.rng.below(8);
         let keys = gen.keys();
-        let store = gen.store(n, keys);
-        for slot in 0..store.count {
+        let mut store = gen.store(n, keys);
+        let requests: Vec<_> = if cases.start == 0 {
+            (0..store.count).map(|slot| format!("remove {slot}")).collect()
+        } else {
+            gen.widen(&mut store, 1);
+            (0..4).map(|_| gen.range(keys)).map(|(a, b)| format!("insert {a} {b} 5")).collect()
+        };
+        for request in requests {
             let before = probe::cases();
             let mut trial = Session::new();
             trial.answer(&store.line());
-            trial.answer(&format!("remove {slot}"));
-            let now: Vec<_> = (0..10).filter(|i| probe::cases()[*i] > before[*i]).collect();
-            if now.iter().any(|i| !seen[*i]) {
-                now.iter().for_each(|i| seen[*i] = true);
+            trial.answer(&request);
+            let now = cases.clone().filter(|i| probe::cases()[*i] > before[*i]);
+            let new: Vec<_> = now.filter(|i| !seen.contains(i)).collect();
+            if !new.is_empty() {
+                seen.extend(new);
                 gen.say(&store.line());
-                gen.say(&format!("remove {slot}"));
+                gen.say(&request);
                 break;
             }
         }
     }
 }
 
+/// The first entry and what follows it, an entry beside its equals, each refusal, room given up by a removal and used again.
+fn insertions(gen: &mut Gen) {
+    gen.say("# insertions: one after the other from the empty map, equal ones too, until it is full");
+    gen.say(&format!("store 0 4294967295 64{} 1 255", " 7".repeat(64)));
+    for entry in ["5 9 1", "5 9 2", "5 8 3", "1 20 4", "5 9 5", "9 5 6", "7 7 7", "30 40 8", "0 2 9", "5 9 10", "50 60 11", "60 50 12"] {
+        gen.say(&format!("insert {entry}"));
+        gen.say("commit");
+    }
+    gen.say("check");
+    gen.say("drain o 2 0 2 0 1 1 0 8 8");
+    for request in ["remove 3", "insert 4 9 13", "insert 3 4 14"] {
+        gen.say(request);
+        gen.say("commit");
+    }
+    gen.say("# each case of insertion's repair, on each side");
+    repairs(gen, 10..16);
+}
+
 pub fn run(seed: u64) {
     let mut gen = Gen::new(seed, Box::new(std::io::BufWriter::new(std::io::stdout().lock())));
     examples(&mut gen);
-    repairs(&mut gen);
+    gen.say("# each case of the repair, on each side");
+    repairs(&mut gen, 0..10);
     gen.say("# lookups, builds, removals down to nothing");
     for (n, keys) in [(0, Keys::Small), (9, Keys::Small), (7, Keys::Edges), (15, Keys::Medium), (20, Keys::Wide)] {
         gen.build(n, keys);
@@ -81,4 +106,11 @@ pub fn run(seed: u64) {
     gen.say("# bits and stacks");
     gen.bits(36);
     gen.stack(36);
+    insertions(&mut gen);
+    gen.say("# insertions and removals mixed");
+    for (n, keys) in [(0, Keys::Small), (6, Keys::Small), (7, Keys::Edges)] {
+        let store = gen.store(n, keys);
+        gen.say(&store.line());
+        gen.insertions(6, keys);
+    }
 }
