@@ -2,6 +2,7 @@
 use crate::settings;
 use driver_lookups::lookups;
 use driver_map::build;
+use driver_map::insert;
 use driver_map::remove;
 use driver_map::store;
 use driver_state::answer::what;
@@ -24,6 +25,8 @@ fn requests(
         build::build(s, numbers, words, octets, out)
     } else if check::same(name, b"remove ") {
         remove::remove(s, numbers, words, octets, out)
+    } else if check::same(name, b"insert ") {
+        insert::insert(s, numbers, words, octets, out)
     } else {
         lookups::request(s, name, numbers, words, octets, out)
     }

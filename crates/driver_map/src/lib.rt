@@ -1,4 +1,5 @@
-// The requests of docs/DRIVE.md that check, build and remove.
+// The requests of docs/DRIVE.md that check, build, remove and insert.
 pub mod build;
+pub mod insert;
 pub mod remove;
 pub mod store;
