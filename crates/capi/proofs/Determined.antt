@@ -10,6 +10,8 @@ use Rattle.capi.proofs.iset_build.Reads as build-reads
 use Rattle.capi.proofs.iset_build.Kinds as build-kinds
 use Rattle.capi.proofs.iset_remove.Reads as remove-reads
 use Rattle.capi.proofs.iset_remove.Kinds as remove-kinds
+use Rattle.capi.proofs.iset_insert.Reads as insert-reads
+use Rattle.capi.proofs.iset_insert.Kinds as insert-kinds
 use Rattle.capi.proofs.lookup.iset_fresh.Reads as fresh-reads
 use Rattle.capi.proofs.lookup.iset_fresh.Kinds as fresh-kinds
 use Rattle.capi.proofs.lookup.iset_fresh_exact.Reads as fresh-exact-reads
@@ -50,6 +52,16 @@ pub remove-determined :
     × (now (s .1 .1 .0) ≡ now (s′ .1 .1 .0))
     × (now (s .1 .1 .1 .0) ≡ now (s′ .1 .1 .1 .0))
 remove-determined κs a r r′ s s′ p q = (p .0 ∙ sym (q .0), p .1 ∙ sym (q .1), p .2 ∙ sym (q .2), p .3 ∙ sym (q .3))
+
+pub insert-determined :
+    (κs : Lfts 3) (a : K.Dens κs insert-kinds.ps) (r r′ : K.resT insert-kinds.r κs .Denot)
+    (s s′ : AtExit (K.endedOf 3 insert-kinds.ps insert-kinds.r) κs)
+    → insert-reads.Post κs a r s → insert-reads.Post κs a r′ s′
+    → (r ≡ r′)
+    × (now (s .1 .1 .1 .1 .1 .1 .1 .0) ≡ now (s′ .1 .1 .1 .1 .1 .1 .1 .0))
+    × (now (s .1 .1 .0) ≡ now (s′ .1 .1 .0))
+    × (now (s .1 .1 .1 .0) ≡ now (s′ .1 .1 .1 .0))
+insert-determined κs a r r′ s s′ p q = (p .0 ∙ sym (q .0), p .1 ∙ sym (q .1), p .2 ∙ sym (q .2), p .3 ∙ sym (q .3))
 
 pub fresh-determined :
     (κs : Lfts 1) (a : K.Dens κs fresh-kinds.ps) (r r′ : K.resT fresh-kinds.r κs .Denot)

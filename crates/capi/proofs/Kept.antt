@@ -6,13 +6,15 @@ use Prim.Native.Nat.{ℕ}
 use lib.ListN.{length}
 use lib.Dec.{ltb}
 use borrow.Author.Tests.{eq-eqb, ne-eqb}
+use Rattle.words.specs.declared.node.Entry.{Entry}
 use Rattle.iter.specs.declared.Cursor.{Cursor}
 use Rattle.iter.specs.declared.rules.Query.{Query}
 use Rattle.iset.specs.Build.{buildNumber, buildRule, buildNodes, buildColour}
 use Rattle.iset.specs.Remove.{removeNumber, removeCall, removeNodes, removeColours}
+use Rattle.iset.specs.Insert.{insertNumber, insertCall, insertNodes, insertColours}
 use Rattle.iset.specs.Lookup.{drainNumber, drainCall, drainOutput}
 use Rattle.iset.specs.declared.Map.{Map}
-use Rattle.capi.specs.Replies.{Reply, number, handed, left, buildTold, removeTold, drainTold}
+use Rattle.capi.specs.Replies.{Reply, number, handed, left, buildTold, removeTold, insertTold, drainTold}
 use Rattle.capi.specs.Ranges.{ranged}
 
 pub answer-kept : (A : List ℕ) (R : Reply) → (number A R ≡ 0 → ⊥) → handed A R ≡ A
@@ -63,6 +65,19 @@ module _ (A : List ℕ) (m : Map) (W C : List ℕ) (s : ℕ) (d : number A (remo
   pub remove-colours-kept : left A (removeTold m W C s) C (removeColours m W C s) ≡ C
   unfolding removeColours
   remove-colours-kept = left-kept A (removeTold m W C s) C (removeColours m W C s) (λ f. rw (ne-eqb (removeNumber m W C s) 0 (remove-refused f))) d
+
+module _ (A : List ℕ) (m : Map) (W C : List ℕ) (e : Entry) (d : number A (insertTold m W C e) ≡ 0 → ⊥) where
+  insert-refused : (insertCall m W C e .no ≡ 0 → ⊥) → insertNumber m W C e ≡ 0 → ⊥
+  unfolding insertCall
+  insert-refused f z = f (rw (eq-eqb (insertNumber m W C e) 0 z))
+
+  pub insert-nodes-kept : left A (insertTold m W C e) W (insertNodes m W C e) ≡ W
+  unfolding insertNodes
+  insert-nodes-kept = left-kept A (insertTold m W C e) W (insertNodes m W C e) (λ f. rw (ne-eqb (insertNumber m W C e) 0 (insert-refused f))) d
+
+  pub insert-colours-kept : left A (insertTold m W C e) C (insertColours m W C e) ≡ C
+  unfolding insertColours
+  insert-colours-kept = left-kept A (insertTold m W C e) C (insertColours m W C e) (λ f. rw (ne-eqb (insertNumber m W C e) 0 (insert-refused f))) d
 
 module _ (A : List ℕ) (m : Map) (W C : List ℕ) (q : Query) (c : Cursor) (limit : ℕ) (out : List ℕ) where
   drain-refused : (drainCall m W C q c limit (length out) .no ≡ 0 → ⊥) → drainNumber m W C q c limit (length out) ≡ 0 → ⊥

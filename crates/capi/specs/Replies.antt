@@ -6,6 +6,7 @@ use Prim.Native.Nat.{ℕ}
 use lib.ListN.{length}
 use lib.Dec.{eqb, ltb}
 use Rattle.words.specs.declared.interval.Interval.{Interval}
+use Rattle.words.specs.declared.node.Entry.{Entry}
 use Rattle.tree_rm_laws.specs.declared.pairs.Pairs.{Pairs}
 use Rattle.iter.specs.Answers.{answer}
 use Rattle.iter.specs.Drains.{filled}
@@ -14,6 +15,7 @@ use Rattle.iter.specs.declared.rules.Query.{Query}
 use Rattle.iter.specs.declared.seek.Step.{Step}
 use Rattle.iset.specs.Build.{BuildAnswer, buildRule}
 use Rattle.iset.specs.Remove.{RemoveAnswer, removeCall}
+use Rattle.iset.specs.Insert.{InsertAnswer, insertCall}
 use Rattle.iset.specs.Lookup.{StartAnswer, StepAnswer, DrainAnswer, startCall, stepCall, drainCall}
 use Rattle.iset.specs.declared.Map.{Map}
 
@@ -56,6 +58,13 @@ goneNumbers value count root p =
 abbrev pub removeReply : RemoveAnswer → Reply
 removeReply a = record { no = a .no; numbers = goneNumbers (a .value) (a .count) (a .root) (a .pairs) }
 
+-- an insertion: the new map and the slot of the new entry
+abbrev pub addedNumbers : ℕ → ℕ → ℕ → List ℕ
+addedNumbers count root slot = count ∷ root ∷ slot ∷ []
+
+abbrev pub insertReply : InsertAnswer → Reply
+insertReply a = record { no = a .no; numbers = addedNumbers (a .count) (a .root) (a .slot) }
+
 -- a cursor: slot, levels, bits
 abbrev pub cursorNumbers : Cursor → List ℕ
 cursorNumbers c = c .slot ∷ c .levels ∷ c .bits ∷ []
@@ -89,6 +98,9 @@ buildTold W C S = buildReply (buildRule W C S)
 
 abbrev pub removeTold : Map → List ℕ → List ℕ → ℕ → Reply
 removeTold m W C slot = removeReply (removeCall m W C slot)
+
+abbrev pub insertTold : Map → List ℕ → List ℕ → Entry → Reply
+insertTold m W C e = insertReply (insertCall m W C e)
 
 abbrev pub startTold : Map → List ℕ → List ℕ → Interval → Reply
 startTold m W C x = startReply (startCall m W C x)

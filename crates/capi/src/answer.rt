@@ -1,5 +1,6 @@
 // Writing the numbers of an answer, in the order that include/iset.h declares.
 use iset::Map;
+use iset::insert::Added;
 use iset::remove::Gone;
 use iter::Cursor;
 use iter::drain::Drained;
@@ -9,7 +10,7 @@ ghost use mathlib.Core.Path.{_≡_};
 ghost use Prim.Native.Nat.{_≤_};
 ghost use lib.ListN.{length};
 ghost use Rattle.iter.specs.Drains.{filled};
-ghost use Rattle.capi.specs.Replies.{mapNumbers, goneNumbers, cursorNumbers, stepNumbers, foundNumbers, drainNumbers};
+ghost use Rattle.capi.specs.Replies.{mapNumbers, goneNumbers, addedNumbers, cursorNumbers, stepNumbers, foundNumbers, drainNumbers};
 
 // Writes the numbers to the front of the answer. Places past them stay.
 pub fn put(numbers: &[u64], answer: &mut [u64])
@@ -47,6 +48,14 @@ pub fn put_gone(g: Gone, answer: &mut [u64])
         p.third.old,
         p.third.new,
     ];
+    put(&numbers, answer);
+}
+
+pub fn put_added(a: Added, answer: &mut [u64])
+    requires { ⌜ 3 ≤ length (now answer) ⌝ }
+    ensures { λ _. ⌜ now (answer .exit) ≡ filled (addedNumbers (a .map .count) (a .map .root) (a .slot)) (now (answer .entry)) ⌝ }
+{
+    let numbers = [a.map.count, a.map.root, a.slot];
     put(&numbers, answer);
 }
 

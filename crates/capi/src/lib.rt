@@ -8,17 +8,20 @@ pub mod answer;
 pub mod lookup;
 pub mod range;
 
+use crate::answer::put_added;
 use crate::answer::put_gone;
 use crate::answer::put_map;
 use iset::Checked;
 use iset::Map;
 use iset::build::Built;
+use iset::insert::Insertion;
 use iset::remove::Removal;
 ghost use mathlib.Core.Path.{_≡_};
 ghost use Rattle.iset.specs.Check.{checkRule};
 ghost use Rattle.iset.specs.Build.{buildNodes, buildColour};
 ghost use Rattle.iset.specs.Remove.{removeNodes, removeColours};
-ghost use Rattle.capi.specs.Replies.{mapOf, number, handed, left, buildTold, removeTold};
+ghost use Rattle.iset.specs.Insert.{entryOf, insertNodes, insertColours};
+ghost use Rattle.capi.specs.Replies.{mapOf, number, handed, left, buildTold, removeTold, insertTold};
 
 // The exports' own refusals. Their numbers leave room for refusals that the map may get after the ten of crate words.
 pub const SHORT_ANSWER: u64 = 101;
@@ -91,6 +94,41 @@ pub extern "C" fn iset_remove(
         Removal::Refused(why) => why.number(),
         Removal::Done(g) => {
             put_gone(g, answer);
+            0
+        }
+    }
+}
+
+// Adds an entry in slot `count`; no other entry changes slot. Answer: count, root, the entry's slot.
+#[no_mangle]
+pub extern "C" fn iset_insert(
+    count: u64,
+    root: u64,
+    nodes: &mut [u64],
+    colours: &mut [u8],
+    start: u64,
+    end: u64,
+    value: u64,
+    answer: &mut [u64],
+) -> u64
+    ensures { λ r. ⌜ (r
+        ≡ number (now (answer .entry)) (insertTold (mapOf count root) (now (nodes .entry)) (now (colours .entry)) (entryOf start end value)))
+        × (now (answer .exit)
+        ≡ handed (now (answer .entry)) (insertTold (mapOf count root) (now (nodes .entry)) (now (colours .entry)) (entryOf start end value)))
+        × (now (nodes .exit)
+        ≡ left (now (answer .entry)) (insertTold (mapOf count root) (now (nodes .entry)) (now (colours .entry)) (entryOf start end value))
+        (now (nodes .entry)) (insertNodes (mapOf count root) (now (nodes .entry)) (now (colours .entry)) (entryOf start end value)))
+        × (now (colours .exit)
+        ≡ left (now (answer .entry)) (insertTold (mapOf count root) (now (nodes .entry)) (now (colours .entry)) (entryOf start end value))
+        (now (colours .entry)) (insertColours (mapOf count root) (now (nodes .entry)) (now (colours .entry)) (entryOf start end value))) ⌝ }
+{
+    if answer.len() < 3 {
+        return SHORT_ANSWER;
+    }
+    match (Map { count, root }).insert(nodes, colours, start, end, value) {
+        Insertion::Refused(why) => why.number(),
+        Insertion::Done(a) => {
+            put_added(a, answer);
             0
         }
     }
