@@ -15,8 +15,8 @@
  * What the caller sees to is what an array is: a pointer holds as many elements as its length says, and no array that a call may write overlaps
  * another one of that call or is in use elsewhere while it runs. An array of length 0 may have any pointer, NULL too.
  *
- * A slot is good until the next removal: that names the entries that changed slot, or look up again. A cursor that is carried over a removal
- * is judged against the new store.
+ * A slot is good until the next removal: that names the entries that changed slot, or look up again. An insertion moves no old entry: every
+ * slot stays good. A cursor that is carried over a removal or an insertion is judged against the new store.
  *
  * An example, which prints `removed value 1, 4 left; slot 1: [10, 30)`:
  *
@@ -57,7 +57,7 @@
 /* What a call returns. */
 enum {
     ISET_OK = 0,
-    ISET_NO_ROOM = 1,         /* the count, or the entries to build, are more than the arrays hold */
+    ISET_NO_ROOM = 1,         /* the count, or the entries to build, or the count and the entry to insert, are more than the arrays hold */
     ISET_BROKEN = 2,          /* the store does not pass the check */
     ISET_NO_SUCH = 3,         /* the slot is not below the count */
     ISET_BAD_RANGE = 4,       /* no bound is Unbounded, and lo > hi, or lo == hi unless both are Included */
@@ -76,7 +76,14 @@ enum {
 enum { ISET_INCLUDED = 0, ISET_EXCLUDED = 1, ISET_UNBOUNDED = 2 };
 
 /* How many numbers an answer has. */
-enum { ISET_BUILD_ANSWER = 2, ISET_REMOVE_ANSWER = 9, ISET_FRESH_ANSWER = 3, ISET_STEP_ANSWER = 5, ISET_DRAIN_ANSWER = 5 };
+enum {
+    ISET_BUILD_ANSWER = 2,
+    ISET_REMOVE_ANSWER = 9,
+    ISET_INSERT_ANSWER = 3,
+    ISET_FRESH_ANSWER = 3,
+    ISET_STEP_ANSWER = 5,
+    ISET_DRAIN_ANSWER = 5
+};
 
 #ifdef __cplusplus
 extern "C" {
@@ -97,6 +104,12 @@ uint64_t iset_build(uint64_t *nodes, size_t nodes_len, uint8_t *colours, size_t 
  * Refusals: SHORT_ANSWER, NO_ROOM, BROKEN, NO_SUCH. */
 uint64_t iset_remove(uint64_t count, uint64_t root, uint64_t *nodes, size_t nodes_len, uint8_t *colours, size_t colours_len, uint64_t slot,
     uint64_t *answer, size_t answer_len);
+
+/* Adds one entry, in slot count; no other entry changes slot. It comes after the entries that are equal to it, which stay.
+ * Answer: count, root, its slot, which is the count before.
+ * Refusals: SHORT_ANSWER, NO_ROOM where the count has reached what the arrays hold or is above it, BROKEN, BAD_INTERVAL. */
+uint64_t iset_insert(uint64_t count, uint64_t root, uint64_t *nodes, size_t nodes_len, uint8_t *colours, size_t colours_len,
+    uint64_t start, uint64_t end, uint64_t value, uint64_t *answer, size_t answer_len);
 
 /* Where a lookup of the entries that intersect a range begins. The map is tested where the cursor is used.
  * Answer: slot, levels, bits: the cursor.

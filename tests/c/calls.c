@@ -8,7 +8,7 @@
 
 #include "iset.h"
 
-#define WORDS 48
+#define WORDS 64
 #define BYTES 2
 #define LIST 16
 #define PLACES 66
@@ -97,6 +97,26 @@ static void remove_in(const char *name, uint64_t slot, size_t room) {
 
 static void remove_slot(const char *name, uint64_t slot) {
     remove_in(name, slot, ISET_REMOVE_ANSWER);
+}
+
+// An insertion moves no old entry, and leaves the slots past the new one.
+static void insert_in(const char *name, uint64_t start, uint64_t end, uint64_t value, size_t room) {
+    begin(room);
+    uint64_t no = iset_insert(now.count, now.root, now.nodes, now.words, now.colours, now.bytes, start, end, value, now.answer, room);
+    line(name, no, ISET_INSERT_ANSWER, 0, 1);
+    if (no == 0) {
+        now.count = now.answer[0];
+        now.root = now.answer[1];
+        printf(" colours %d", now.colours[0]);
+        for (size_t i = 0; i < before.count; i++)
+            if (differ(now.nodes, before.nodes, i * 8, i * 8 + 3)) printf(" ENTRY MOVED");
+        if (differ(now.nodes, before.nodes, now.count * 8, WORDS)) printf(" NODES PAST CHANGED");
+    }
+    printf("\n");
+}
+
+static void insert(const char *name, uint64_t start, uint64_t end, uint64_t value) {
+    insert_in(name, start, end, value, ISET_INSERT_ANSWER);
 }
 
 // A query: exact, by start and end; or a range, by two bounds. A cursor. A limit.
@@ -206,6 +226,46 @@ static void built_and_removed(void) {
     remove_slot("then remove 0", 0);
 }
 
+// Store A with room for a sixth entry.
+static void store_a_wide(void) {
+    store_a();
+    now.words = 48;
+}
+
+static void ordered(void) {
+    struct query all = range(ISET_UNBOUNDED, 0, ISET_UNBOUNDED, 0);
+    limit = 0;
+    check("check"), fresh("fresh", all), drain("all drain", all);
+}
+
+static void inserted(void) {
+    lend(40, 1);
+    for (size_t i = 0; i < 15; i += 3) insert("grown insert", LIST_A[i], LIST_A[i + 1], LIST_A[i + 2]);
+    ordered(), links("slot 1", 1), links("slot 3", 3);
+    lend(40, 1);
+    for (size_t i = 15; i > 0; i -= 3) insert("grown from the end insert", LIST_A[i - 3], LIST_A[i - 2], LIST_A[i - 1]);
+    ordered();
+    store_a_wide(), insert("A insert [30, 35)", 30, 35, 6), ordered(), links("slot 5", 5);
+    store_a_wide(), insert("A insert [0, 2^64 - 1)", 0, UINT64_MAX, 6), ordered();
+    store_a_wide(), insert("A insert an equal of slot 0", 10, 20, 6), ordered();
+    lend(40, 1);
+    build("B build", LIST_B, 9);
+    insert("B insert an equal", 5, 9, 4), insert("and one more", 5, 9, 5), ordered();
+    store_a(), remove_slot("A remove 0", 0), insert("in its room insert", 10, 20, 6), ordered(), insert("then insert", 10, 20, 7);
+}
+
+static void refused_insertions(void) {
+    store_a(), insert("count at capacity", 30, 35, 6), now.root = 5, insert("broken too", 35, 30, 6);
+    store_a_wide(), now.words = 47, insert("47 words", 30, 35, 6);
+    store_a_wide(), now.bytes = 0, insert("no colours", 30, 35, 6);
+    store_a(), now.count = 6, insert("count above capacity", 30, 35, 6), now.count = UINT64_MAX, insert("count 2^64 - 1", 30, 35, 6);
+    store_a_wide(), now.root = 5, insert("root 5", 30, 35, 6), insert("an empty interval too", 30, 30, 6);
+    store_a_wide(), now.colours[0] = 13, insert("a red root", 30, 35, 6);
+    store_a_wide(), insert("an empty interval", 30, 30, 6), insert("one that ends before its start", 30, 29, 6);
+    insert_in("a short answer", 30, 35, 6, 2), insert_in("and an empty interval", 30, 30, 6, 2), insert_in("no answer", 30, 35, 6, 0);
+    ordered();
+}
+
 static void looked_up(void) {
     struct query some = range(ISET_INCLUDED, 20, ISET_EXCLUDED, 25), all = range(ISET_UNBOUNDED, 0, ISET_UNBOUNDED, 0);
     store_a();
@@ -240,6 +300,8 @@ static void bad_stores(void) {
     printf(", with an entry: %" PRIu64, iset_check(1, 0, NULL, 0, NULL, 0));
     uint64_t no = iset_build(NULL, 0, NULL, 0, NULL, 0, now.answer, ISET_BUILD_ANSWER);
     printf(", build: %" PRIu64 " %" PRIu64 " %" PRIu64, no, now.answer[0], now.answer[1]);
+    printf(", insert: %" PRIu64, iset_insert(0, ISET_U, NULL, 0, NULL, 0, 1, 2, 3, now.answer, ISET_INSERT_ANSWER));
+    printf(", with no answer: %" PRIu64, iset_insert(0, ISET_U, NULL, 0, NULL, 0, 1, 2, 3, NULL, 0));
     printf(", answer: %" PRIu64 "\n", iset_fresh(0, ISET_U, NULL, 0));
 }
 
@@ -284,7 +346,7 @@ static void short_answers(void) {
     check("check");
 }
 
-// 65,535 entries fit, 65,536 give NoRoom.
+// 65,535 entries fit, 65,536 give NoRoom, by a build and by an insertion.
 static void most(void) {
     size_t n = 65536;
     uint64_t *nodes = calloc(n * 8, sizeof *nodes), *list = malloc(n * 3 * sizeof *list), answer[9];
@@ -294,6 +356,11 @@ static void most(void) {
     printf("65536 entries: %" PRIu64, iset_build(nodes, n * 8, colours, n / 8, list, n * 3, answer, 9));
     uint64_t no = iset_build(nodes, n * 8, colours, n / 8, list, n * 3 - 3, answer, 9);
     printf(", 65535: %" PRIu64 " %" PRIu64 " %" PRIu64, no, answer[0], answer[1]);
+    printf(", check: %" PRIu64, iset_check(answer[0], answer[1], nodes, n * 8, colours, n / 8));
+    printf(", insert: %" PRIu64, iset_insert(answer[0], answer[1], nodes, n * 8, colours, n / 8, 1, 2, 3, answer, 9));
+    printf(", remove: %" PRIu64, iset_remove(answer[0], answer[1], nodes, n * 8, colours, n / 8, 7, answer, 9));
+    no = iset_insert(answer[1], answer[2], nodes, n * 8, colours, n / 8, 1, 2, 3, answer, 9);
+    printf(", insert: %" PRIu64 " %" PRIu64 " %" PRIu64 " %" PRIu64, no, answer[0], answer[1], answer[2]);
     printf(", check: %" PRIu64 "\n", iset_check(answer[0], answer[1], nodes, n * 8, colours, n / 8));
     free(nodes);
     free(list);
@@ -302,6 +369,8 @@ static void most(void) {
 
 int main(void) {
     built_and_removed();
+    inserted();
+    refused_insertions();
     looked_up();
     bad_stores();
     bad_lists();
