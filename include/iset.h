@@ -57,7 +57,7 @@
 /* What a call returns. */
 enum {
     ISET_OK = 0,
-    ISET_NO_ROOM = 1,         /* the count, or the entries to build, or the count and the entry to insert, are more than the arrays hold */
+    ISET_NO_ROOM = 1,         /* the arrays do not hold the count, the entries to build, or, at an insertion, one entry more */
     ISET_BROKEN = 2,          /* the store does not pass the check */
     ISET_NO_SUCH = 3,         /* the slot is not below the count */
     ISET_BAD_RANGE = 4,       /* no bound is Unbounded, and lo > hi, or lo == hi unless both are Included */

@@ -34,6 +34,20 @@ extern "C" {
         answer_len: usize,
     ) -> u64;
 
+    pub fn iset_insert(
+        count: u64,
+        root: u64,
+        nodes: *mut u64,
+        nodes_len: usize,
+        colours: *mut u8,
+        colours_len: usize,
+        start: u64,
+        end: u64,
+        value: u64,
+        answer: *mut u64,
+        answer_len: usize,
+    ) -> u64;
+
     pub fn iset_fresh(count: u64, root: u64, answer: *mut u64, answer_len: usize) -> u64;
 
     pub fn iset_fresh_exact(

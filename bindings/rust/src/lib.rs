@@ -84,6 +84,14 @@ impl Removed {
     }
 }
 
+/// What an insertion answers.
+#[derive(Clone, Copy, Debug, PartialEq, Eq)]
+pub struct Inserted {
+    pub map: Map,
+    /// The slot of the new entry: the count before.
+    pub slot: u64,
+}
+
 /// The place of a lookup. [`Map::fresh`] and [`Map::fresh_exact`] make the first one, steps and drains the next ones.
 #[derive(Clone, Copy, Debug, PartialEq, Eq)]
 pub struct Cursor {
@@ -208,6 +216,60 @@ impl Map {
                 map,
                 value: a[0],
                 pairs: [(a[3], a[4]), (a[5], a[6]), (a[7], a[8])],
+            },
+        )
+    }
+
+    /// Adds an entry, after those that are equal to it. No other entry changes slot. Refusals: NoRoom where the slices hold no entry more,
+    /// Broken, BadInterval.
+    ///
+    #[cfg_attr(iset_linked, doc = "```")]
+    #[cfg_attr(not(iset_linked), doc = "```no_run")]
+    /// use iset_capi::{Map, Refusal};
+    ///
+    /// # fn main() -> Result<(), Refusal> {
+    /// let (mut nodes, mut colours) = ([0; 2 * 8], [0; 1]);
+    /// let first = Map::new().insert(&mut nodes, &mut colours, 15, 30, 8)?;
+    /// let second = first.map.insert(&mut nodes, &mut colours, 10, 20, 7)?;
+    /// assert_eq!((first.slot, second.slot), (0, 1));
+    /// assert_eq!(second.map.insert(&mut nodes, &mut colours, 10, 20, 9), Err(Refusal::NoRoom));
+    /// # Ok(())
+    /// # }
+    /// ```
+    pub fn insert(
+        self,
+        nodes: &mut [u64],
+        colours: &mut [u8],
+        start: u64,
+        end: u64,
+        value: u64,
+    ) -> Result<Inserted, Refusal> {
+        let mut answer = [0; 3];
+        // SAFETY: as in `build`.
+        let number = unsafe {
+            ffi::iset_insert(
+                self.count,
+                self.root,
+                nodes.as_mut_ptr(),
+                nodes.len(),
+                colours.as_mut_ptr(),
+                colours.len(),
+                start,
+                end,
+                value,
+                answer.as_mut_ptr(),
+                answer.len(),
+            )
+        };
+        let map = Map {
+            count: answer[0],
+            root: answer[1],
+        };
+        told(
+            number,
+            Inserted {
+                map,
+                slot: answer[2],
             },
         )
     }

@@ -13,7 +13,7 @@ use core::fmt;
 #[derive(Clone, Copy, Debug, PartialEq, Eq, Hash)]
 #[repr(u64)]
 pub enum Refusal {
-    /// The count, or the entries to build, are more than the slices hold.
+    /// The slices do not hold the count, the entries to build, or, at an insertion, one entry more.
     NoRoom = 1,
     /// The store does not pass the check.
     Broken = 2,

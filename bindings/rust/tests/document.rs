@@ -29,6 +29,18 @@ impl Store {
         }
     }
 
+    /// Inserts the entry start, end, value, and gives its slot.
+    fn insert(&mut self, [start, end, value]: [u64; 3]) -> u64 {
+        let added = self
+            .map
+            .insert(&mut self.nodes, &mut self.colours, start, end, value)
+            .unwrap();
+        assert_eq!(added.map.count, self.map.count + 1);
+        assert_eq!(added.map.check(&self.nodes, &self.colours), Ok(()));
+        self.map = added.map;
+        added.slot
+    }
+
     fn all(&self, query: Query, buffer: usize) -> Result<Vec<u64>, Refusal> {
         self.map
             .hits(&self.nodes, &self.colours, query, &mut vec![0; buffer])
@@ -107,6 +119,31 @@ fn removed() {
         b.map = gone.map;
     }
     assert_eq!(b.map, Map::new());
+}
+
+#[test]
+fn inserted() {
+    let mut a = Store::of(&[]);
+    let entries = [[40, 50, 4], [10, 20, 1], [25, 40, 3], [10, 20, 2]];
+    for (slot, entry) in entries.into_iter().enumerate() {
+        assert_eq!(a.insert(entry), slot as u64);
+    }
+    // an equal one comes after its equals
+    assert_eq!(a.all(Query::overlap(..), 4), Ok(vec![1, 3, 2, 0]));
+    // room given up by a removal is used again
+    a.map = a.map.remove(&mut a.nodes, &mut a.colours, 1).unwrap().map;
+    assert_eq!((a.insert([12, 13, 9]), a.insert([12, 13, 8])), (3, 4));
+    let before = (a.nodes, a.colours);
+    let cases = [
+        (a.map, 12, Refusal::NoRoom),
+        (Map { count: 4, ..a.map }, 13, Refusal::Broken),
+        (Map::new(), 13, Refusal::BadInterval),
+    ];
+    for (map, start, why) in cases {
+        let refused = map.insert(&mut a.nodes, &mut a.colours, start, 13, 9);
+        assert_eq!(refused, Err(why));
+    }
+    assert_eq!((a.nodes, a.colours), before);
 }
 
 #[test]
