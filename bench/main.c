@@ -11,17 +11,19 @@
 
 typedef struct map map;
 map *rust_build(const uint64_t *list, size_t n);
-map *rust_grow(const uint64_t *list, size_t n);
+map *rust_empty(size_t n);
 map *rust_clone(const map *m);
 void rust_free(map *m);
 uint64_t rust_store(const map *m, uint64_t *words, uint8_t *bytes, size_t n);
 uint64_t rust_remove(map *m, uint64_t slot);
+void rust_insert(map *m, uint64_t start, uint64_t end, uint64_t value);
 uint64_t rust_all(const map *m);
 uint64_t rust_point(const map *m, uint64_t p);
 uint64_t rust_exact(const map *m, uint64_t start, uint64_t end);
 bool rust_check(const uint64_t *w, size_t wn, const uint8_t *b, size_t bn, uint64_t count, uint64_t root);
 
 uint64_t inner_remove(uint64_t *w, size_t wn, uint8_t *b, size_t bn, uint64_t count, uint64_t root, uint64_t slot, uint64_t *answer, size_t an);
+uint64_t inner_insert(uint64_t *w, size_t wn, uint8_t *b, size_t bn, uint64_t count, uint64_t root, uint64_t start, uint64_t end, uint64_t value);
 uint64_t inner_drain(const uint64_t *w, size_t wn, uint64_t count, uint64_t root, uint64_t kinds, uint64_t lo, uint64_t hi, uint64_t *out,
                      size_t on);
 uint64_t inner_drain_exact(const uint64_t *w, size_t wn, uint64_t count, uint64_t root, uint64_t start, uint64_t end, uint64_t *out, size_t on);
@@ -34,9 +36,10 @@ uint64_t public_drain(const uint64_t *w, size_t wn, const uint8_t *b, size_t bn,
 void rust_eh_personality(void) {}
 
 enum { ROUNDS = 15, MOST = 65535, INCLUDED_BOTH = 0, UNBOUNDED_BOTH = 8 };
+static const uint64_t NONE = 4294967295;
 
-static uint64_t list[3 * MOST], words[8 * MOST], spare[8 * MOST], out[MOST], slots[MOST];
-static uint8_t bytes[MOST / 8 + 1], spare_bytes[MOST / 8 + 1];
+static uint64_t list[3 * MOST], mixed[3 * MOST], words[8 * MOST], spare[8 * MOST], held[8 * MOST], out[MOST], slots[MOST];
+static uint8_t bytes[MOST / 8 + 1], spare_bytes[MOST / 8 + 1], held_bytes[MOST / 8 + 1];
 static size_t n, colour_bytes;
 static uint64_t root;
 static map *crate;
@@ -135,6 +138,31 @@ static uint64_t remove_ours(void) {
 }
 static void after_removal(void) { rust_free(victim); }
 
+/* Insertion of every entry into the map of none, in one order by chance. The two stores are the same, word for word. */
+static map *grown;
+static uint64_t grown_root;
+static void grow(map *m, const uint64_t *entries) {
+    for (size_t k = 0; k < n; k++)
+        rust_insert(m, entries[3 * k], entries[3 * k + 1], entries[3 * k + 2]);
+}
+static void before_insertion(void) { grown = rust_empty(n); }
+static uint64_t insert_theirs(void) {
+    grow(grown, mixed);
+    return 0;
+}
+static uint64_t insert_ours(void) {
+    grown_root = NONE;
+    for (size_t k = 0; k < n; k++)
+        grown_root = inner_insert(spare, 8 * n, spare_bytes, colour_bytes, k, grown_root, mixed[3 * k], mixed[3 * k + 1], mixed[3 * k + 2]);
+    return 0;
+}
+static void after_insertion(void) {
+    memcpy(held_bytes, spare_bytes, colour_bytes);
+    same(rust_store(grown, held, held_bytes, n), grown_root, "the root after the insertions");
+    same(memcmp(held, spare, 64 * n) != 0 || memcmp(held_bytes, spare_bytes, colour_bytes) != 0, 0, "the stores after the insertions");
+    rust_free(grown);
+}
+
 static uint64_t all_theirs(void) { return rust_all(crate); }
 static uint64_t all_ours(void) { return values(inner_drain(words, 8 * n, n, root, UNBOUNDED_BOTH, 0, 0, out, n)); }
 
@@ -191,6 +219,17 @@ static uint64_t build_ours(void) {
 }
 static void after_build(void) { rust_free(built); }
 
+/* The entries of the list in an order by chance. */
+static void mix(void) {
+    memcpy(mixed, list, 24 * n);
+    for (size_t k = 0; k < n; k++) {
+        uint64_t *here = mixed + 3 * k, *there = here + 3 * any(n - k), entry[3];
+        memcpy(entry, here, sizeof entry);
+        memmove(here, there, sizeof entry);
+        memcpy(there, entry, sizeof entry);
+    }
+}
+
 /* n entries; `equals` of them in a row have the same range. */
 static void start(size_t size, uint64_t equals) {
     n = size;
@@ -202,8 +241,14 @@ static void start(size_t size, uint64_t equals) {
         list[3 * k + 2] = k;
         slots[k] = any(n - k);
     }
+    mix();
     range_end = 5 * (n / equals) + 12;
-    crate = equals == 1 ? rust_build(list, n) : rust_grow(list, n);
+    if (equals == 1) {
+        crate = rust_build(list, n);
+    } else {
+        crate = rust_empty(n);
+        grow(crate, list);
+    }
     root = rust_store(crate, words, bytes, n);
     same(inner_check(words, 8 * n, bytes, colour_bytes, n, root), 1, "the crate's store passes the check");
 }
@@ -211,6 +256,7 @@ static void start(size_t size, uint64_t equals) {
 int main(void) {
     static bench_case
         removal = {"removal of every entry, inner", before_removal, remove_theirs, remove_ours, after_removal, 0},
+        insertion = {"insertion of every entry, inner", before_insertion, insert_theirs, insert_ours, after_insertion, 0},
         all = {"drain over the whole map, inner", nothing, all_theirs, all_ours, nothing, 0},
         point = {"point lookups, inner", before_points, points_theirs, points_ours, nothing, 0},
         public = {"point lookups, public, with the check", before_points, points_theirs, points_public, nothing, 0},
@@ -223,6 +269,7 @@ int main(void) {
     for (int k = 0; k < 3; k++) {
         start(sizes[k], 1);
         measure(&removal, n);
+        measure(&insertion, n);
         measure(&all, n);
         looked = 10000;
         measure(&point, looked);

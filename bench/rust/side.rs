@@ -46,14 +46,16 @@ pub unsafe extern "C" fn rust_build(list: *const u64, n: usize) -> *mut Map {
     Box::into_raw(Box::new(Map::from_sorted(list.chunks_exact(3).map(|e| (e[0]..e[1], e[2])))))
 }
 
-/// One entry after the other, equals kept.
+/// No entries, with the memory for n.
 #[no_mangle]
-pub unsafe extern "C" fn rust_grow(list: *const u64, n: usize) -> *mut Map {
-    let mut map = Map::default();
-    for e in from_raw_parts(list, 3 * n).chunks_exact(3) {
-        map.force_insert(e[0]..e[1], e[2]);
-    }
-    Box::into_raw(Box::new(map))
+pub unsafe extern "C" fn rust_empty(n: usize) -> *mut Map {
+    Box::into_raw(Box::new(Map::with_capacity(n)))
+}
+
+/// One entry more, equals kept.
+#[no_mangle]
+pub unsafe extern "C" fn rust_insert(map: *mut Map, start: u64, end: u64, value: u64) {
+    (*map).force_insert(start..end, value);
 }
 
 #[no_mangle]

@@ -6,10 +6,12 @@ use iset::lookup::Started;
 use iter::Cursor;
 use iter::rules::Query;
 use iter::rules::find_index;
+use tree_in::force_insert;
 use tree_rm::remove::remove_at;
 use words::interval::Bound;
 use words::interval::Interval;
 use words::interval::Span;
+use words::node::Entry;
 use words::node::capacity;
 
 fn bound(kind: u64, x: u64) -> Bound {
@@ -61,6 +63,23 @@ pub extern "C" fn inner_remove(
     answer[0] = r.value;
     answer[1] = r.root;
     1
+}
+
+// `force_insert`: the new root.
+#[no_mangle]
+pub extern "C" fn inner_insert(
+    nodes: &mut [u64],
+    colours: &mut [u8],
+    count: u64,
+    root: u64,
+    start: u64,
+    end: u64,
+    value: u64,
+) -> u64 {
+    if capacity(nodes.len(), colours.len()) <= count {
+        return 0;
+    }
+    force_insert(nodes, colours, count, root, Entry { start, end, value })
 }
 
 // A range's kinds are 3 times the upper one's number and the lower one's.
