@@ -12,7 +12,7 @@ ghost use lib.ListN.{length};
 
 const MOST: usize = 131072;
 
-// Room for all cases.
+// Room for all the cases.
 fn cases_space() -> [u8; 131072]
     ensures { λ r. ⌜ 131072 ≡ length r ⌝ }
 {
