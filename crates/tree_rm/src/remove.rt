@@ -56,6 +56,7 @@ fn copy_node(nodes: &mut [u64], from: u64, to: u64)
     );
 }
 
+// A slot without an entry points at nobody: 0 would be a slot.
 fn clear_node(nodes: &mut [u64], ix: u64)
     requires { ⌜ ix * 8 + 8 ≤ length (now nodes) ⌝ }
     ensures { λ _. ⌜ now (nodes .exit) ≡ cleared (now (nodes .entry)) ix ⌝ }
@@ -65,7 +66,7 @@ fn clear_node(nodes: &mut [u64], ix: u64)
         end: 0,
         value: 0,
     };
-    put_node(nodes, ix, nothing, Interval { start: 0, end: 0 }, 0, 0, 0);
+    put_node(nodes, ix, nothing, Interval { start: 0, end: 0 }, U, U, U);
 }
 
 // The node of slot `from` goes to slot `to`: its children and its parent lead there.
@@ -83,7 +84,7 @@ fn move_node(nodes: &mut [u64], count: u64, from: u64, to: u64)
 }
 
 // Removes slot ix by moving the last slot into it, and updates all links that lead to the node that was the last one;
-// the answer is the root. The last slot's words become 0, and its colour bit stays.
+// the answer is the root. The last slot's links become U and its other words 0; its colour bit stays.
 fn swap_remove(nodes: &mut [u64], colours: &mut [u8], count: u64, root: u64, ix: u64) -> u64
     requires { ⌜ (count * 8 ≤ length (now nodes)) × (count ≤ length (now colours) * 8) × (ix < count) ⌝ }
     ensures { λ r. ⌜ store (now (nodes .exit)) (now (colours .exit)) r ≡ swapRemove count (now (nodes .entry)) (now (colours .entry)) root (count - 1) ix ⌝ }

@@ -1,5 +1,5 @@
 -- A removal writes to slots below the count alone, whatever the words hold.
-use mathlib.Core.Path.{_≡_, refl, ap, _∙_}
+use mathlib.Core.Path.{_≡_, refl, sym, ap, _∙_}
 use mathlib.Core.Bool.{Bool, true, false, cond}
 use mathlib.Core.List.{List}
 use Prim.Native.Nat.{ℕ, zero, suc, _+_, _-_, _*_, _<_, _≤_}
@@ -8,17 +8,19 @@ use lib.ListN.{length}
 use lib.Dec.{eqb, leb}
 use borrow.Author.Tests.{leb-false}
 use Rattle.words.specs.Ix.{U}
-use Rattle.words.specs.Nodes.{word, kid, putKid, swap}
-use Rattle.words.proofs.Nodes.{entry-putNode, hull-putNode, kid-putNode, par-putNode}
+use Rattle.words.specs.Nodes.{word, value, kid, putKid, swap}
+use Rattle.words.proofs.Nodes.{length-putNode, word-putNode-slot, entry-putNode, hull-putNode, kid-putNode, par-putNode}
 use Rattle.words.specs.declared.interval.Interval.{Interval}
 use Rattle.words.specs.declared.node.Entry.{Entry}
 use Rattle.words.specs.declared.node.Field.{Field}
 use Rattle.words.specs.declared.node.Field.the-variants.{Start, End, Value, HullStart, HullEnd, Child, Parent}
 use Rattle.bitvec.specs.Colours.{red, dye}
 use Rattle.tree_rm_laws.specs.Links.{redirected, removeChild, fixUp}
-use Rattle.tree_rm_laws.specs.Pairs.{instead, emptied}
-use Rattle.tree_rm_laws.specs.Remove.{leftmost, vacated, exchanged, child, Store, store, restructure, handed, above, cutWords, cutRoot, relinked, cleared, swapRemove, finish, removeFrom, removeRule}
+use Rattle.tree_rm_laws.specs.Pairs.{instead, emptied, moved}
+use Rattle.tree_rm_laws.specs.Remove.{leftmost, vacated, exchanged, child, Store, store, restructure, handed, above, cutWords, cutRoot, relinked, blank, cleared, swapRemove, finish, removeFrom, removeRule}
 use Rattle.tree_rm_laws.specs.Removed.{Inside}
+use Rattle.tree_rm_laws.specs.Corrected.{swapRemove-01, finish-01, removeFrom-01, removeRule-01, blankWord, Corrected}
+use Rattle.tree_rm_laws.specs.declared.pairs.Pairs.{Pairs}
 use Rattle.tree_rm_laws.proofs.Links.{by-link}
 use Rattle.tree_rm_laws.proofs.Steps.{emptied-live}
 use Rattle.tree_rm_laws.proofs.Low.{Low, low-refl, low-trans, low-put, low-link, low-fixUp, low-swap, low-cleared, low-three, low-relinked, Dyed, dyed-refl, dyed}
@@ -75,26 +77,42 @@ module _ (n : ℕ) where
       go true e = h
       go false e = leftmost-live 32 W (kid W false s) (leb-false n (kid W false s) e)
 
--- a cleared slot
-word-zero : (W : List ℕ) (z : ℕ) → z * 8 + 8 ≤ length W → (f : Field) → word (cleared W z) f z ≡ 0
-unfolding cleared
-word-zero W z m Start = ap (λ (e : Entry). e .start) (entry-putNode W z _ _ _ _ _ m)
-word-zero W z m End = ap (λ (e : Entry). e .end) (entry-putNode W z _ _ _ _ _ m)
-word-zero W z m Value = ap (λ (e : Entry). e .value) (entry-putNode W z _ _ _ _ _ m)
-word-zero W z m HullStart = ap (λ (i : Interval). i .start) (hull-putNode W z _ _ _ _ _ m)
-word-zero W z m HullEnd = ap (λ (i : Interval). i .end) (hull-putNode W z _ _ _ _ _ m)
-word-zero W z m (Child true) = kid-putNode W z _ _ _ _ _ true m
-word-zero W z m (Child false) = kid-putNode W z _ _ _ _ _ false m
-word-zero W z m Parent = par-putNode W z _ _ _ _ _ m
+-- a slot without an entry
+word-blank : (k : ℕ) (W : List ℕ) (z : ℕ) → z * 8 + 8 ≤ length W → (f : Field) → word (blank k W z) f z ≡ blankWord k f
+word-blank k W z m Start = ap (λ (e : Entry). e .start) (entry-putNode W z _ _ _ _ _ m)
+word-blank k W z m End = ap (λ (e : Entry). e .end) (entry-putNode W z _ _ _ _ _ m)
+word-blank k W z m Value = ap (λ (e : Entry). e .value) (entry-putNode W z _ _ _ _ _ m)
+word-blank k W z m HullStart = ap (λ (i : Interval). i .start) (hull-putNode W z _ _ _ _ _ m)
+word-blank k W z m HullEnd = ap (λ (i : Interval). i .end) (hull-putNode W z _ _ _ _ _ m)
+word-blank k W z m (Child true) = kid-putNode W z _ _ _ _ _ true m
+word-blank k W z m (Child false) = kid-putNode W z _ _ _ _ _ false m
+word-blank k W z m Parent = par-putNode W z _ _ _ _ _ m
 
-zero-swapRemove : (n : ℕ) (W C : List ℕ) (r z v : ℕ) → v < n → z * 8 + 8 ≤ length W → (f : Field) → word (swapRemove n W C r z v .words) f z ≡ 0
-unfolding swapRemove
-zero-swapRemove n W C r z v lv m f = go (eqb v z)
+-- the move of the last slot, for a removal with a value and pairs
+corrected-move : (n : ℕ) (W C : List ℕ) (r z v x : ℕ) (p : Pairs) → z ≡ n - 1 → v < n → z * 8 + 8 ≤ length W
+    → Corrected n (record { store = swapRemove-01 n W C r z v; value = x; pairs = p }) (record { store = swapRemove n W C r z v; value = x; pairs = p })
+unfolding swapRemove swapRemove-01 cleared
+corrected-move n W C r z v x p last lv m = go (eqb v z)
   where
+    both : (Y D : List ℕ) (q : ℕ) → z * 8 + 8 ≤ length Y
+        → Corrected n (record { store = store (blank 0 Y z) D q; value = x; pairs = p }) (record { store = store (blank U Y z) D q; value = x; pairs = p })
+    both Y D q u = record {
+        value-same = refl;
+        pairs-same = refl;
+        root-same = refl;
+        colours-same = refl;
+        length-same = length-putNode Y z _ _ _ _ _ ∙ sym (length-putNode Y z _ _ _ _ _);
+        words-same = λ f a d. word-putNode-slot Y z _ _ _ _ _ f a (rw last d) ∙ sym (word-putNode-slot Y z _ _ _ _ _ f a (rw last d));
+        last-was = λ f. rw (sym last) (word-blank 0 Y z u f);
+        last-is = λ f. rw (sym last) (word-blank U Y z u f);
+      }
+
     go : (t : Bool)
-        → word (cond t (store (cleared W z) C r) (store (cleared (relinked n W z v) z) (dye C v (red C z)) (instead z v r)) .words) f z ≡ 0
-    go true = word-zero W z m f
-    go false = word-zero (relinked n W z v) z (rw (low-relinked n W z v lv .0) m) f
+        → Corrected n
+        (record { store = cond t (store (blank 0 W z) C r) (store (blank 0 (relinked n W z v) z) (dye C v (red C z)) (instead z v r)); value = x; pairs = p })
+        (record { store = cond t (store (blank U W z) C r) (store (blank U (relinked n W z v) z) (dye C v (red C z)) (instead z v r)); value = x; pairs = p })
+    go true = both W C r m
+    go false = both (relinked n W z v) (dye C v (red C z)) (instead z v r) (rw (low-relinked n W z v lv .0) m)
 
 module _ (W C : List ℕ) (n r s : ℕ) (ls : s < n) where
   abbrev x : ℕ
@@ -141,9 +159,9 @@ module _ (W C : List ℕ) (n r s : ℕ) (ls : s < n) where
         colours-kept = λ a u. q .colours-kept a u ∙ m .colours-in .1 a u;
       }
 
-  -- "The old last slot's eight words become 0."
-  pub last-zero : n * 8 ≤ length W → (f : Field) → word (removeRule W C n r s .store .words) f (n - 1) ≡ 0
-  unfolding removeRule removeFrom finish
-  last-zero fit f =
+  -- document 02's item 2 changes the three links of the old last slot, and nothing else
+  pub corrected : n * 8 ≤ length W → Corrected n (removeRule-01 W C n r s) (removeRule W C n r s)
+  unfolding removeRule removeFrom finish removeRule-01 removeFrom-01 finish-01
+  corrected fit =
       let m : n * 8 ≤ length Z = rw (low-Z .0) fit in
-      zero-swapRemove n Z (S .colours) (cutRoot n (S .root) g) (n - 1) v live-v (omega arith) f
+      corrected-move n Z (S .colours) (cutRoot n (S .root) g) (n - 1) v (value Z v) (moved n (n - 1) s x y) refl live-v (omega arith)

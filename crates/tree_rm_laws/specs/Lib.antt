@@ -4,4 +4,5 @@ pub mod Pairs
 pub mod Remove
 pub mod Names
 pub mod Removed
+pub mod Corrected
 pub mod Sequence

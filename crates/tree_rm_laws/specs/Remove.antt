@@ -74,9 +74,13 @@ copied W z v = putNode W v (entry W z) (hull W z) (kid W true z) (kid W false z)
 unfoldable pub relinked : ℕ → List ℕ → ℕ → ℕ → List ℕ
 relinked n W z v = redirect n (adopt n (adopt n (copied W z v) (kid W true z) v) (kid W false z) v) (par W z) z v
 
--- "The old last slot's eight words become 0."
+-- a slot without an entry: its three links are k, its other five words 0
+abbrev pub blank : ℕ → List ℕ → ℕ → List ℕ
+blank k W z = putNode W z (record { start = 0; end = 0; value = 0 }) (record { start = 0; end = 0 }) k k k
+
+-- "The left, right and parent words of that slot become U; the other five stay 0": document 02's item 2, which corrects document 01
 unfoldable pub cleared : List ℕ → ℕ → List ℕ
-cleared W z = putNode W z (record { start = 0; end = 0; value = 0 }) (record { start = 0; end = 0 }) 0 0 0
+cleared W z = blank U W z
 
 -- `swap_remove`: the last slot z moves into the vacated slot v. "Its colour bit keeps what the repair left in it."
 unfoldable pub swapRemove : ℕ → List ℕ → List ℕ → ℕ → ℕ → ℕ → Store
