@@ -202,7 +202,7 @@ def remove(s, slot):
             if s.get(gone, side) != U:
                 s.set(s.get(gone, side), PARENT, gone)
         lift(s, last, gone)
-    s.words[8 * last:8 * last + 8] = [0] * 8
+    s.words[8 * last:8 * last + 8] = [0] * 5 + [U] * 3
     s.count = last
     assert s.passes()
     pairs = sorted((old, new) for new, old in enumerate(where[:last]) if old != new)

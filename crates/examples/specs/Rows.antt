@@ -2,9 +2,9 @@
 use mathlib.Core.Path.{_≡_}
 use mathlib.Core.Bool.{false, cond}
 use mathlib.Core.List.{List, [], _∷_}
-use Prim.Native.Nat.{ℕ, zero, suc}
+use Prim.Native.Nat.{ℕ, zero, suc, _*_}
 use lib.Dec.{eqb}
-use lib.ListN.{replicate, take}
+use lib.ListN.{replicate, take, drop}
 use Rattle.words.specs.Nodes.{kid}
 use Rattle.words.specs.declared.interval.Bound.{Bound}
 use Rattle.words.specs.declared.interval.Interval.{Interval}
@@ -48,12 +48,13 @@ infix 70 _entering_
 pub data Step : Type 0 where
   _entering_ : Outcome → ℕ → Step
 
--- What is asked. A build has so many words and so many bytes, all of them 0. `rootRight` asks for the root's right link. A lookup runs from its
--- fresh cursor to the end; a step is its first step.
+-- What is asked. A build has so many words and so many bytes, all of them 0. `rootRight` asks for the root's right link, `slot` for the eight
+-- words of a slot. A lookup runs from its fresh cursor to the end; a step is its first step.
 pub data Call : Type 0 where
   build : ℕ → ℕ → List ℕ → Call
   remove : Store → ℕ → Call
   rootRight : Store → Call
+  slot : Store → ℕ → Call
   overlap : Store → Bound → Bound → Call
   step : Store → Bound → Bound → Call
   exact : Store → Interval → Call
@@ -82,6 +83,7 @@ pub data Told : Type 0 where
   built : BuildAnswer → BuiltStore → Told
   removed : RemoveAnswer → List ℕ → Told
   link : ℕ → Told
+  holds : List ℕ → Told
   found : Found → Limits → Told
   stepped : StepAnswer → Told
   started : StartAnswer → Found → Told
@@ -124,6 +126,7 @@ tell (build words bytes S) =
     (record { tree = treeOf t; bytes = t .colours; h = height (treeOf t); words = t .words })
 tell (remove t s) = removed (removeCall (t .map) (t .words) (t .colours) s) (removeColours (t .map) (t .words) (t .colours) s)
 tell (rootRight t) = link (kid (t .words) false (t .map .root))
+tell (slot t k) = holds (take 8 (drop (8 * k) (t .words)))
 tell (overlap t lo hi) =
     found
     (foundFrom t (Overlap (span lo hi)) (fresh (t .map .root)))

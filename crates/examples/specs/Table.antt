@@ -1,4 +1,4 @@
--- "Examples to hold it against": every case that is marked (*), in the document's order and beside its words.
+-- "Examples to hold it against": every case that is marked (*), in the document's order and beside its words, and what document 02 adds.
 use mathlib.Core.Bool.{false}
 use mathlib.Core.List.{List, [], _∷_}
 use Prim.Native.Nat.{ℕ}
@@ -10,7 +10,7 @@ use Rattle.words.specs.declared.refusal.Refusal.the-variants.{NoSuch, BadRange}
 use Rattle.tree.specs.Tree.{Tree, leaf, node}
 use Rattle.iter.specs.Cursors.{fresh, ended}
 use Rattle.examples.specs.Stores.{Store, buildIn, _minus_}
-use Rattle.examples.specs.Rows.{Row, _gives_, _to_, moved, colours, _entering_, hit, end, build, remove, rootRight, overlap, step, exact, built, removed, link, found, stepped, started}
+use Rattle.examples.specs.Rows.{Row, _gives_, _to_, moved, colours, _entering_, hit, end, build, remove, rootRight, slot, overlap, step, exact, built, removed, link, holds, found, stepped, started}
 
 -- "Store A, built from [10,20) 1, [10,30) 2, [25,40) 3, [40,50) 4, [45,60) 5", in 40 words and a byte
 abbrev pub listA : List ℕ
@@ -58,6 +58,8 @@ table =
     -- "remove 4: value 5, no pairs, colours 1, the root's right link is 3."
     remove storeA 4 gives removed (record { no = 0; value = 5; count = 4; root = 2; pairs = moved [] }) (colours 1) ∷
     rootRight (storeA minus 4) gives link 3 ∷
+    -- document 02, item 2: "The left, right and parent words of that slot become U; the other five stay 0."
+    slot (storeA minus 4) 4 gives holds (0 ∷ 0 ∷ 0 ∷ 0 ∷ 0 ∷ U ∷ U ∷ U ∷ []) ∷
     -- "remove 5 or U: NoSuch."
     remove storeA 5 gives removed (record { no = refusalNumber NoSuch; value = 0; count = 5; root = 2; pairs = moved [] }) (colours 9) ∷
     remove storeA U gives removed (record { no = refusalNumber NoSuch; value = 0; count = 5; root = 2; pairs = moved [] }) (colours 9) ∷

@@ -299,8 +299,9 @@ impl Session {
         left.count = count - 1;
         left.root = root as u64;
         left.words[..words.len()].copy_from_slice(&words);
-        // DIFFERS: the crate drops the last node; here its eight words become 0. Its colour bit stays, see prepare.py on pop.
-        left.words[words.len()..words.len() + 8].fill(0);
+        // DIFFERS: the crate drops the last node; here its links become U and its other words 0. Its colour bit stays, see prepare.py on pop.
+        left.words[words.len()..words.len() + 5].fill(0);
+        left.words[words.len() + 5..words.len() + 8].fill(U);
         left.bytes.copy_from_slice(&colours);
         // Inside the map a value is the slot the entry had before.
         let mut pairs = vec![];
