@@ -97,15 +97,15 @@ corrected-move n W C r z v x p last lv m = go (eqb v z)
     both : (Y D : List ℕ) (q : ℕ) → z * 8 + 8 ≤ length Y
         → Corrected n (record { store = store (blank 0 Y z) D q; value = x; pairs = p }) (record { store = store (blank U Y z) D q; value = x; pairs = p })
     both Y D q u = record {
-        value-same = refl;
-        pairs-same = refl;
-        root-same = refl;
-        colours-same = refl;
-        length-same = length-putNode Y z _ _ _ _ _ ∙ sym (length-putNode Y z _ _ _ _ _);
-        words-same = λ f a d. word-putNode-slot Y z _ _ _ _ _ f a (rw last d) ∙ sym (word-putNode-slot Y z _ _ _ _ _ f a (rw last d));
-        last-was = λ f. rw (sym last) (word-blank 0 Y z u f);
-        last-is = λ f. rw (sym last) (word-blank U Y z u f);
-      }
+      value-same = refl;
+      pairs-same = refl;
+      root-same = refl;
+      colours-same = refl;
+      length-same = length-putNode Y z _ _ _ _ _ ∙ sym (length-putNode Y z _ _ _ _ _);
+      words-same = λ f a d. word-putNode-slot Y z _ _ _ _ _ f a (rw last d) ∙ sym (word-putNode-slot Y z _ _ _ _ _ f a (rw last d));
+      last-was = λ f. rw (sym last) (word-blank 0 Y z u f);
+      last-is = λ f. rw (sym last) (word-blank U Y z u f);
+    }
 
     go : (t : Bool)
         → Corrected n
