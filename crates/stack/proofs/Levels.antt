@@ -11,7 +11,6 @@ use borrow.Author.Tests.{eqb-true, eqb-false}
 use Rattle.bitvec.specs.Bits.{bit, put}
 use Rattle.bitvec.proofs.Numbers.{num, put-idle}
 use Rattle.stack.specs.States.{stateAt, putState, top, marked, pushed, popped}
-use Rattle.stack.specs.Calls.{wentLeft}
 use Rattle.stack.specs.declared.ActionStack.{ActionStack}
 
 pub four : (j : ℕ) → (4 ^ suc j ≡ 4 * 4 ^ j) × (0 < 4 ^ j)
@@ -156,10 +155,6 @@ module _ (s : ActionStack) where
   pub marked-other : (v k : ℕ) → v < 4 → k ≢ s .levels - 1 → stateAt (marked v s .bits) k ≡ stateAt (s .bits) k
   unfolding marked
   marked-other v k h d = state-put-other (s .bits) (s .levels - 1) k v h d
-
-  -- from 00, `go_left` marks 01
-  pub left-entered : top s ≡ 0 → marked (wentLeft (top s)) s ≡ marked 2 s
-  left-entered e = rw e
 
   pub pushed-top : top (pushed s) ≡ 0
   unfolding top pushed

@@ -110,12 +110,6 @@ module _ (W : List ℕ) where
   highs leaf h = tt
   highs (node l s r) h = (h .high, highs l (h .left), highs r (h .right))
 
-  pub low-of : (t : Tree) (d : ℕ) → Hulls W t → lowest W t d ≡ least (start W) t d
-  low-of t d h = root-of min lesser (start W) (lo W) t d (lows t h)
-
-  pub high-of : (t : Tree) (d : ℕ) → Hulls W t → highest W t d ≡ most (stop W) t d
-  high-of t d h = root-of max greater (stop W) (hi W) t d (highs t h)
-
   pub low-node : (l : Tree) (s : ℕ) (r : Tree) → Hulls W l → Hulls W r
       → lowest W l (lowest W r (start W s)) ≡ least (start W) (node l s r) (start W s)
   low-node l s r hl hr = root-node min lesser (start W) (lo W) l s r (lows l hl) (lows r hr)

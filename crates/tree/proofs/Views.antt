@@ -1,24 +1,16 @@
 -- Where nothing that a slot holds changes, the view stays; and order, hulls and colours go by the view alone.
 use mathlib.Core.Path.{_≡_, refl, sym, ap, _∙_}
-use mathlib.Core.Logic.{_≢_}
-use mathlib.Core.Bool.{Bool, true, false}
+use mathlib.Core.Bool.{Bool}
 use mathlib.Core.List.{List, [], _∷_, map, map-append}
-use Prim.Native.Nat.{ℕ, _+_, _<_, _≤_, min, max}
+use Prim.Native.Nat.{ℕ, _<_, min, max}
 use native.Mathlib.Omega.{arith}
 use Rattle.words.specs.Nodes.{start, stop, lo, hi, value, interval, hull, entry}
 use Rattle.words.specs.declared.interval.Interval.{Interval}
 use Rattle.tree.specs.Tree.{Tree, leaf, node, slots, occ}
-use Rattle.tree.specs.Zipper.{bin, Frame, frame, plug, occs}
-use Rattle.tree.specs.Order.{RisingAt}
 use Rattle.tree.specs.Hulls.{gather, Hulls}
 use Rattle.tree.specs.Hues.{rootRed, blacks, Hues}
-use Rattle.tree.specs.View.{Datum, datum, view, entries}
-use Rattle.tree.proofs.Slots.{hit-same, apart, apart-way}
-use Rattle.tree.proofs.Orders.{rising-same}
-
-pub entries-slots : (W : List ℕ) (K : ℕ → Bool) (t : Tree) → entries (view W K t) ≡ map (datum W K) (slots t)
-entries-slots W K leaf = refl
-entries-slots W K (node l s r) = rw (entries-slots W K l, entries-slots W K r) (sym (map-append (datum W K) (slots l) (s ∷ slots r)))
+use Rattle.tree.specs.View.{Datum, datum, view}
+use Rattle.tree.proofs.Slots.{hit-same}
 
 -- from the words W and colours K to X and L
 module _ (W : List ℕ) (K : ℕ → Bool) (X : List ℕ) (L : ℕ → Bool) where
@@ -27,34 +19,6 @@ module _ (W : List ℕ) (K : ℕ → Bool) (X : List ℕ) (L : ℕ → Bool) whe
   view-keep leaf f = refl
   view-keep (node l s r) f =
       rw (view-keep l (λ a o. f a (omega arith)), f s (omega (arith, hit-same s)), view-keep r (λ a o. f a (omega arith)))
-
-  -- and at a place
-  pub view-plug : (c : List Frame) (t u : Tree) → ((s : ℕ) → 0 < occs s c → datum X L s ≡ datum W K s)
-      → view X L t ≡ view W K u → view X L (plug c t) ≡ view W K (plug c u)
-  view-plug [] t u f e = e
-  view-plug (frame b s far ∷ c) t u f e = view-plug c (bin b t s far) (bin b u s far) (λ a o. f a (omega arith)) (go b)
-    where
-      x : datum X L s ≡ datum W K s
-      x = f s (omega (arith, hit-same s))
-
-      y : view X L far ≡ view W K far
-      y = view-keep far (λ a o. f a (omega arith))
-
-      go : (b : Bool) → view X L (bin b t s far) ≡ view W K (bin b u s far)
-      go true = rw (e, x, y)
-      go false = rw (e, x, y)
-
-  -- the node of slot z moves to slot x: nothing is seen of it
-  pub view-move : (c : List Frame) (l r : Tree) (z x : ℕ) → datum X L x ≡ datum W K z
-      → ((s : ℕ) → s ≢ x → s ≢ z → datum X L s ≡ datum W K s)
-      → occs x c + occ x (node l z r) ≡ 0 → ((s : ℕ) → occs s c + occ s (node l z r) ≤ 1)
-      → view X L (plug c (node l x r)) ≡ view W K (plug c (node l z r))
-  view-move c l r z x e f zx one =
-      view-plug c (node l x r) (node l z r) (λ s o. f s (apart-way s x c (omega arith) o) (apart-way s z c (omega (arith, one z, hit-same z)) o))
-      (rw (below l (omega arith) (omega (arith, one z, hit-same z)), e, below r (omega arith) (omega (arith, one z, hit-same z))))
-    where
-      below : (t : Tree) → occ x t ≡ 0 → occ z t ≡ 0 → view X L t ≡ view W K t
-      below t i j = view-keep t (λ s o. f s (apart s x t i o) (apart s z t j o))
 
   -- two trees with one view, node by node
   pub view-induct : (P : Tree → Tree → Type 0) → P leaf leaf
@@ -126,9 +90,6 @@ module _ (W : List ℕ) (K : ℕ → Bool) (X : List ℕ) (L : ℕ → Bool) whe
   entries-view = map-view (entry X) (entry W) datum-entry
 
   -- what one view carries over
-  pub rising-view : (u t : Tree) → view X L u ≡ view W K t → RisingAt W (slots t) → RisingAt X (slots u)
-  rising-view u t e = rising-same W X (slots t) (slots u) (map-view (interval X) (interval W) datum-interval u t e)
-
   pub hulls-view : (u t : Tree) → view X L u ≡ view W K t → Hulls W t → Hulls X u
   hulls-view =
       view-induct (λ u t. Hulls W t → Hulls X u) (λ h. tt) (λ l s r l′ s′ r′ e x y p q h.

@@ -1,6 +1,6 @@
 -- What a store says at a tree's slots, as a tree of its own, with no slot in it. Order, hulls and colours depend on that alone.
 use mathlib.Core.Bool.{Bool}
-use mathlib.Core.List.{List, [], _∷_, _++_}
+use mathlib.Core.List.{List}
 use Prim.Native.Nat.{ℕ}
 use Rattle.words.specs.Nodes.{value, interval, hull}
 use Rattle.words.specs.declared.interval.Interval.{Interval}
@@ -26,8 +26,3 @@ pub data View : Type 0 where
 abbrev pub view : List ℕ → (ℕ → Bool) → Tree → View
 view W K leaf = none
 view W K (node l s r) = some (view W K l) (datum W K s) (view W K r)
-
--- the data in tree order
-abbrev pub entries : View → List Datum
-entries none = []
-entries (some l d r) = entries l ++ (d ∷ entries r)
