@@ -208,16 +208,22 @@ static uint64_t exact_ours(void) {
 static uint64_t check_theirs(void) { return rust_check(words, 8 * n, bytes, colour_bytes, n, root); }
 static uint64_t check_ours(void) { return inner_check(words, 8 * n, bytes, colour_bytes, n, root); }
 
+/* The words are the same; the crate's colours differ at 65,535 entries, see docs/DIFFERENCES.md. */
 static map *built;
+static uint64_t built_root;
 static uint64_t build_theirs(void) {
     built = rust_build(list, n);
     return 0;
 }
 static uint64_t build_ours(void) {
-    inner_build(list, 3 * n, spare, 8 * n, spare_bytes, colour_bytes);
+    built_root = inner_build(list, 3 * n, spare, 8 * n, spare_bytes, colour_bytes);
     return 0;
 }
-static void after_build(void) { rust_free(built); }
+static void after_build(void) {
+    same(rust_store(built, held, held_bytes, n), built_root, "the root after the build");
+    same(memcmp(held, spare, 64 * n) != 0, 0, "the stores after the build");
+    rust_free(built);
+}
 
 /* The entries of the list in an order by chance. */
 static void mix(void) {

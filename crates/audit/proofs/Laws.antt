@@ -15,7 +15,8 @@ use Rattle.bitvec.specs.Colours.{red}
 use Rattle.tree.specs.Hues.{dark}
 use Rattle.audit.specs.declared.Node.{Node}
 use Rattle.audit.specs.declared.Found.{Found}
-use Rattle.audit.specs.Survey.{nodeAt, noNodes, tied, fits, combined, enters, survey}
+use Rattle.audit.specs.Survey.{nodeAt, noNodes, tied, fits, combined, childless, enters, survey}
+use Rattle.audit.proofs.Tests.{both, same, less}
 
 -- a node that fits, and one that does not
 pub joined : (x : Node) (l r : Found) (b : Bool) (d : ℕ) → b ≡ fits x l r → b ≡ true → (d ≡ dark (x .red)) × (d ≤ 1)
@@ -32,6 +33,14 @@ joined x l r b d e t q = rw (sym e ∙ t, q .0) refl
 
 pub passed : {A : Type 0} (b d : Bool) (r x y : A) → b ≡ d → b ≡ false → r ≡ y → r ≡ cond d x y
 passed b d r x y e t q = rw (sym e ∙ t) q
+
+-- a node without children
+module _ (d : Interval) (a : Found) (e : a ≡ noNodes true d) where
+  pub lone-room : (a .size + a .size + 1 < 18446744073709551616) × (a .blacks + 1 < 18446744073709551616)
+  lone-room = rw e (omega arith)
+
+  pub lone-is : (x : Node) (r : Found) → r ≡ combined x a a → r ≡ combined x (noNodes true d) (noNodes true d)
+  lone-is x r f = f ∙ ap (λ (b : Found). combined x b b) e
 
 -- what holds of both holds of the one that is taken
 cond-all : {A : Type 0} (P : A → Type 0) (b : Bool) {x y : A} → P x → P y → P (cond b x y)
@@ -115,3 +124,15 @@ module _ (W C : List ℕ) (n : ℕ) where
           simp (step z, ne-eqb k U u, lt-ltb k n q, at-tied, v)
           (e ∙ ap₂ (combined x) i j
           ∙ ap (λ (y : Node). combined y (survey W C n (h - 1) k (y .interval) (y .left)) (survey W C n (h - 1) k (y .interval) (y .right))) m)
+
+  -- the same, where the slot has no children
+  pub alone : (h p : ℕ) (d : Interval) (k : ℕ) (r : Found) → (h ≡ 0 → ⊥) → (k ≡ U → ⊥) → k < n → (x : Node) (t : Bool) → x ≡ nodeAt W C k → t ≡ tied x p
+      → r ≡ combined x (noNodes true (x .interval)) (noNodes true (x .interval)) → t ≡ true → (l : Bool) → l ≡ childless x h → l ≡ true
+      → r ≡ survey W C n h p d k
+  alone h p d k r z u q x t m c e v l f w =
+      let leaf : (((x .left ≡ U) × (x .right ≡ U)) × (1 < h)) =
+      both (both (same (x .left) U) (same (x .right) U)) (less 1 h) .holds (sym f ∙ w) in
+      let on : h - 1 ≡ 0 → ⊥ = λ y. omega arith in
+      entered h p d k r z u q x t m c (noNodes true (x .interval)) (noNodes true (x .interval)) e v
+      (ended (h - 1) k (x .interval) (x .left) (noNodes true (x .interval)) refl on (leaf .0 .0))
+      (ended (h - 1) k (x .interval) (x .right) (noNodes true (x .interval)) refl on (leaf .0 .1))

@@ -67,6 +67,10 @@ combined x l r =
     })
     (noNodes false (x .interval))
 
+-- a node has no children, and the height allows for the two ways past it
+abbrev pub childless : Node → ℕ → Bool
+childless x height = eqb (x .left) U && eqb (x .right) U && ltb 1 height
+
 -- the slot k, below p, is entered
 abbrev pub enters : List ℕ → List ℕ → ℕ → ℕ → ℕ → Bool
 enters W C n p k = ltb k n && tied (nodeAt W C k) p

@@ -17,7 +17,7 @@ ghost use mathlib.Core.Bool.{true, false};
 ghost use Prim.Native.Nat.{_+_, _*_, _≤_, _<_};
 ghost use lib.ListN.{length};
 ghost use Rattle.tree.specs.Hues.{dark};
-ghost use Rattle.audit.specs.Survey.{nodeAt, noNodes, tied, ordered, hulled, coloured, fits, combined, survey, wholeOf};
+ghost use Rattle.audit.specs.Survey.{nodeAt, noNodes, tied, ordered, hulled, coloured, fits, combined, childless, survey, wholeOf};
 
 // What the check reads of a slot.
 pub struct Node {
@@ -140,6 +140,22 @@ fn combine(x: Node, l: Found, r: Found) -> Found
     }
 }
 
+// Whether a node has no children, and the height allows for the ways past it.
+fn is_leaf(x: Node, height: u64) -> bool
+    ensures { λ r. ⌜ r ≡ childless x height ⌝ }
+{
+    (x.left == U) & (x.right == U) & (1 < height)
+}
+
+// What is found of a node without children. Half of all nodes are such: two calls less for each.
+fn lone(x: Node) -> Found
+    ensures { λ r. ⌜ r ≡ combined x (noNodes true (x .interval)) (noNodes true (x .interval)) ⌝ }
+{
+    let own = x.interval;
+    let none = no_nodes(true, own);
+    combine(x, none, none)
+}
+
 // The subtree at a link below the slot `parent`, whose interval is `above`, with fewer than `height` nodes on its ways down.
 fn walk(
     nodes: &[u64],
@@ -164,6 +180,9 @@ fn walk(
     }
     let x = node_at(nodes, colours, link);
     if is_tied(x, parent) {
+        if is_leaf(x, height) {
+            return lone(x);
+        }
         let own = x.interval;
         let l = walk(nodes, colours, count, x.left, link, own, height - 1);
         let r = walk(nodes, colours, count, x.right, link, own, height - 1);
