@@ -4,10 +4,9 @@ use mathlib.Core.Bool.{Bool, true, false, not, cond, _&&_, true≢false}
 use mathlib.Core.List.{List, [], _∷_}
 use Prim.Native.Nat.{ℕ, zero, suc, _+_, _-_, _*_, _/_, _%_, _^_, _<_, _≤_}
 use native.Mathlib.Omega.{arith}
-use native.Mathlib.Nat.{div-le-self}
 use native.Mathlib.Numerals.{add-one}
 use lib.ListN.{length, getD, set}
-use lib.Pow.{pow-pos, shl-exact}
+use lib.Bits.{bitAnd}
 use lib.Dec.{eqb, ltb, leb}
 use borrow.Author.Tests.{eqb-true, eqb-false, ltb-true, ltb-false, leb-true, leb-false, le-leb, lt-leb, lt-ltb, le-ltb, eq-eqb, ne-eqb}
 use Rattle.words.proofs.Laws.{linked, unlinked}
@@ -16,34 +15,25 @@ use Rattle.words.specs.declared.ix.Link.{Link}
 use Rattle.words.specs.declared.ix.Link.the-variants.{Slot, Nil}
 use Rattle.bitvec.specs.Bits.{bit, put, bitAt, setBit, fill}
 use Rattle.bitvec.specs.Calls.{done, allowed, roomy, bytesFor, gapClosed}
-use Rattle.bitvec.proofs.Numbers.{num, bit-weight, put-weight, put-small}
+use Rattle.bitvec.proofs.Numbers.{num, put-small}
+use Rattle.bitvec.proofs.Weights.{bit-and, put-and}
 
--- the weight of a bit of a byte
-pub weight-is : (j : ℕ) → j < 8 → (1 * 2 ^ j) % 2 ^ 8 ≡ 2 ^ j
-weight-is j h = rw (shl-exact {a = 1} 1 j 8 (omega arith) (omega arith)) (omega arith)
-
+-- a byte and the weight of one of its bits
 module _ (b j w : ℕ) (e : w ≡ 2 ^ j) where
-  pub positive : 0 < w
-  positive = rw e (pow-pos j)
+  pub read : not (eqb (bitAnd b w) 0) ≡ bit b j
+  read = rw e (bit-and b j)
 
-  pub read : eqb (b / w % 2) 1 ≡ bit b j
-  read = rw e (bit-weight b j)
+  written : (v : Bool) → b - bitAnd b w + num v * w ≡ put b j v
+  written v = rw e (put-and b j v)
 
-  -- the parts of a byte with one bit written
-  pub written : (v : Bool) (x : ℕ) → x ≡ num v → (b / w / 2 * 2 + x) * w + b % w ≡ put b j v
-  written v x q = rw (q, e) (put-weight b j v)
+  pub written-set : (v : Bool) → v ≡ true → b - bitAnd b w + w ≡ put b j v
+  written-set v q = rw q (omega (arith, written true))
 
-  pub written-low : (v : Bool) (x : ℕ) → x ≡ num v → b < 256 → j < 8 → (b / w / 2 * 2 + x) * w + b % w < 256
-  written-low v x q h l = rw (written v x q) (put-small b j v 8 h l)
+  pub written-clear : (v : Bool) → v ≡ false → b - bitAnd b w ≡ put b j v
+  written-clear v q = rw q (omega (arith, written false))
 
-  pub written-above : b < 256 → b / w / 2 * 2 < 256
-  written-above h = omega (arith, div-le-self b w)
-
-  pub written-own : (x : ℕ) → b < 256 → x < 2 → b / w / 2 * 2 + x < 256
-  written-own x h l = omega (arith, div-le-self b w)
-
-  pub written-high : (v : Bool) (x : ℕ) → x ≡ num v → b < 256 → j < 8 → (b / w / 2 * 2 + x) * w < 256
-  written-high v x q h l = omega (arith, written-low v x q h l)
+  pub written-fits : b < 256 → j < 8 → b - bitAnd b w + w < 256
+  written-fits h l = rw (written-set true refl) (put-small b j true 8 h l)
 
 -- the bytes that a length takes
 pub bytes-more : (len : ℕ) → 0 < len % 8 → len / 8 + 1 ≡ bytesFor len

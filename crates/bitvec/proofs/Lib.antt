@@ -1,4 +1,5 @@
 pub mod Numbers
+pub mod Weights
 pub mod Bytes
 pub mod Laws
 pub mod Determined

@@ -61,7 +61,7 @@ put-small b (suc j) v (suc n) h l =
     let e : 2 ^ suc n ≡ 2 ^ n * 2 = pow-suc 2 n in
     omega (arith, put-small (b / 2) j v n (omega arith) (omega arith))
 
--- the same by weights, as code has it
+-- the same by quotients and remainders at the bit's weight
 weigh : (b j : ℕ) → b / 2 ^ suc j ≡ b / 2 / 2 ^ j
 weigh b j = rw (pow-suc 2 j, mul-comm (2 ^ j) 2, ← div-div-eq-div-mul b 2 (2 ^ j))
 

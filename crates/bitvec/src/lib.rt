@@ -21,35 +21,40 @@ pub enum Answer {
     Refused(Refusal),
 }
 
-// The weight of bit j of a byte.
-fn weight(j: usize) -> u8
+// The weights of the bits of a byte, a table of eight constants: bit j weighs 2 to the j.
+pub fn weight(j: usize) -> u8
     requires { ⌜ j < 8 ⌝ }
     ensures { λ r. ⌜ r ≡ 2 ^ j ⌝ }
 {
-    1 << j
+    match j {
+        0 => 1,
+        1 => 2,
+        2 => 4,
+        3 => 8,
+        4 => 16,
+        5 => 32,
+        6 => 64,
+        _ => 128,
+    }
 }
 
-// Bit j of a byte.
+// Bit j of a byte: whether its weight is in the byte.
 fn bit_of(b: u8, j: usize) -> bool
     requires { ⌜ j < 8 ⌝ }
     ensures { λ r. ⌜ r ≡ bit b j ⌝ }
 {
-    b / weight(j) % 2 == 1
+    let found = b & weight(j);
+    found != 0
 }
 
-fn number_of(v: bool) -> u8
-    ensures { λ r. ⌜ (r ≡ cond v 1 0) × (r < 2) ⌝ }
-{
-    if v { 1 } else { 0 }
-}
-
-// The byte b with v in bit j: what is above the bit, the bit, what is below it.
+// The byte b with v in bit j: the weight is taken away where it is in the byte, and added where the bit is to be set.
 fn with_bit(b: u8, j: usize, v: bool) -> u8
     requires { ⌜ j < 8 ⌝ }
     ensures { λ r. ⌜ r ≡ put b j v ⌝ }
 {
     let w = weight(j);
-    (b / w / 2 * 2 + number_of(v)) * w + b % w
+    let rest = b - (b & w);
+    if v { rest + w } else { rest }
 }
 
 // Bit i, which the bytes have.

@@ -3,43 +3,46 @@ use mathlib.Core.Path.{_≡_, refl, sym, _∙_}
 use mathlib.Core.Bool.{Bool, true, false, cond, _&&_, true≢false}
 use Prim.Native.Nat.{ℕ, _+_, _-_, _*_, _/_, _%_, _^_, _<_, _≤_}
 use native.Mathlib.Omega.{arith}
-use native.Mathlib.Nat.{div-le-self}
+use native.Mathlib.Nat.{div-one}
+use lib.Bits.{bitAnd}
 use lib.Pow.{shl-exact}
 use lib.Dec.{leb}
 use borrow.Author.Tests.{leb-true}
+use Rattle.bitvec.proofs.Weights.{and-weight, digit-put, digit-le}
 use Rattle.stack.specs.States.{stateAt, putState, top, marked, pushed, popped}
 use Rattle.stack.specs.Calls.{Told, done, badBit, some, markRule, pushRule, popRule, justEntered, notReturned, notRight, wentLeft}
 use Rattle.stack.specs.declared.ActionStack.{ActionStack}
-use Rattle.stack.proofs.Levels.{four, four-two, put-low}
+use Rattle.stack.proofs.Levels.{four-two, put-low, state-low}
 
-pub weight-is : (j : ℕ) → j < 32 → (1 * 2 ^ (2 * j)) % 18446744073709551616 ≡ 4 ^ j
-weight-is j h = rw (shl-exact {a = 1} 1 (2 * j) 64 (omega arith) (omega arith), four-two j) (omega arith)
+-- a state in its level's place
+pub placed : (j v : ℕ) → j < 32 → v < 4 → (v * 2 ^ (2 * j)) % 18446744073709551616 ≡ v * 4 ^ j
+placed j v h l = rw four-two (shl-exact {a = v} 2 (2 * j) 64 l (omega arith))
 
-module _ (x j w : ℕ) (e : w ≡ 4 ^ j) where
-  pub positive : 0 < w
-  positive = rw e (four j .1)
-
-  pub read : x / w % 4 ≡ stateAt x j
+-- the two bits of a level, each at its weight
+module _ (x j a b : ℕ) (e : a ≡ 2 ^ 0) (f : b ≡ 2 ^ 1) where
+  pub read : bitAnd (x / 2 ^ (2 * j)) a + bitAnd (x / 2 ^ (2 * j)) b ≡ stateAt x j
   unfolding stateAt
-  read = rw e
+  read = rw (e, f, ← four-two, and-weight, and-weight, div-one) (omega arith)
 
-  -- the parts of a number with one state written
-  pub written : (v : ℕ) → (x / w / 4 * 4 + v) * w + x % w ≡ putState x j v
-  unfolding putState
-  written v = rw e
+  pub read-fits : bitAnd (x / 2 ^ (2 * j)) a + bitAnd (x / 2 ^ (2 * j)) b < 18446744073709551616
+  read-fits = rw read (omega (arith, state-low x j))
 
-  module _ (v : ℕ) (h : x < 18446744073709551616) (i : j < 32) (l : v < 4) where
-    pub written-low : (x / w / 4 * 4 + v) * w + x % w < 18446744073709551616
-    written-low = rw (written v) (put-low x j v 32 h i l)
+pub state-below : (x j s : ℕ) → s ≡ stateAt x j → s < 4
+state-below x j s e = rw e (state-low x j)
 
-    pub written-high : (x / w / 4 * 4 + v) * w < 18446744073709551616
-    written-high = omega (arith, written-low)
+-- a number without the state s of a level, and with v in its place
+module _ (x j s p : ℕ) (e : s ≡ stateAt x j) (f : p ≡ s * 4 ^ j) where
+  pub taken-in : p ≤ x
+  unfolding stateAt
+  taken-in = rw (f, e) (digit-le x (4 ^ j) 4)
 
-    pub written-own : x / w / 4 * 4 + v < 18446744073709551616
-    written-own = omega (arith, div-le-self x w)
+  module _ (v q : ℕ) (g : q ≡ v * 4 ^ j) where
+    pub written : x - p + q ≡ putState x j v
+    unfolding stateAt putState
+    written = rw (f, e, g) (digit-put x (4 ^ j) 4 v)
 
-  pub written-above : x < 18446744073709551616 → x / w / 4 * 4 < 18446744073709551616
-  written-above h = omega (arith, div-le-self x w)
+    pub written-fits : x < 18446744073709551616 → j < 32 → v < 4 → x - p + q < 18446744073709551616
+    written-fits h i l = rw written (put-low x j v 32 h i l)
 
 -- a stack that has a top level
 module _ (s : ActionStack) (b : Bool) (e : b ≡ some s) (t : b ≡ true) where

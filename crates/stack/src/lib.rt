@@ -4,6 +4,7 @@
 pub mod lending;
 pub mod lent;
 
+use bitvec::weight;
 use words::refusal::Refusal;
 ghost use mathlib.Core.Path.{_≡_};
 ghost use Prim.Native.Nat.{_*_, _^_, _≤_, _<_};
@@ -21,29 +22,32 @@ pub enum Answer {
     Refused(Refusal),
 }
 
-// The weight of the first bit of a level.
-fn weight(level: u64) -> u64
-    requires { ⌜ level < 32 ⌝ }
-    ensures { λ r. ⌜ r ≡ 4 ^ level ⌝ }
-{
-    1 << (2 * level)
-}
-
-// The state of a level.
+// The state of a level. Without the levels below it, its two bits are bit 0 and bit 1, and each is read by its weight.
 pub fn state_at(bits: u64, level: u64) -> u64
     requires { ⌜ level < 32 ⌝ }
     ensures { λ r. ⌜ r ≡ stateAt bits level ⌝ }
 {
-    bits / weight(level) % 4
+    let own = bits >> (2 * level);
+    let first = weight(0) as u64;
+    let last = weight(1) as u64;
+    (own & first) + (own & last)
 }
 
-// The bits with another state at a level: what is above it, the state, what is below it.
+// A state in its level's place.
+fn at_level(state: u64, level: u64) -> u64
+    requires { ⌜ (level < 32) × (state < 4) ⌝ }
+    ensures { λ r. ⌜ r ≡ state * 4 ^ level ⌝ }
+{
+    state << (2 * level)
+}
+
+// The bits with another state at a level: the old state is taken away, and the new one is added.
 pub fn put_state(bits: u64, level: u64, state: u64) -> u64
     requires { ⌜ (level < 32) × (state < 4) ⌝ }
     ensures { λ r. ⌜ r ≡ putState bits level state ⌝ }
 {
-    let w = weight(level);
-    (bits / w / 4 * 4 + state) * w + bits % w
+    let rest = bits - at_level(state_at(bits, level), level);
+    rest + at_level(state, level)
 }
 
 impl ActionStack {
