@@ -99,7 +99,8 @@ uint64_t iset_check(uint64_t count, uint64_t root, const uint64_t *nodes, size_t
 uint64_t iset_build(uint64_t *nodes, size_t nodes_len, uint8_t *colours, size_t colours_len, const uint64_t *list, size_t list_len,
     uint64_t *answer, size_t answer_len);
 
-/* Removes the entry of a slot. Up to three other entries change slot with it.
+/* Removes the entry of a slot. Up to three other entries change slot with it. The slot that is the new count is empty then: its left, right
+ * and parent words are ISET_U, so that it points at nobody, and its other words 0.
  * Answer: its value, count, root, old slot, new slot, old slot, new slot, old slot, new slot; by rising old slot, unused pairs ISET_U twice.
  * Refusals: SHORT_ANSWER, NO_ROOM, BROKEN, NO_SUCH. */
 uint64_t iset_remove(uint64_t count, uint64_t root, uint64_t *nodes, size_t nodes_len, uint8_t *colours, size_t colours_len, uint64_t slot,
