@@ -35,7 +35,7 @@ uint64_t public_drain(const uint64_t *w, size_t wn, const uint8_t *b, size_t bn,
 /* Rust's libraries name it; nothing here unwinds. */
 void rust_eh_personality(void) {}
 
-enum { ROUNDS = 15, MOST = 65535, INCLUDED_BOTH = 0, UNBOUNDED_BOTH = 8 };
+enum { ROUNDS = 15, MOST = 65535, LOOKUPS = 10000, INCLUDED_BOTH = 0, UNBOUNDED_BOTH = 8 };
 static const uint64_t NONE = 4294967295;
 
 static uint64_t list[3 * MOST], mixed[3 * MOST], words[8 * MOST], spare[8 * MOST], held[8 * MOST], out[MOST], slots[MOST];
@@ -167,26 +167,26 @@ static uint64_t all_theirs(void) { return rust_all(crate); }
 static uint64_t all_ours(void) { return values(inner_drain(words, 8 * n, n, root, UNBOUNDED_BOTH, 0, 0, out, n)); }
 
 /* Points by chance. */
-static uint64_t points[10000], looked, range_end;
+static uint64_t points[LOOKUPS], range_end;
 static void before_points(void) {
-    for (size_t k = 0; k < 10000; k++)
+    for (size_t k = 0; k < LOOKUPS; k++)
         points[k] = any(range_end);
 }
 static uint64_t points_theirs(void) {
     uint64_t sum = 0;
-    for (size_t k = 0; k < looked; k++)
+    for (size_t k = 0; k < LOOKUPS; k++)
         sum = 3 * sum + rust_point(crate, points[k]);
     return sum;
 }
 static uint64_t points_ours(void) {
     uint64_t sum = 0;
-    for (size_t k = 0; k < looked; k++)
+    for (size_t k = 0; k < LOOKUPS; k++)
         sum = 3 * sum + values(inner_drain(words, 8 * n, n, root, INCLUDED_BOTH, points[k], points[k], out, 64));
     return sum;
 }
 static uint64_t points_public(void) {
     uint64_t sum = 0;
-    for (size_t k = 0; k < looked; k++)
+    for (size_t k = 0; k < LOOKUPS; k++)
         sum = 3 * sum + values(public_drain(words, 8 * n, bytes, colour_bytes, n, root, INCLUDED_BOTH, points[k], points[k], out, 64));
     return sum;
 }
@@ -270,17 +270,14 @@ int main(void) {
         check = {"check, against a plain Rust check", nothing, check_theirs, check_ours, nothing, 0},
         build = {"build, against from_sorted", nothing, build_theirs, build_ours, after_build, 0};
     static const size_t sizes[] = {1000, 16000, 65535};
-    static const uint64_t publicly[] = {10000, 1000, 200};
     printf("| case | entries | ratio, median | ratios of %d rounds | time for one, against the first size |\n|---|---|---|---|---|\n", ROUNDS);
     for (int k = 0; k < 3; k++) {
         start(sizes[k], 1);
         measure(&removal, n);
         measure(&insertion, n);
         measure(&all, n);
-        looked = 10000;
-        measure(&point, looked);
-        looked = publicly[k];
-        measure(&public, looked);
+        measure(&point, LOOKUPS);
+        measure(&public, LOOKUPS);
         measure(&check, n);
         measure(&build, n);
         rust_free(crate);

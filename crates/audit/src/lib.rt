@@ -1,8 +1,8 @@
 // The store check: one pass over the links, on any words.
 //
 // It is linear in the count, on every input. Before the pass goes on below a slot, the slot's parent link must name the
-// slot that the pass came from, and its two links must differ unless both are U. So no slot is entered twice, and two
-// links are followed for each slot entered. Without the first test a damaged store could lead two slots to one, without
+// slot that the pass came from, and its two links must differ unless both are U. So no slot is entered twice, and at most
+// two links are followed for each slot entered. Without the first test a damaged store could lead two slots to one, without
 // the second one slot twice to another, and each level would double the calls, up to 2^32 of them: the remaining height,
 // which falls from 33, would do no more than end it.
 use bitvec::colours::is_red;

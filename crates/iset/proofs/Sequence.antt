@@ -17,9 +17,7 @@ use Rattle.builder.specs.Build.{buildWords, buildColours, buildRoot}
 use Rattle.builder_laws.specs.Built.{Built}
 use Rattle.tree_rm_laws.specs.Remove.{Store, store, Removal, removeRule}
 use Rattle.tree_rm_laws.specs.Removed.{Inside}
-use Rattle.tree_rm_laws.specs.Sequence.{after, Within}
 use Rattle.tree_rm_laws.proofs.Inside.{removed-inside}
-use Rattle.tree_rm_laws.proofs.Sequence.{after-passes}
 use Rattle.tree_in_laws.specs.Insert.{insertRule}
 use Rattle.tree_in_laws.specs.Sequence.{Change, run, total, TakesAll}
 use Rattle.tree_in_laws.proofs.Inside.{inserted-inside}
@@ -39,15 +37,6 @@ use Rattle.iset.proofs.Removals as removals
 -- what a build leaves
 abbrev pub builtStore : List ℕ → List ℕ → List ℕ → Store
 builtStore W C S = store (buildNodes W C S) (buildColour W C S) (buildRule W C S .root)
-
-pub build-then-remove : (W C S l : List ℕ) → buildNumber (length W) (length C) S ≡ 0 → Within (length S / 3) l
-    → Passes (after (builtStore W C S) (length S / 3) l .words) (after (builtStore W C S) (length S / 3) l .colours) (length S / 3 - length l)
-    (after (builtStore W C S) (length S / 3) l .root)
-build-then-remove W C S l e w =
-    let a : Accepted (length W) (length C) S = accepted (length W) (length C) S e in
-    let b : Built S W C (length S / 3) (buildNodes W C S) (buildColour W C S) (buildRule W C S .root) = builds W C S e in
-    after-passes l (builtStore W C S) (length S / 3) (omega (arith, a .room-for)) (omega (arith, a .room-for, b .words-length))
-    (omega (arith, a .room-for, b .bits-length)) (b .passes) w
 
 -- a build, and any insertions and removals after it that find their slot or room
 pub build-then-change : (W C S : List ℕ) (l : List Change) → buildNumber (length W) (length C) S ≡ 0
