@@ -1,22 +1,22 @@
 -- The rule's steps, in the form in which the code's proofs ask for them.
 use mathlib.Core.Path.{_≡_, refl, sym, ap, ap₂, _∙_}
-use mathlib.Core.Bool.{Bool, true, false, cond}
+use mathlib.Core.Bool.{Bool, true, false, cond, not, _&&_}
 use mathlib.Core.List.{List}
 use Prim.Native.Nat.{ℕ, zero, suc, _+_, _-_, _*_, _^_, _<_, _≤_}
 use native.Mathlib.Omega.{arith}
 use native.Mathlib.Nat.{pow-suc}
 use lib.Pow.{pow-mono}
-use lib.Dec.{eqb}
-use borrow.Author.Tests.{eq-eqb, ne-eqb, lt-ltb, le-ltb}
+use lib.Dec.{eqb, ltb}
+use borrow.Author.Tests.{eq-eqb, ne-eqb, lt-ltb, le-ltb, eqb-false}
 use Rattle.words.specs.Ix.{U}
-use Rattle.words.specs.Nodes.{kid, interval}
+use Rattle.words.specs.Nodes.{kid, par, interval}
 use Rattle.words.specs.declared.interval.Interval.{Interval}
 use Rattle.bitvec.specs.Colours.{red}
 use Rattle.tree.specs.Hues.{dark}
 use Rattle.audit.specs.declared.Node.{Node}
 use Rattle.audit.specs.declared.Found.{Found}
 use Rattle.audit.specs.Survey.{nodeAt, noNodes, tied, fits, combined, childless, enters, survey}
-use Rattle.audit.proofs.Tests.{both, same, less}
+use Rattle.audit.proofs.Tests.{both, same, less, not-so, twins}
 
 -- a node that fits, and one that does not
 pub joined : (x : Node) (l r : Found) (b : Bool) (d : ℕ) → b ≡ fits x l r → b ≡ true → (d ≡ dark (x .red)) × (d ≤ 1)
@@ -41,6 +41,14 @@ module _ (d : Interval) (a : Found) (e : a ≡ noNodes true d) where
 
   pub lone-is : (x : Node) (r : Found) → r ≡ combined x a a → r ≡ combined x (noNodes true d) (noNodes true d)
   lone-is x r f = f ∙ ap (λ (b : Found). combined x b b) e
+
+module _ (W : List ℕ) (n h p k : ℕ) where
+  pub leaf-is : (i j u : ℕ) → k < n → i ≡ kid W true k → j ≡ kid W false k → u ≡ par W k
+      → (eqb u p && eqb i U && eqb j U && not (eqb k U) && ltb 1 h) ≡ childless W n h p k
+  leaf-is i j u q e f g = rw (lt-ltb k n q, e, f, g) refl
+
+  pub leaf-not : n ≤ k → false ≡ childless W n h p k
+  leaf-not q = rw (le-ltb k n q) refl
 
 -- what holds of both holds of the one that is taken
 cond-all : {A : Type 0} (P : A → Type 0) (b : Bool) {x y : A} → P x → P y → P (cond b x y)
@@ -126,13 +134,23 @@ module _ (W C : List ℕ) (n : ℕ) where
           ∙ ap (λ (y : Node). combined y (survey W C n (h - 1) k (y .interval) (y .left)) (survey W C n (h - 1) k (y .interval) (y .right))) m)
 
   -- the same, where the slot has no children
-  pub alone : (h p : ℕ) (d : Interval) (k : ℕ) (r : Found) → (h ≡ 0 → ⊥) → (k ≡ U → ⊥) → k < n → (x : Node) (t : Bool) → x ≡ nodeAt W C k → t ≡ tied x p
-      → r ≡ combined x (noNodes true (x .interval)) (noNodes true (x .interval)) → t ≡ true → (l : Bool) → l ≡ childless x h → l ≡ true
-      → r ≡ survey W C n h p d k
-  alone h p d k r z u q x t m c e v l f w =
-      let leaf : (((x .left ≡ U) × (x .right ≡ U)) × (1 < h)) =
-      both (both (same (x .left) U) (same (x .right) U)) (less 1 h) .holds (sym f ∙ w) in
-      let on : h - 1 ≡ 0 → ⊥ = λ y. omega arith in
-      entered h p d k r z u q x t m c (noNodes true (x .interval)) (noNodes true (x .interval)) e v
-      (ended (h - 1) k (x .interval) (x .left) (noNodes true (x .interval)) refl on (leaf .0 .0))
-      (ended (h - 1) k (x .interval) (x .right) (noNodes true (x .interval)) refl on (leaf .0 .1))
+  module _ (h p k : ℕ) (l : Bool) (f : l ≡ childless W n h p k) (w : l ≡ true) where
+    leaf : (k < n) × (((((par W k ≡ p) × (kid W true k ≡ U)) × (kid W false k ≡ U)) × (eqb k U ≡ false)) × (1 < h))
+    leaf =
+        both (less k n)
+        (both (both (both (both (same (par W k) p) (same (kid W true k) U)) (same (kid W false k) U)) (not-so (eqb k U))) (less 1 h))
+        .holds (sym f ∙ w)
+
+    pub alive : k < n
+    alive = leaf .0
+
+    pub alone : (d : Interval) (r : Found) (x : Node) → x ≡ nodeAt W C k → r ≡ combined x (noNodes true (x .interval)) (noNodes true (x .interval))
+        → r ≡ survey W C n h p d k
+    alone d r x m e =
+        let (((own, left), right), real) = leaf .1 .0 in
+        let tie : true ≡ tied x p = rw m (sym (both (same (par W k) p) (twins (kid W true k) (kid W false k)) .says (own, λ y. left))) in
+        let on : h - 1 ≡ 0 → ⊥ = λ y. omega (arith, leaf .1 .1) in
+        entered h p d k r (λ y. omega (arith, leaf .1 .1)) (eqb-false k U real) alive x true m tie (noNodes true (x .interval))
+        (noNodes true (x .interval)) e refl
+        (ended (h - 1) k (x .interval) (x .left) (noNodes true (x .interval)) refl on (rw m left))
+        (ended (h - 1) k (x .interval) (x .right) (noNodes true (x .interval)) refl on (rw m right))

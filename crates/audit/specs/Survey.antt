@@ -67,9 +67,9 @@ combined x l r =
     })
     (noNodes false (x .interval))
 
--- a node has no children, and the height allows for the two ways past it
-abbrev pub childless : Node → ℕ → Bool
-childless x height = eqb (x .left) U && eqb (x .right) U && ltb 1 height
+-- the link k below p leads to a slot that knows its parent and has no children, and the height allows for the two ways past it
+abbrev pub childless : List ℕ → ℕ → ℕ → ℕ → ℕ → Bool
+childless W n height p k = ltb k n && (eqb (par W k) p && eqb (kid W true k) U && eqb (kid W false k) U && not (eqb k U) && ltb 1 height)
 
 -- the slot k, below p, is entered
 abbrev pub enters : List ℕ → List ℕ → ℕ → ℕ → ℕ → Bool

@@ -140,14 +140,23 @@ fn combine(x: Node, l: Found, r: Found) -> Found
     }
 }
 
-// Whether a node has no children, and the height allows for the ways past it.
-fn is_leaf(x: Node, height: u64) -> bool
-    ensures { λ r. ⌜ r ≡ childless x height ⌝ }
+// Whether a link below the slot `parent` leads to a slot that knows its parent and has no children, and the height allows for the ways
+// past it.
+fn is_leaf(nodes: &[u64], count: u64, link: u64, parent: u64, height: u64) -> bool
+    requires { ⌜ count * 8 ≤ length (now nodes) ⌝ }
+    ensures { λ r. ⌜ r ≡ childless (now (nodes .entry)) count height parent link ⌝ }
 {
-    (x.left == U) & (x.right == U) & (1 < height)
+    if link < count {
+        let left = child_of(nodes, link, true);
+        let right = child_of(nodes, link, false);
+        let up = parent_of(nodes, link);
+        (up == parent) & (left == U) & (right == U) & (link != U) & (1 < height)
+    } else {
+        false
+    }
 }
 
-// What is found of a node without children. Half of all nodes are such: two calls less for each.
+// What is found of a node without children.
 fn lone(x: Node) -> Found
     ensures { λ r. ⌜ r ≡ combined x (noNodes true (x .interval)) (noNodes true (x .interval)) ⌝ }
 {
@@ -156,7 +165,28 @@ fn lone(x: Node) -> Found
     combine(x, none, none)
 }
 
-// The subtree at a link below the slot `parent`, whose interval is `above`, with fewer than `height` nodes on its ways down.
+// The subtree at a link below the slot `parent`, whose interval is `above`, with fewer than `height` nodes on its ways down. Half of all
+// nodes have no children, and are judged at once: three calls less for each.
+fn below(
+    nodes: &[u64],
+    colours: &[u8],
+    count: u64,
+    link: u64,
+    parent: u64,
+    above: Interval,
+    height: u64,
+) -> Found
+    requires { ⌜ (count * 8 ≤ length (now nodes)) × (count ≤ length (now colours) * 8) × (height ≤ 33) ⌝ }
+    ensures { λ r. ⌜ r ≡ survey (now (nodes .entry)) (now (colours .entry)) count height parent above link ⌝ }
+{
+    if is_leaf(nodes, count, link, parent, height) {
+        lone(node_at(nodes, colours, link))
+    } else {
+        walk(nodes, colours, count, link, parent, above, height)
+    }
+}
+
+// The same by its cases.
 fn walk(
     nodes: &[u64],
     colours: &[u8],
@@ -180,12 +210,9 @@ fn walk(
     }
     let x = node_at(nodes, colours, link);
     if is_tied(x, parent) {
-        if is_leaf(x, height) {
-            return lone(x);
-        }
         let own = x.interval;
-        let l = walk(nodes, colours, count, x.left, link, own, height - 1);
-        let r = walk(nodes, colours, count, x.right, link, own, height - 1);
+        let l = below(nodes, colours, count, x.left, link, own, height - 1);
+        let r = below(nodes, colours, count, x.right, link, own, height - 1);
         combine(x, l, r)
     } else {
         no_nodes(false, above)
