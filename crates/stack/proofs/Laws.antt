@@ -3,9 +3,9 @@ use mathlib.Core.Path.{_≡_, refl, sym, _∙_}
 use mathlib.Core.Bool.{Bool, true, false, cond, _&&_, true≢false}
 use Prim.Native.Nat.{ℕ, _+_, _-_, _*_, _/_, _%_, _^_, _<_, _≤_}
 use native.Mathlib.Omega.{arith}
-use native.Mathlib.Nat.{div-one}
+use native.Mathlib.Nat.{div-one, mod-eq-of-lt, lt-of-le-of-lt, lt-of-lt-of-le}
 use lib.Bits.{bitAnd}
-use lib.Pow.{shl-exact}
+use lib.Pow.{pow-add, pow-mono, shl-lt}
 use lib.Dec.{leb}
 use borrow.Author.Tests.{leb-true}
 use Rattle.bitvec.proofs.Weights.{and-weight, digit-put, digit-le}
@@ -14,9 +14,15 @@ use Rattle.stack.specs.Calls.{Told, done, badBit, some, markRule, pushRu
 use Rattle.stack.specs.declared.ActionStack.{ActionStack}
 use Rattle.stack.proofs.Levels.{four-two, put-low, state-low}
 
--- a state in its level's place
-pub placed : (j v : ℕ) → j < 32 → v < 4 → (v * 2 ^ (2 * j)) % 18446744073709551616 ≡ v * 4 ^ j
-placed j v h l = rw four-two (shl-exact {a = v} 2 (2 * j) 64 l (omega arith))
+-- the weight of a level's first bit, from that in its byte
+pub level-weight : (j a : ℕ) → j < 32 → a ≡ 2 ^ (2 * (j % 4)) → (a * 2 ^ (8 * (j / 4))) % 18446744073709551616 ≡ 4 ^ j
+level-weight j a h e = rw (e, ← pow-add, k) (mod-eq-of-lt (lt-of-le-of-lt (pow-mono {i = 2 * j} {j = 62} (omega arith)) (omega arith)) ∙ sym (four-two j))
+  where
+    k : 2 * (j % 4) + 8 * (j / 4) ≡ 2 * j
+    k = omega arith
+
+pub weighed-fits : (j v w : ℕ) → w ≡ 4 ^ j → j < 32 → v < 4 → v * w < 18446744073709551616
+weighed-fits j v w e h l = rw (e, four-two) (lt-of-lt-of-le (shl-lt {a = v} 2 (2 * j) l) (pow-mono {i = 2 + 2 * j} {j = 64} (omega arith)))
 
 -- the two bits of a level, each at its weight
 module _ (x j a b : ℕ) (e : a ≡ 2 ^ 0) (f : b ≡ 2 ^ 1) where
@@ -30,18 +36,18 @@ module _ (x j a b : ℕ) (e : a ≡ 2 ^ 0) (f : b ≡ 2 ^ 1) where
 pub state-below : (x j s : ℕ) → s ≡ stateAt x j → s < 4
 state-below x j s e = rw e (state-low x j)
 
--- a number without the state s of a level, and with v in its place
-module _ (x j s p : ℕ) (e : s ≡ stateAt x j) (f : p ≡ s * 4 ^ j) where
-  pub taken-in : p ≤ x
+-- a number without the state s of a level, at its weight w, and with v in its place
+module _ (x j s w : ℕ) (e : s ≡ stateAt x j) (f : w ≡ 4 ^ j) where
+  pub taken-in : s * w ≤ x
   unfolding stateAt
-  taken-in = rw (f, e) (digit-le x (4 ^ j) 4)
+  taken-in = rw (e, f) (digit-le x (4 ^ j) 4)
 
-  module _ (v q : ℕ) (g : q ≡ v * 4 ^ j) where
-    pub written : x - p + q ≡ putState x j v
+  module _ (v : ℕ) where
+    pub written : x - s * w + v * w ≡ putState x j v
     unfolding stateAt putState
-    written = rw (f, e, g) (digit-put x (4 ^ j) 4 v)
+    written = rw (e, f) (digit-put x (4 ^ j) 4 v)
 
-    pub written-fits : x < 18446744073709551616 → j < 32 → v < 4 → x - p + q < 18446744073709551616
+    pub written-fits : x < 18446744073709551616 → j < 32 → v < 4 → x - s * w + v * w < 18446744073709551616
     written-fits h i l = rw written (put-low x j v 32 h i l)
 
 -- a stack that has a top level

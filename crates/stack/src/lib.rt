@@ -33,21 +33,24 @@ pub fn state_at(bits: u64, level: u64) -> u64
     (own & first) + (own & last)
 }
 
-// A state in its level's place.
-fn at_level(state: u64, level: u64) -> u64
-    requires { ⌜ (level < 32) × (state < 4) ⌝ }
-    ensures { λ r. ⌜ r ≡ state * 4 ^ level ⌝ }
+// The weight of the first of a level's two bits, bit 2 * level. A byte has the bits of four levels: the table has their weights in it, and
+// each byte below weighs eight bits more.
+fn level_weight(level: u64) -> u64
+    requires { ⌜ level < 32 ⌝ }
+    ensures { λ r. ⌜ r ≡ 4 ^ level ⌝ }
 {
-    state << (2 * level)
+    let in_byte = weight((2 * (level % 4)) as usize) as u64;
+    in_byte << (8 * (level / 4))
 }
 
-// The bits with another state at a level: the old state is taken away, and the new one is added.
+// The bits with another state at a level: the old state is taken away at its weight, and the new one is added.
 pub fn put_state(bits: u64, level: u64, state: u64) -> u64
     requires { ⌜ (level < 32) × (state < 4) ⌝ }
     ensures { λ r. ⌜ r ≡ putState bits level state ⌝ }
 {
-    let rest = bits - at_level(state_at(bits, level), level);
-    rest + at_level(state, level)
+    let w = level_weight(level);
+    let rest = bits - state_at(bits, level) * w;
+    rest + state * w
 }
 
 impl ActionStack {

@@ -1,15 +1,16 @@
-use Rattle.stack.proofs.Laws.{state-below, taken-in, written, written-fits}
+use Rattle.stack.proofs.Laws.{state-below, weighed-fits, taken-in, written, written-fits}
 use borrow.Author.Needs.{needs}
 use Rattle.stack.proofs.put_state.Statement.{statement}
 use Rattle.stack.proofs.put_state.Tie as tie
 
 pub put-state-spec : {M : Type 1} → statement M
-put-state-spec =
+put-state-spec = 
     tie.close
     (tie.spec
     (λ c κs. search needs)
-    (λ c κs. (search needs, search state-below))
-    (λ c. search taken-in)
     (λ c κs. search needs)
+    (λ c. search (weighed-fits, state-below))
+    (λ c. search taken-in)
+    (λ c. search weighed-fits)
     (λ c. search written-fits)
     (λ c. search written))
