@@ -1,15 +1,15 @@
 -- The weights of bits: the table's rule, proved once for all of it; what is in a number at the weight of a bit, and the number with that bit written.
 use mathlib.Core.Path.{_≡_, refl, sym, ap, _∙_}
-use mathlib.Core.Bool.{Bool, true, false, not}
+use mathlib.Core.Bool.{Bool, true, false, not, _&&_, false≢true}
 use mathlib.Core.List.{List, [], _∷_}
 use Prim.Native.Nat.{ℕ, zero, suc, _+_, _-_, _*_, _/_, _%_, _^_, _<_, _≤_, zero-le}
 use native.Mathlib.Omega.{arith}
 use native.Mathlib.Nat.{pow-suc, add-mul, div-add-mod', le-antisymm, le-of-suc-le-suc, one-mul, zero-mul}
 use lib.ListN.{getD}
-use lib.Dec.{eqb}
+use lib.Dec.{eqb, ltb}
 use lib.Pow.{pow-pos, high-ones}
 use lib.Bits.{bitAnd, and-high}
-use borrow.Author.Tests.{eqb-true, eqb-false, ne-eqb}
+use borrow.Author.Tests.{eqb-true, eqb-false, ne-eqb, ltb-true}
 use Rattle.bitvec.specs.Bits.{bit, put}
 use Rattle.bitvec.proofs.Numbers.{num, bit-weight, put-weight}
 
@@ -23,9 +23,22 @@ doubles-at x zero k h = absurd (omega arith)
 doubles-at x (suc n) zero h = omega arith
 doubles-at x (suc n) (suc k) h = doubles-at (x * 2) n k (omega arith) ∙ rw (pow-suc 2 k) (omega arith)
 
--- the table is eight doubles from 1: an entry is tested against them by computing, and it is 2 to the k
-pub entry-is : (w k : ℕ) → w ≡ getD (doubles 1 8) k 0 → k < 8 → w ≡ 2 ^ k
-entry-is w k e h = e ∙ doubles-at 1 8 k h ∙ omega arith
+-- the table of `weight`
+abbrev weights : List ℕ
+weights = 1 ∷ 2 ∷ 4 ∷ 8 ∷ 16 ∷ 32 ∷ 64 ∷ 128 ∷ []
+
+-- its rule: a test over the whole table, which is computed, and the law of doubles
+weights-are : (k : ℕ) → k < 8 → getD weights k 0 ≡ 2 ^ k
+weights-are k h = doubles-at 1 8 k h ∙ omega arith
+
+-- so what is handed out for bit j, where it is the entry k of the table, and k is j
+pub entry-is : (j k w : ℕ) → j ≡ k → ltb k 8 && eqb w (getD weights k 0) ≡ true → w ≡ 2 ^ j
+entry-is j k w e t = go (ltb k 8) (eqb w (getD weights k 0)) refl refl t
+  where
+    go : (a b : Bool) → ltb k 8 ≡ a → eqb w (getD weights k 0) ≡ b → a && b ≡ true → w ≡ 2 ^ j
+    go true true f g z = eqb-true w (getD weights k 0) g ∙ weights-are k (ltb-true k 8 f) ∙ ap (λ (i : ℕ). 2 ^ i) (sym e)
+    go true false f g z = absurd (false≢true z)
+    go false b f g z = absurd (false≢true z)
 
 -- the last bit of a byte is the one that is none of the others
 past : (k j : ℕ) → k ≤ j → (j ≡ k → ⊥) → suc k ≤ j

@@ -5,7 +5,7 @@ use Rattle.stack.proofs.level_weight.Statement.{statement}
 use Rattle.stack.proofs.level_weight.Tie as tie
 
 pub level-weight-spec : {M : Type 1} → statement M
-level-weight-spec = 
+level-weight-spec =
     tie.close
     (tie.spec
     (λ c. omega arith)

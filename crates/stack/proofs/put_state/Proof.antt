@@ -4,7 +4,7 @@ use Rattle.stack.proofs.put_state.Statement.{statement}
 use Rattle.stack.proofs.put_state.Tie as tie
 
 pub put-state-spec : {M : Type 1} → statement M
-put-state-spec = 
+put-state-spec =
     tie.close
     (tie.spec
     (λ c κs. search needs)
