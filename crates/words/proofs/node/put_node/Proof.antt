@@ -14,4 +14,9 @@ put-node-spec =
     (λ c κs. search needs)
     (λ c κs. search needs)
     (λ c. search needs)
-    (λ c. cc))
+    (λ c. let up = c .before .before in
+    let right = up .before .before .before .before in
+    let left = right .before .before .before .before in
+    let hull = left .before .before .before .before in
+    let entry = hull .before .before .before .before in
+    rw (up .put-parent .ensures, right .put-child2 .ensures, left .put-child .ensures, hull .put-hull .ensures, entry .put-entry .ensures)))

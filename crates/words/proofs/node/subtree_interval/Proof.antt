@@ -13,4 +13,5 @@ subtree-interval-spec =
     (λ c κs. search needs)
     (λ c κs. search needs)
     (λ c κs. search needs)
-    (λ c. cc))
+    (λ c. let left = c .before .before in
+    rw (c .extend-by2 .ensures, c .before .child-of2 .ensures, left .extend-by .ensures, left .before .child-of .ensures, left .before .before .interval-of .ensures)))

@@ -13,4 +13,7 @@ swap-with-spec =
     (λ c κs. search needs)
     (λ c κs. search needs)
     (λ c. search needs)
-    (λ c. cc))
+    (λ c. let second = c .before .before in
+    let first = second .before .before .before .before in
+    let read = first .before .before in
+    rw (second .put-entry2 .ensures, first .put-entry .ensures, read .entry-of2 .ensures, read .before .before .entry-of .ensures)))
