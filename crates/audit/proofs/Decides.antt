@@ -108,7 +108,7 @@ module _ (W C : List ℕ) (n : ℕ) where
       survey-finds m h s (interval W s) (kid W false s) r (g .right) (a .2) (well-right W C l s r w) (omega arith) in
       let u : eqb s U ≡ false = ne-eqb s U (omega (arith, g .live)) in
       let v : enters W C n p s ≡ true = entering W C n p s .says (g .live, (g .up, a .0)) in
-      rw (g .here, u, v, x, y) (found-node W C l s r d (node-suits W C l s r w))
+      rw (g .here, u, v) (ap₂ (combined (nodeAt W C s)) x y ∙ found-node W C l s r d (node-suits W C l s r w))
 
 module _ (W C : List ℕ) (n r : ℕ) (small : n ≤ 65535) where
   whole : (a : Found) → Tells (isWhole n a) (((a .ok ≡ true) × (a .size ≡ n)) × (a .red ≡ false))
