@@ -11,4 +11,7 @@ case-two-spec =
     (λ c κs. search needs)
     (λ c. search needs)
     (λ c. search needs)
-    (λ c. cc))
+    (λ c. let links = c .before .before in
+    let black = links .before .before .before .before in
+    let red = black .before .before .before .before in
+    rw (links .turn-two .ensures .0, links .turn-two .ensures .1, black .set-black .ensures, red .set-red .ensures)))

@@ -9,4 +9,5 @@ copy-colour-spec =
     (λ c κs. search needs)
     (λ c κs. search needs)
     (λ c. search needs)
-    (λ c. cc))
+    (λ c. let put = c .before .before in
+    rw (put .put-bit .ensures, put .before .before .is-red .ensures)))

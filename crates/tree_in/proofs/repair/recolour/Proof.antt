@@ -10,4 +10,7 @@ recolour-spec =
     (λ c κs. search needs)
     (λ c κs. search needs)
     (λ c. search needs)
-    (λ c. cc))
+    (λ c. let third = c .before .before in
+    let second = third .before .before .before .before in
+    let first = second .before .before .before .before in
+    rw (third .set-red .ensures, second .set-black2 .ensures, first .set-black .ensures)))
