@@ -5,9 +5,4 @@ use Rattle.tree_rm_links.proofs.remove_child.Tie as tie
 
 pub remove-child-spec : {M : Type 1} → statement M
 unfolding removeChild
-remove-child-spec =
-    tie.close
-    (tie.spec
-    (λ c κs. search needs)
-    (λ c. search needs)
-    (λ c. cc))
+remove-child-spec = tie.close (tie.spec (λ c κs. search needs) (λ c. search needs) (λ c. c .before .before .replace-child .ensures))

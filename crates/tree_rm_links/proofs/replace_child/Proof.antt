@@ -11,4 +11,5 @@ replace-child-spec =
     (λ c κs. search needs)
     (λ c κs. search needs)
     (λ c. search needs)
-    (λ c. cc))
+    (λ c. let put = c .before .before in
+    rw (put .put-child .ensures, put .before .before .child-of .ensures)))

@@ -12,4 +12,5 @@ home-of-spec =
     (λ c κs. search needs)
     (λ c κs. search needs)
     (λ c κs. search needs)
-    (λ c. cc))
+    (λ c. let second = c .before .before in
+    rw (c .after-move3 .ensures, c .before .emptied-slot .ensures, second .after-move2 .ensures, second .before .after-move .ensures)))

@@ -14,4 +14,7 @@ sorted-pairs-spec =
     (λ c κs. search needs)
     (λ c κs. search needs)
     (λ c κs. search needs)
-    (λ c. cc))
+    (λ c. let middle = c .before .before in
+    let third = middle .before in
+    let high = third .before in
+    rw (c .upper-of3 .ensures, c .before .lower-of3 .ensures, middle .lower-of2 .ensures, third .upper-of2 .ensures, high .upper-of .ensures, high .before .lower-of .ensures)))
