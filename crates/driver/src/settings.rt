@@ -1,59 +1,77 @@
 // The settings: the store, the bytes of the bit calls, and taking over what the last request left.
-use driver_state::answer::what;
 use driver_state::arena;
 use driver_state::arena::BYTES;
+use driver_state::arena::COLOURS;
 use driver_state::arena::MOST_BYTES;
 use driver_state::arena::MOST_WORDS;
 use driver_state::arena::NEW_BYTES;
-use driver_state::arena::NEW_COLOURS;
-use driver_state::arena::NEW_WORDS;
+use driver_state::arena::WORDS;
 use driver_state::given;
 use driver_state::state::Left;
 use driver_state::state::State;
 
-// `store COUNT ROOT LIST LIST`
-pub fn store(
-    s: State,
-    numbers: &[u64],
-    words: &mut [u64],
-    octets: &mut [u8],
-    out: &mut [u8],
-) -> State {
+pub enum Call {
+    Store,
+    Bytes,
+    Commit,
+}
+
+// `COUNT ROOT LIST LIST`
+fn is_store(numbers: &[u64]) -> bool {
     let w = given::size(numbers, 2);
     let b = given::size(numbers, 3 + w);
-    if (w <= MOST_WORDS) & (b <= MOST_BYTES) & given::ends_in_bytes(numbers, 4 + w, 4 + w + b) {
-        arena::take_words(words, 0, numbers, 3, w);
-        arena::take_bytes(octets, 0, numbers, 4 + w, b);
-        s.with_store(given::number(numbers, 0), given::number(numbers, 1), w, b)
-    } else {
-        what(s, out)
-    }
+    (w <= MOST_WORDS) & (b <= MOST_BYTES) & given::ends_in_bytes(numbers, 4 + w, 4 + w + b)
 }
 
-// `bytes LIST`
-pub fn bytes(s: State, numbers: &[u64], octets: &mut [u8], out: &mut [u8]) -> State {
+// `LIST`
+fn is_bytes(numbers: &[u64]) -> bool {
     let n = given::size(numbers, 0);
-    if (n <= MOST_BYTES) & given::ends_in_bytes(numbers, 1, 1 + n) {
-        arena::take_bytes(octets, BYTES, numbers, 1, n);
-        s.with_bytes(n)
-    } else {
-        what(s, out)
+    (n <= MOST_BYTES) & given::ends_in_bytes(numbers, 1, 1 + n)
+}
+
+// Whether the numbers are those of the setting.
+pub fn fits(call: Call, numbers: &[u64]) -> bool {
+    match call {
+        Call::Store => is_store(numbers),
+        Call::Bytes => is_bytes(numbers),
+        Call::Commit => numbers.len() == 0,
     }
 }
 
-// `commit`
-pub fn commit(s: State, words: &mut [u64], octets: &mut [u8]) -> State {
+fn store(s: State, numbers: &[u64], words: &mut [u64]) -> State {
+    let w = given::size(numbers, 2);
+    let b = given::size(numbers, 3 + w);
+    arena::take_words(words, WORDS, numbers, 3, w);
+    arena::take_words(words, COLOURS, numbers, 4 + w, b);
+    s.with_store(given::number(numbers, 0), given::number(numbers, 1), w, b)
+}
+
+fn bytes(s: State, numbers: &[u64], words: &mut [u64]) -> State {
+    let n = given::size(numbers, 0);
+    arena::take_words(words, BYTES, numbers, 1, n);
+    s.with_bytes(n)
+}
+
+fn commit(s: State, words: &mut [u64]) -> State {
     let left = s.left;
     match left {
         Left::Nothing => s,
         Left::Store(count, root, w, b) => {
-            arena::copy_words(words, NEW_WORDS, 0, w);
-            arena::copy_bytes(octets, NEW_COLOURS, 0, b);
+            arena::copy_words(words, 0, WORDS, w);
+            arena::copy_words(words, NEW_BYTES, COLOURS, b);
             s.with_store(count, root, w, b)
         }
         Left::Bytes(n) => {
-            arena::copy_bytes(octets, NEW_BYTES, BYTES, n);
+            arena::copy_words(words, NEW_BYTES, BYTES, n);
             s.with_bytes(n)
         }
+    }
+}
+
+pub fn set(s: State, call: Call, numbers: &[u64], words: &mut [u64]) -> State {
+    match call {
+        Call::Store => store(s, numbers, words),
+        Call::Bytes => bytes(s, numbers, words),
+        Call::Commit => commit(s, words),
     }
 }

@@ -9,17 +9,21 @@ use driver_state::given;
 use driver_state::state::Left;
 use driver_state::state::State;
 use lines::output;
-use words::refusal::Refusal;
 
-// A call with its length, and its place and its bit where it has them.
-enum Call {
-    Get(usize, usize),
-    Set(usize, usize, bool),
-    Push(usize, bool),
-    Pop(usize),
-    SwapRemove(usize, usize),
-    FromElem(usize, bool),
-    Unknown,
+pub enum Call {
+    Get,
+    Set,
+    Push,
+    Pop,
+    SwapRemove,
+    FromElem,
+}
+
+// A call's length, and its place and its bit where it has them.
+struct Given {
+    len: usize,
+    at: usize,
+    bit: bool,
 }
 
 // What is printed of an answer: the refusal's number, the bit and the length.
@@ -29,32 +33,38 @@ struct Shown {
     len: usize,
 }
 
-// The calls whose last number is a bit.
-fn writing_call(name: &[u8], numbers: &[u64]) -> Call {
-    if given::is(name, numbers, b"bset ", 3) & given::is_bit(numbers, 2) {
-        Call::Set(
-            given::place(numbers, 0),
-            given::place(numbers, 1),
-            given::bit(numbers, 2),
-        )
-    } else if given::is(name, numbers, b"bpush ", 2) & given::is_bit(numbers, 1) {
-        Call::Push(given::place(numbers, 0), given::bit(numbers, 1))
-    } else if given::is(name, numbers, b"bfrom ", 2) & given::is_bit(numbers, 1) {
-        Call::FromElem(given::place(numbers, 0), given::bit(numbers, 1))
-    } else {
-        Call::Unknown
+// How many numbers the call has.
+fn count_of(call: Call) -> usize {
+    match call {
+        Call::Get => 2,
+        Call::Set => 3,
+        Call::Push => 2,
+        Call::Pop => 1,
+        Call::SwapRemove => 2,
+        Call::FromElem => 2,
     }
 }
 
-fn call_of(name: &[u8], numbers: &[u64]) -> Call {
-    if given::is(name, numbers, b"bget ", 2) {
-        Call::Get(given::place(numbers, 0), given::place(numbers, 1))
-    } else if given::is(name, numbers, b"bpop ", 1) {
-        Call::Pop(given::place(numbers, 0))
-    } else if given::is(name, numbers, b"bswap ", 2) {
-        Call::SwapRemove(given::place(numbers, 0), given::place(numbers, 1))
-    } else {
-        writing_call(name, numbers)
+// Where the bit stands that the call writes; 3, where no number is, if it writes none.
+fn bit_place(call: Call) -> usize {
+    match call {
+        Call::Set => 2,
+        Call::Push => 1,
+        Call::FromElem => 1,
+        _ => 3,
+    }
+}
+
+// Whether the numbers are those of the call.
+pub fn fits(call: Call, numbers: &[u64]) -> bool {
+    (numbers.len() == count_of(call)) & (given::number(numbers, bit_place(call)) < 2)
+}
+
+fn given_of(call: Call, numbers: &[u64]) -> Given {
+    Given {
+        len: given::place(numbers, 0),
+        at: given::place(numbers, 1),
+        bit: given::number(numbers, bit_place(call)) == 1,
     }
 }
 
@@ -75,59 +85,48 @@ fn shown_of(a: Answer, given: usize) -> Shown {
 }
 
 // The length that a refused call has: the one given, 0 for `bfrom`.
-fn given_length(call: Call) -> usize {
+fn given_length(call: Call, len: usize) -> usize {
+    if let Call::FromElem = call { 0 } else { len }
+}
+
+fn done(call: Call, g: Given, bytes: &mut [u8]) -> Answer {
+    let v = BitVec { len: g.len };
     match call {
-        Call::Get(len, _) => len,
-        Call::Set(len, _, _) => len,
-        Call::Push(len, _) => len,
-        Call::Pop(len) => len,
-        Call::SwapRemove(len, _) => len,
-        Call::FromElem(_, _) => 0,
-        Call::Unknown => 0,
+        Call::Get => v.get(bytes, g.at),
+        Call::Set => v.set(bytes, g.at, g.bit),
+        Call::Push => v.push(bytes, g.bit),
+        Call::Pop => v.pop(bytes),
+        Call::SwapRemove => v.swap_remove(bytes, g.at),
+        Call::FromElem => BitVec::from_elem(bytes, g.len, g.bit),
     }
 }
 
-// Makes the call on just the bytes that it is about.
-fn done(call: Call, bytes: &mut [u8]) -> Answer {
-    match call {
-        Call::Get(len, i) => BitVec { len }.get(bytes, i),
-        Call::Set(len, i, v) => BitVec { len }.set(bytes, i, v),
-        Call::Push(len, v) => BitVec { len }.push(bytes, v),
-        Call::Pop(len) => BitVec { len }.pop(bytes),
-        Call::SwapRemove(len, i) => BitVec { len }.swap_remove(bytes, i),
-        Call::FromElem(len, v) => BitVec::from_elem(bytes, len, v),
-        Call::Unknown => Answer::Refused(Refusal::BadBit),
-    }
+// Makes the call on a copy, for which `bytes` has the room.
+fn on_copy(call: Call, g: Given, words: &mut [u64], bytes: &mut [u8]) -> Answer {
+    arena::load(words, BYTES, bytes);
+    let a = done(call, g, bytes);
+    arena::save(words, NEW_BYTES, bytes);
+    a
 }
 
-// Makes the call on the first n bytes of the copy.
-fn done_there(call: Call, octets: &mut [u8], n: usize) -> Shown {
-    let from = arena::least(NEW_BYTES, octets.len());
-    let there = arena::least(n, octets.len() - from);
-    let a = done(call, &mut octets[from..from + there]);
-    shown_of(a, given_length(call))
+fn answered(call: Call, g: Given, words: &mut [u64], n: usize) -> Shown {
+    let mut bytes = arena::byte_space();
+    let there = arena::least(n, 512);
+    let a = on_copy(call, g, words, &mut bytes[..there]);
+    shown_of(a, given_length(call, g.len))
 }
 
-// The line: the answer's numbers, then what differs in the n bytes.
-fn line(s: State, a: Shown, n: usize, octets: &[u8], out: &mut [u8]) -> State {
+// The line: the answer's numbers, then what differs in the bytes.
+fn line(s: State, a: Shown, words: &[u64], out: &mut [u8]) -> State {
+    let n = s.bytes;
     let others = [answer::bit_number(a.bit), a.len as u64];
-    let numbers = answer::put_numbers(a.no, &others, out, s.to);
-    let sign = output::put_text(out, numbers, b" @");
-    let changed = answer::put_bytes(octets, BYTES, NEW_BYTES, n, out, sign);
+    let numbers = answer::put_numbers(a.no, &others, 2, out, s.to);
+    let sign = answer::put_sign(out, numbers);
+    let changed = answer::put_words(words, BYTES, NEW_BYTES, n, out, sign);
     s.after(Left::Bytes(n), output::put_byte(out, changed, b'\n'))
 }
 
-fn answered(s: State, call: Call, octets: &mut [u8], out: &mut [u8]) -> State {
-    let n = s.bytes;
-    arena::copy_bytes(octets, BYTES, NEW_BYTES, n);
-    let a = done_there(call, octets, n);
-    line(s, a, n, octets, out)
-}
-
-pub fn request(s: State, name: &[u8], numbers: &[u64], octets: &mut [u8], out: &mut [u8]) -> State {
-    let call = call_of(name, numbers);
-    match call {
-        Call::Unknown => answer::what(s, out),
-        _ => answered(s, call, octets, out),
-    }
+pub fn request(s: State, call: Call, numbers: &[u64], words: &mut [u64], out: &mut [u8]) -> State {
+    let a = answered(call, given_of(call, numbers), words, s.bytes);
+    line(s, a, words, out)
 }

@@ -1,5 +1,4 @@
 // The stack calls. They are about no memory and leave nothing, so that `commit` takes what the request before them left.
-use crate::bits;
 use driver_state::answer;
 use driver_state::given;
 use driver_state::state::State;
@@ -8,9 +7,8 @@ use stack::Answer;
 use stack::lending;
 use stack::lending::After;
 use stack::lent::Outcome;
-use words::refusal::Refusal;
 
-enum Call {
+pub enum Call {
     Push,
     Pop,
     GoLeft,
@@ -20,7 +18,6 @@ enum Call {
     CanMatch,
     CanGoRight,
     IsEmpty,
-    Unknown,
 }
 
 // What is printed of an answer: the refusal's number, what was tested and the stack.
@@ -30,35 +27,8 @@ struct Shown {
     stack: ActionStack,
 }
 
-// The calls that test the stack and leave it as it is.
-fn testing_call(name: &[u8], numbers: &[u64]) -> Call {
-    if given::is(name, numbers, b"scanleft ", 2) {
-        Call::CanGoLeft
-    } else if given::is(name, numbers, b"scanmatch ", 2) {
-        Call::CanMatch
-    } else if given::is(name, numbers, b"scanright ", 2) {
-        Call::CanGoRight
-    } else if given::is(name, numbers, b"sempty ", 2) {
-        Call::IsEmpty
-    } else {
-        Call::Unknown
-    }
-}
-
-fn call_of(name: &[u8], numbers: &[u64]) -> Call {
-    if given::is(name, numbers, b"spush ", 2) {
-        Call::Push
-    } else if given::is(name, numbers, b"spop ", 2) {
-        Call::Pop
-    } else if given::is(name, numbers, b"sleft ", 2) {
-        Call::GoLeft
-    } else if given::is(name, numbers, b"smatch ", 2) {
-        Call::MakeMatch
-    } else if given::is(name, numbers, b"sright ", 2) {
-        Call::GoRight
-    } else {
-        testing_call(name, numbers)
-    }
+pub fn fits(numbers: &[u64]) -> bool {
+    numbers.len() == 2
 }
 
 // A refused test has the stack as given.
@@ -102,26 +72,19 @@ fn done(call: Call, stack: ActionStack) -> Shown {
         Call::CanMatch => tested(stack.can_match(), stack),
         Call::CanGoRight => tested(stack.can_go_right(), stack),
         Call::IsEmpty => tested(stack.is_empty(), stack),
-        Call::Unknown => tested(Answer::Refused(Refusal::BadBit), stack),
     }
 }
 
-fn answered(s: State, call: Call, stack: ActionStack, out: &mut [u8]) -> State {
-    let a = done(call, stack);
+fn line(s: State, a: Shown, out: &mut [u8]) -> State {
     let after = a.stack;
     let others = [answer::bit_number(a.test), after.levels, after.bits];
-    answer::line(s, a.no, &others, out)
+    answer::line(s, a.no, &others, 3, out)
 }
 
-// A line that is no stack call may be a bit call.
-pub fn request(s: State, name: &[u8], numbers: &[u64], octets: &mut [u8], out: &mut [u8]) -> State {
-    let call = call_of(name, numbers);
+pub fn request(s: State, call: Call, numbers: &[u64], out: &mut [u8]) -> State {
     let stack = ActionStack {
         levels: given::number(numbers, 0),
         bits: given::number(numbers, 1),
     };
-    match call {
-        Call::Unknown => bits::request(s, name, numbers, octets, out),
-        _ => answered(s, call, stack, out),
-    }
+    line(s, done(call, stack), out)
 }

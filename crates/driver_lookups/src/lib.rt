@@ -1,6 +1,7 @@
 // The requests of docs/DRIVE.md that look up.
 mod drain;
 mod fresh;
-pub mod lookups;
-mod query;
+pub mod query;
+mod reply;
+pub mod request;
 mod step;

@@ -6,6 +6,23 @@ use iter::rules::Query;
 use words::interval::Bound;
 use words::interval::Interval;
 use words::interval::Span;
+ghost use Prim.Native.Nat.{_≤_};
+
+// `o BOUND BOUND` or `e START END`
+pub enum Kind {
+    Overlap,
+    Exact,
+}
+
+// How many numbers the query has.
+pub fn size(kind: Kind) -> usize
+    ensures { λ r. ⌜ r ≤ 4 ⌝ }
+{
+    match kind {
+        Kind::Overlap => 4,
+        Kind::Exact => 2,
+    }
+}
 
 // Whether a kind and a number are a bound: 0 Included, 1 Excluded, 2 Unbounded with number 0.
 fn is_bound(kind: u64, x: u64) -> bool {
@@ -22,13 +39,20 @@ fn bound(kind: u64, x: u64) -> Bound {
     }
 }
 
-// Whether the line begins with two bounds.
-pub fn are_bounds(numbers: &[u64]) -> bool {
+fn are_bounds(numbers: &[u64]) -> bool {
     is_bound(given::number(numbers, 0), given::number(numbers, 1))
         & is_bound(given::number(numbers, 2), given::number(numbers, 3))
 }
 
-pub fn overlap(numbers: &[u64]) -> Query {
+// Whether the line begins with a query.
+pub fn fits(kind: Kind, numbers: &[u64]) -> bool {
+    match kind {
+        Kind::Overlap => are_bounds(numbers),
+        Kind::Exact => true,
+    }
+}
+
+fn overlap(numbers: &[u64]) -> Query {
     Query::Overlap(Span {
         lo: bound(given::number(numbers, 0), given::number(numbers, 1)),
         hi: bound(given::number(numbers, 2), given::number(numbers, 3)),
@@ -42,15 +66,22 @@ pub fn interval(numbers: &[u64]) -> Interval {
     }
 }
 
-pub fn exact(numbers: &[u64]) -> Query {
-    Query::Exact(interval(numbers))
+pub fn query(kind: Kind, numbers: &[u64]) -> Query {
+    match kind {
+        Kind::Overlap => overlap(numbers),
+        Kind::Exact => Query::Exact(interval(numbers)),
+    }
 }
 
-// The three numbers from place k on.
-pub fn cursor(numbers: &[u64], k: usize) -> Cursor {
+// Number k of those after the query.
+pub fn after(kind: Kind, numbers: &[u64], k: usize) -> u64 {
+    arena::word(numbers, size(kind), k)
+}
+
+pub fn cursor(kind: Kind, numbers: &[u64]) -> Cursor {
     Cursor {
-        slot: arena::word(numbers, k, 0),
-        levels: arena::word(numbers, k, 1),
-        bits: arena::word(numbers, k, 2),
+        slot: after(kind, numbers, 0),
+        levels: after(kind, numbers, 1),
+        bits: after(kind, numbers, 2),
     }
 }

@@ -1,73 +1,26 @@
 // `build LIST`: a map built into the slices of the store.
-use driver_state::answer::what;
+use crate::reply::Reply;
 use driver_state::arena;
-use driver_state::arena::NEW_COLOURS;
-use driver_state::arena::NEW_WORDS;
-use driver_state::copy;
-use driver_state::state::State;
+use driver_state::given;
 use iset::Map;
 use iset::build::Built;
 
-// The build into the copy.
-fn built(s: State, list: &[u64], words: &mut [u64], octets: &mut [u8]) -> Built {
-    let w = arena::least(NEW_WORDS, words.len());
-    let c = arena::least(NEW_COLOURS, octets.len());
-    let nodes = arena::least(s.words, words.len() - w);
-    let colours = arena::least(s.colours, octets.len() - c);
-    Map::build(&mut words[w..w + nodes], &mut octets[c..c + colours], list)
-}
-
-// What is printed of an answer: the refusal's number and the map.
-struct Shown {
-    no: u64,
-    map: Map,
+// The first number says how many follow, at most 12,288.
+pub fn fits(numbers: &[u64]) -> bool {
+    let n = given::size(numbers, 0);
+    (n <= 12288) & (numbers.len() == n + 1)
 }
 
 // A refused build has the map of no entries.
-fn shown_of(a: Built) -> Shown {
+fn reply_of(a: Built) -> Reply {
     match a {
-        Built::Done(map) => Shown { no: 0, map },
-        Built::Refused(why) => Shown {
-            no: why.number(),
-            map: Map::new(),
-        },
+        Built::Done(map) => Reply::new(0, map, 0, 2),
+        Built::Refused(why) => Reply::new(why.number(), Map::new(), 0, 2),
     }
 }
 
-fn answered(s: State, list: &[u64], words: &mut [u64], octets: &mut [u8], out: &mut [u8]) -> State {
-    copy::begin(s, words, octets);
-    let a = shown_of(built(s, list, words, octets));
-    let m = a.map;
-    let others = [m.count, m.root];
-    copy::line(s, m.count, m.root, a.no, &others, words, octets, out)
-}
-
-// The first number of the line says how many follow, at most 12,288.
-fn build_list(
-    s: State,
-    n: u64,
-    list: &[u64],
-    words: &mut [u64],
-    octets: &mut [u8],
-    out: &mut [u8],
-) -> State {
-    if (n <= 12288) & (n == list.len() as u64) {
-        answered(s, list, words, octets, out)
-    } else {
-        what(s, out)
-    }
-}
-
-pub fn build(
-    s: State,
-    numbers: &[u64],
-    words: &mut [u64],
-    octets: &mut [u8],
-    out: &mut [u8],
-) -> State {
-    if 0 < numbers.len() {
-        build_list(s, numbers[0], &numbers[1..], words, octets, out)
-    } else {
-        what(s, out)
-    }
+pub fn build(numbers: &[u64], nodes: &mut [u64], colours: &mut [u8]) -> Reply {
+    let from = arena::least(1, numbers.len());
+    let n = arena::least(given::size(numbers, 0), numbers.len() - from);
+    reply_of(Map::build(nodes, colours, &numbers[from..from + n]))
 }

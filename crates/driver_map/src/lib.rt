@@ -1,5 +1,7 @@
 // The requests of docs/DRIVE.md that check, build, remove and insert.
-pub mod build;
-pub mod insert;
-pub mod remove;
-pub mod store;
+mod build;
+mod check;
+mod insert;
+mod remove;
+mod reply;
+pub mod request;

@@ -1,6 +1,5 @@
 // The answers: their numbers, what a request changed, and the answer to a line that fits nothing.
 use crate::arena;
-use crate::arena::NEW_WORDS;
 use crate::state::State;
 use lines::output;
 ghost use Prim.Native.Nat.{_≤_};
@@ -17,28 +16,33 @@ pub fn bit_number(v: bool) -> u64 {
     if v { 1 } else { 0 }
 }
 
-// Each number of a list.
-pub fn put_each(list: &[u64], out: &mut [u8], to: usize) -> usize {
+// The first n numbers of a list.
+pub fn put_first(list: &[u64], n: usize, out: &mut [u8], to: usize) -> usize {
     let mut at = to;
     let mut i = 0;
-    while i < list.len() {
-        at = output::put_next(out, at, list[i]);
+    while i < n {
+        at = output::put_next(out, at, arena::word(list, 0, i));
         i += 1;
     }
     at
 }
 
-// The numbers that an answer begins with: the refusal's, 0 for none, and the others.
-pub fn put_numbers(no: u64, others: &[u64], out: &mut [u8], to: usize) -> usize {
+// The numbers that an answer begins with: the refusal's, 0 for none, and the first n of the others.
+pub fn put_numbers(no: u64, others: &[u64], n: usize, out: &mut [u8], to: usize) -> usize {
     let first = output::put_number(out, to, no);
-    put_each(others, out, first)
+    put_first(others, n, out, first)
 }
 
 // An answer that is its numbers alone, and leaves nothing: `commit` takes what the request before it left.
-pub fn line(s: State, no: u64, others: &[u64], out: &mut [u8]) -> State {
-    let to = put_numbers(no, others, out, s.to);
+pub fn line(s: State, no: u64, others: &[u64], n: usize, out: &mut [u8]) -> State {
+    let to = put_numbers(no, others, n, out, s.to);
     let left = s.left;
     s.after(left, output::put_byte(out, to, b'\n'))
+}
+
+// The sign before what a request changed.
+pub fn put_sign(out: &mut [u8], to: usize) -> usize {
+    output::put_text(out, to, b" @")
 }
 
 // 1 where the two differ, else 0.
@@ -58,66 +62,36 @@ fn put_change(out: &mut [u8], to: usize, i: usize, old: u64, new: u64) -> usize 
     }
 }
 
-// How many of the first n node words differ from the store's.
-fn count_words(words: &[u64], n: usize) -> u64 {
+// How many of n words differ between two parts.
+fn count_words(words: &[u64], old: usize, new: usize, n: usize) -> u64 {
     let mut k: u64 = 0;
     let mut i = 0;
     while i < n {
-        k += differ(arena::word(words, 0, i), arena::word(words, NEW_WORDS, i));
+        k += differ(arena::word(words, old, i), arena::word(words, new, i));
         i += 1;
     }
     k
 }
 
-// What differs in the first n node words: how many places, then each.
-pub fn put_words(words: &[u64], n: usize, out: &mut [u8], to: usize) -> usize {
-    let mut at = output::put_next(out, to, count_words(words, n));
-    let mut i = 0;
-    while i < n {
-        at = put_change(
-            out,
-            at,
-            i,
-            arena::word(words, 0, i),
-            arena::word(words, NEW_WORDS, i),
-        );
-        i += 1;
-    }
-    at
-}
-
-fn wide(b: u8) -> u64 {
-    b as u64
-}
-
-fn byte(octets: &[u8], base: usize, i: usize) -> u64 {
-    wide(arena::byte(octets, base, i))
-}
-
-// How many of n bytes differ between two parts.
-fn count_bytes(octets: &[u8], old: usize, new: usize, n: usize) -> u64 {
-    let mut k: u64 = 0;
-    let mut i = 0;
-    while i < n {
-        k += differ(byte(octets, old, i), byte(octets, new, i));
-        i += 1;
-    }
-    k
-}
-
-// What differs in n bytes of two parts: how many places, then each.
-pub fn put_bytes(
-    octets: &[u8],
+// What differs in n words of two parts: how many places, then each.
+pub fn put_words(
+    words: &[u64],
     old: usize,
     new: usize,
     n: usize,
     out: &mut [u8],
     to: usize,
 ) -> usize {
-    let mut at = output::put_next(out, to, count_bytes(octets, old, new, n));
+    let mut at = output::put_next(out, to, count_words(words, old, new, n));
     let mut i = 0;
     while i < n {
-        at = put_change(out, at, i, byte(octets, old, i), byte(octets, new, i));
+        at = put_change(
+            out,
+            at,
+            i,
+            arena::word(words, old, i),
+            arena::word(words, new, i),
+        );
         i += 1;
     }
     at

@@ -18,15 +18,6 @@ pub fn size(numbers: &[u64], k: usize) -> usize
     if n < 65536 { n as usize } else { 65536 }
 }
 
-// Whether number k is a bit.
-pub fn is_bit(numbers: &[u64], k: usize) -> bool {
-    number(numbers, k) < 2
-}
-
-pub fn bit(numbers: &[u64], k: usize) -> bool {
-    number(numbers, k) == 1
-}
-
 // Whether the numbers from place k on are all bytes.
 fn are_bytes(numbers: &[u64], k: usize) -> bool {
     let mut i = k;
@@ -45,7 +36,33 @@ pub fn ends_in_bytes(numbers: &[u64], k: usize, end: usize) -> bool {
     (numbers.len() == end) & are_bytes(numbers, k)
 }
 
-// Whether the line is this call with so many numbers.
-pub fn is(name: &[u8], numbers: &[u64], call: &[u8], n: usize) -> bool {
-    check::same(name, call) & (numbers.len() == n)
+// One more byte of a name in a list of names: how many bytes of `name` it has then, or usize::MAX where they differ.
+fn matched(name: &[u8], k: usize, b: u8) -> usize {
+    if k < name.len() {
+        if name[k] == b {
+            return k + 1;
+        }
+    }
+    usize::MAX
+}
+
+// Which of the names it is, each of which ends in a semicolon; how many there are where it is none.
+pub fn which(name: &[u8], names: &[u8]) -> usize {
+    let mut n = 0;
+    let mut k = 0;
+    let mut i = 0;
+    while i < names.len() {
+        let b = names[i];
+        i += 1;
+        if b == b';' {
+            if k == name.len() {
+                return n;
+            }
+            n += 1;
+            k = 0;
+        } else {
+            k = matched(name, k, b);
+        }
+    }
+    n
 }

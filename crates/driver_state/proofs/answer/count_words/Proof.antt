@@ -4,10 +4,10 @@ use Rattle.driver_state.proofs.answer.count_words.Statement.{statement}
 use Rattle.driver_state.proofs.answer.count_words.Tie as tie
 
 abbrev Inv-loop : tie.InvT-loop
-Inv-loop words n k₀ i₀ k i = (i ≤ n) × (k ≤ i)
+Inv-loop words old new n k₀ i₀ k i = (i ≤ n) × (k ≤ i)
 
 abbrev μ-loop : tie.MeasureT-loop
-μ-loop words n k₀ i₀ k i = n - i
+μ-loop words old new n k₀ i₀ k i = n - i
 
 pub count-words-spec : {M : Type 1} → statement M
 count-words-spec =

@@ -6,10 +6,10 @@ use Rattle.driver_state.proofs.answer.put_words.Statement.{statement}
 use Rattle.driver_state.proofs.answer.put_words.Tie as tie
 
 abbrev Inv-loop : tie.InvT-loop
-Inv-loop words n out₀ to at₀ i₀ out at i = (i ≤ n) × (length out ≡ length out₀)
+Inv-loop words old new n out₀ to at₀ i₀ out at i = (i ≤ n) × (length out ≡ length out₀)
 
 abbrev μ-loop : tie.MeasureT-loop
-μ-loop words n out₀ to at₀ i₀ out at i = n - i
+μ-loop words old new n out₀ to at₀ i₀ out at i = n - i
 
 pub put-words-spec : {M : Type 1} → statement M
 put-words-spec =

@@ -2,17 +2,17 @@ use Prim.Native.Nat.{_≤_, _-_}
 use mathlib.Core.Path.{_≡_}
 use lib.ListN.{length}
 use native.Mathlib.Omega.{arith}
-use Rattle.driver_state.proofs.answer.put_each.Statement.{statement}
-use Rattle.driver_state.proofs.answer.put_each.Tie as tie
+use Rattle.driver_state.proofs.given.which.Statement.{statement}
+use Rattle.driver_state.proofs.given.which.Tie as tie
 
 abbrev Inv-loop : tie.InvT-loop
-Inv-loop list out₀ to at₀ i₀ out at i = (i ≤ length list) × (length out ≡ length out₀)
+Inv-loop name names n₀ k₀ i₀ n k i = (i ≤ length names) × (n ≤ i)
 
 abbrev μ-loop : tie.MeasureT-loop
-μ-loop list out₀ to at₀ i₀ out at i = length list - i
+μ-loop name names n₀ k₀ i₀ n k i = length names - i
 
-pub put-each-spec : {M : Type 1} → statement M
-put-each-spec =
+pub which-spec : {M : Type 1} → statement M
+which-spec =
     tie.close
     (tie.spec
     Inv-loop
@@ -20,9 +20,11 @@ put-each-spec =
     (λ c. omega arith)
     (λ c. omega arith)
     (λ c. omega arith)
+    (λ c. omega arith)
+    (λ c. omega arith)
+    (λ c. omega arith)
+    (λ c. omega arith)
     (λ c κs. omega arith)
-    (λ c. omega arith)
-    (λ c. omega arith)
     (λ c. omega arith)
     (λ c. omega arith)
     (λ c. omega arith))

@@ -1,19 +1,17 @@
 use lib.ListN.{length-take}
 use native.Mathlib.Omega.{arith}
 use borrow.Author.Needs.{needs}
-use Rattle.driver.proofs.request.cut.Statement.{statement}
-use Rattle.driver.proofs.request.cut.Tie as tie
+use Rattle.driver_map.proofs.request.answered.Statement.{statement}
+use Rattle.driver_map.proofs.request.answered.Tie as tie
 
-pub cut-spec : {M : Type 1} → statement M
-cut-spec =
+pub answered-spec : {M : Type 1} → statement M
+answered-spec =
     tie.close
     (tie.spec
     (λ c κs. search needs)
     (λ c κs. search needs)
-    (λ c. simp length-take (omega arith))
+    (λ c. search needs)
     (λ c. simp length-take (omega arith))
     (λ c κs. search needs)
-    (λ c. search needs)
-    (λ c. search needs)
     (λ c. search needs)
     (λ c. search needs))

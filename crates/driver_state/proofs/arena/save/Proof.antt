@@ -2,21 +2,22 @@ use Prim.Native.Nat.{_≤_, _-_}
 use mathlib.Core.Path.{_≡_}
 use lib.ListN.{length}
 use native.Mathlib.Omega.{arith}
-use Rattle.driver_state.proofs.arena.copy_bytes.Statement.{statement}
-use Rattle.driver_state.proofs.arena.copy_bytes.Tie as tie
+use Rattle.driver_state.proofs.arena.save.Statement.{statement}
+use Rattle.driver_state.proofs.arena.save.Tie as tie
 
 abbrev Inv-loop : tie.InvT-loop
-Inv-loop octets₀ from to n i₀ octets i = (i ≤ n) × (length octets ≡ length octets₀)
+Inv-loop words₀ base bytes i₀ words i = (i ≤ length bytes) × (length words ≡ length words₀)
 
 abbrev μ-loop : tie.MeasureT-loop
-μ-loop octets₀ from to n i₀ octets i = n - i
+μ-loop words₀ base bytes i₀ words i = length bytes - i
 
-pub copy-bytes-spec : {M : Type 1} → statement M
-copy-bytes-spec =
+pub save-spec : {M : Type 1} → statement M
+save-spec =
     tie.close
     (tie.spec
     Inv-loop
     μ-loop
+    (λ c. omega arith)
     (λ c. omega arith)
     (λ c κs. omega arith)
     (λ c κs. omega arith)

@@ -1,0 +1,68 @@
+// The requests on the store, each on a copy of it.
+use crate::build;
+use crate::check;
+use crate::insert;
+use crate::remove;
+use crate::reply::Reply;
+use driver_state::arena;
+use driver_state::arena::NEW_BYTES;
+use driver_state::copy;
+use driver_state::given;
+use driver_state::state::State;
+use iset::Map;
+
+pub enum Call {
+    Check,
+    Build,
+    Remove,
+    Insert,
+}
+
+// Whether the numbers are those of the call.
+pub fn fits(call: Call, numbers: &[u64]) -> bool {
+    match call {
+        Call::Check => numbers.len() == 0,
+        Call::Build => build::fits(numbers),
+        Call::Remove => numbers.len() == 1,
+        Call::Insert => numbers.len() == 3,
+    }
+}
+
+fn done(call: Call, m: Map, numbers: &[u64], nodes: &mut [u64], colours: &mut [u8]) -> Reply {
+    match call {
+        Call::Check => check::check(m, nodes, colours),
+        Call::Build => build::build(numbers, nodes, colours),
+        Call::Remove => remove::remove(m, given::number(numbers, 0), nodes, colours),
+        Call::Insert => insert::insert(m, numbers, nodes, colours),
+    }
+}
+
+// Makes the call on the copy, for whose colours `colours` has the room.
+fn on_copy(s: State, call: Call, numbers: &[u64], words: &mut [u64], colours: &mut [u8]) -> Reply {
+    let m = Map {
+        count: s.count,
+        root: s.root,
+    };
+    let nodes = arena::least(s.words, words.len());
+    arena::load(words, NEW_BYTES, colours);
+    let a = done(call, m, numbers, &mut words[..nodes], colours);
+    arena::save(words, NEW_BYTES, colours);
+    a
+}
+
+fn answered(s: State, call: Call, numbers: &[u64], words: &mut [u64]) -> Reply {
+    let mut colours = arena::byte_space();
+    let there = arena::least(s.colours, 512);
+    on_copy(s, call, numbers, words, &mut colours[..there])
+}
+
+fn line(s: State, a: Reply, words: &[u64], out: &mut [u8]) -> State {
+    let numbers = a.numbers;
+    copy::line(s, a.count, a.root, a.no, &numbers, a.n, words, out)
+}
+
+pub fn request(s: State, call: Call, numbers: &[u64], words: &mut [u64], out: &mut [u8]) -> State {
+    copy::begin(s, words);
+    let a = answered(s, call, numbers, words);
+    line(s, a, words, out)
+}
