@@ -43,6 +43,10 @@ module _ (n words bytes c : ℕ) (e : c ≡ room words bytes) where
   pub is-full : {A : Type 0} (r x y : A) → c ≤ n → r ≡ y → r ≡ cond (ltb n (room words bytes)) x y
   is-full r x y h q = rw (← e, le-ltb n c h) q
 
+-- a test that a function made, whose rule is d, and what it leads to
+pub tested : {A : Type 0} (b d : Bool) (r x y : A) → b ≡ d → r ≡ cond b x y → r ≡ cond d x y
+tested b d r x y e q = rw (← e) q
+
 -- a call that its tests let through, and one that they refuse
 module _ {A : Type 0} (k : ℕ) (t : Checked) (e : checkNumber t ≡ k) (r x y : A) where
   pub let-through : t ≡ Sound → r ≡ x → r ≡ cond (eqb k 0) x y
@@ -81,10 +85,6 @@ refused-build k t z e q = let f : refusalNumber z ≡ k = sym (ap checkNumber q)
 
 pub done-build : (n r s : ℕ) → r ≡ s → _≡_ {A = BuildAnswer} (record { no = 0; count = n; root = r }) (record { no = 0; count = n; root = s })
 done-build n r s e = λ i. record { no = 0; count = n; root = e i }
-
--- a refusal that is handed on
-pub handed-on : (k x : ℕ) (t : Checked) (z : Refusal) → checkNumber t ≡ k → t ≡ Refused z → refusalNumber z ≡ cond (eqb k 0) x k
-handed-on k x t z e q = turned-away k t e (refusalNumber z) x k z q (sym (ap checkNumber q) ∙ e)
 
 -- what the tests of a removal leave: a slot that is there, in slices with room
 module _ (m : Map) (W C : List ℕ) (s : ℕ) (t : Checked) (e : checkNumber t ≡ removeNumber m W C s) (q : t ≡ Sound) where

@@ -9,11 +9,14 @@ use lib.Dec.{ltb}
 use borrow.Author.Tests.{ltb-false, lt-ltb, le-ltb}
 use Rattle.words.specs.Nodes.{room}
 use Rattle.words.specs.Refusals.{refusalNumber}
-use Rattle.words.specs.Intervals.{proper}
+use Rattle.words.specs.Intervals.{admits, proper}
+use Rattle.words.specs.declared.interval.Bound.{Bound}
+use Rattle.words.specs.declared.interval.Bound.the-variants.{Included, Excluded, Unbounded}
 use Rattle.words.specs.declared.interval.Interval.{Interval}
 use Rattle.words.specs.declared.interval.Span.{Span}
 use Rattle.words.specs.declared.refusal.Refusal.{Refusal}
 use Rattle.iter.specs.Cursors.{fresh, ended}
+use Rattle.iter.specs.Exact.{findFrom}
 use Rattle.iter.specs.Forms.{formOf}
 use Rattle.iter.specs.Places.{Placed}
 use Rattle.iter.specs.Walk.{Answer, Rules}
@@ -140,8 +143,32 @@ module _ (k : ℕ) (t : Checked) (z : Refusal) (e : checkNumber t ≡ k) (q : t 
   pub refused-drain : (c : Cursor) → refusedDrain c (refusalNumber z) ≡ refusedDrain c k
   refused-drain c = ap (λ (i : ℕ). refusedDrain c i) same-number
 
-pub query-range : (q : Query) (x : Span) (k : ℕ) → q ≡ Overlap x → k ≡ cond (ordered (x .lo) (x .hi)) 0 4 → k ≡ queryNumber q
-query-range q x k e h = rw e h
+pub query-range : (q : Query) (x : Span) (b : Bool) (k : ℕ) → q ≡ Overlap x → b ≡ ordered (x .lo) (x .hi) → k ≡ cond b 0 4 → k ≡ queryNumber q
+query-range q x b k e t h = rw (e, ← t) h
 
-pub query-interval : (q : Query) (x : Interval) (k : ℕ) → q ≡ Exact x → k ≡ cond (proper x) 0 5 → k ≡ queryNumber q
-query-interval q x k e h = rw e h
+pub query-interval : (q : Query) (x : Interval) (b : Bool) (k : ℕ) → q ≡ Exact x → b ≡ proper x → k ≡ cond b 0 5 → k ≡ queryNumber q
+query-interval q x b k e t h = rw (e, ← t) h
+
+-- a range by its lower bound
+module _ (lo hi : Bound) (r : Bool) (a : ℕ) where
+  pub from-included : lo ≡ Included a → r ≡ admits hi a → r ≡ ordered lo hi
+  from-included e q = rw e (q ∙ up hi)
+    where
+      up : (y : Bound) → admits y a ≡ ordered (Included a) y
+      up (Included b) = refl
+      up (Excluded b) = refl
+      up Unbounded = refl
+
+  pub from-excluded : lo ≡ Excluded a → r ≡ ordered (Excluded a) hi → r ≡ ordered lo hi
+  from-excluded e q = rw e q
+
+-- and one from an Excluded bound by its upper bound
+module _ (hi : Bound) (a b : ℕ) (r : Bool) (q : r ≡ ltb a b) where
+  pub to-included : hi ≡ Included b → r ≡ ordered (Excluded a) hi
+  to-included e = rw e q
+
+  pub to-excluded : hi ≡ Excluded b → r ≡ ordered (Excluded a) hi
+  to-excluded e = rw e q
+
+pub begin-exact : (m : Map) (W : List ℕ) (q : Query) (x : Interval) (r : ℕ) → q ≡ Exact x → r ≡ findFrom W (m .count) x (m .root) → r ≡ beginning m W q
+begin-exact m W q x r e h = rw e h

@@ -29,14 +29,9 @@ fn test_list(list: &[u64], words: usize, bytes: usize) -> Checked
         return Checked::Refused(Refusal::NoRoom);
     }
     if all_proper(list) {
-        if sorted(list) {
-            Checked::Sound
-        } else {
-            Checked::Refused(Refusal::NotSorted)
-        }
-    } else {
-        Checked::Refused(Refusal::BadInterval)
+        return Checked::sound_if(sorted(list), Refusal::NotSorted);
     }
+    Checked::Refused(Refusal::BadInterval)
 }
 
 impl Map {
@@ -46,16 +41,14 @@ impl Map {
             × (now (nodes .exit) ≡ buildNodes (now (nodes .entry)) (now (colours .entry)) (now (list .entry)))
             × (now (colours .exit) ≡ buildColour (now (nodes .entry)) (now (colours .entry)) (now (list .entry))) ⌝ }
     {
-        match test_list(list, nodes.len(), colours.len()) {
-            Checked::Refused(why) => Built::Refused(why),
-            Checked::Sound => {
-                let n = list.len() / 3;
-                let root = from_sorted(list, nodes, colours, n);
-                Built::Done(Map {
-                    count: n as u64,
-                    root,
-                })
-            }
-        }
+        let Checked::Refused(why) = test_list(list, nodes.len(), colours.len()) else {
+            let n = list.len() / 3;
+            let root = from_sorted(list, nodes, colours, n);
+            return Built::Done(Map {
+                count: n as u64,
+                root,
+            });
+        };
+        Built::Refused(why)
     }
 }

@@ -29,14 +29,11 @@ impl Map {
     fn test_entry(self, nodes: &[u64], colours: &[u8], entry: Entry) -> Checked
         ensures { λ r. ⌜ checkNumber r ≡ properNumber self (now (nodes .entry)) (now (colours .entry)) entry ⌝ }
     {
-        match self.check(nodes, colours) {
-            Checked::Refused(why) => Checked::Refused(why),
-            Checked::Sound => if entry.start < entry.end {
-                Checked::Sound
-            } else {
-                Checked::Refused(Refusal::BadInterval)
-            },
-        }
+        let checked = self.check(nodes, colours);
+        let Checked::Sound = checked else {
+            return checked;
+        };
+        Checked::sound_if(entry.start < entry.end, Refusal::BadInterval)
     }
 
     // The first refusal of an insertion. A count that has reached the capacity, or is above it, has no room.
@@ -44,10 +41,9 @@ impl Map {
         ensures { λ r. ⌜ checkNumber r ≡ insertNumber self (now (nodes .entry)) (now (colours .entry)) entry ⌝ }
     {
         if self.count < capacity(nodes.len(), colours.len()) {
-            self.test_entry(nodes, colours, entry)
-        } else {
-            Checked::Refused(Refusal::NoRoom)
+            return self.test_entry(nodes, colours, entry);
         }
+        Checked::Refused(Refusal::NoRoom)
     }
 
     // The insertion of an entry that there is room for.
@@ -57,14 +53,13 @@ impl Map {
             × (now (nodes .exit) ≡ insertRule (now (nodes .entry)) (now (colours .entry)) (self .count) (self .root) entry .words)
             × (now (colours .exit) ≡ insertRule (now (nodes .entry)) (now (colours .entry)) (self .count) (self .root) entry .colours) ⌝ }
     {
-        let count = self.count;
-        let root = force_insert(nodes, colours, count, self.root, entry);
+        let root = force_insert(nodes, colours, self.count, self.root, entry);
         Insertion::Done(Added {
             map: Map {
-                count: count + 1,
+                count: self.count + 1,
                 root,
             },
-            slot: count,
+            slot: self.count,
         })
     }
 

@@ -10,6 +10,8 @@ use words::ix::U;
 use words::node::capacity;
 use words::refusal::Refusal;
 ghost use mathlib.Core.Path.{_≡_};
+ghost use mathlib.Core.Bool.{cond};
+ghost use Rattle.words.specs.Refusals.{refusalNumber};
 ghost use Rattle.iset.specs.Maps.{emptyMap};
 ghost use Rattle.iset.specs.Check.{checkNumber, checkRule};
 
@@ -26,6 +28,19 @@ pub enum Checked {
     Refused(Refusal),
 }
 
+impl Checked {
+    // Sound where a test was passed, else its refusal.
+    fn sound_if(passed: bool, why: Refusal) -> Checked
+        ensures { λ r. ⌜ checkNumber r ≡ cond passed 0 (refusalNumber why) ⌝ }
+    {
+        if passed {
+            Checked::Sound
+        } else {
+            Checked::Refused(why)
+        }
+    }
+}
+
 impl Map {
     // The map of no entries.
     pub fn new() -> Map
@@ -38,14 +53,12 @@ impl Map {
     pub fn check(self, nodes: &[u64], colours: &[u8]) -> Checked
         ensures { λ r. ⌜ checkNumber r ≡ checkRule self (now (nodes .entry)) (now (colours .entry)) ⌝ }
     {
-        let count = self.count;
-        if capacity(nodes.len(), colours.len()) < count {
+        if capacity(nodes.len(), colours.len()) < self.count {
             return Checked::Refused(Refusal::NoRoom);
         }
-        if audit(nodes, colours, count, self.root) {
-            Checked::Sound
-        } else {
-            Checked::Refused(Refusal::Broken)
-        }
+        Checked::sound_if(
+            audit(nodes, colours, self.count, self.root),
+            Refusal::Broken,
+        )
     }
 }

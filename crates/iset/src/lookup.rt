@@ -16,7 +16,6 @@ ghost use mathlib.Core.Bool.{cond};
 ghost use Prim.Native.Nat.{_*_, _≤_};
 ghost use lib.ListN.{length};
 ghost use lib.Dec.{ltb};
-ghost use Rattle.words.specs.Intervals.{proper};
 ghost use Rattle.iter.specs.Cursors.{fresh};
 ghost use Rattle.iter.specs.Drains.{limitOf};
 ghost use Rattle.iter.specs.Forms.{formOf};
@@ -39,17 +38,7 @@ pub enum Emptied {
     Refused(Refusal),
 }
 
-// A range from `a`, which is Included, up to a bound.
-fn included_before(a: u64, hi: Bound) -> bool
-    ensures { λ r. ⌜ r ≡ ordered (Bound.Included a) hi ⌝ }
-{
-    match hi {
-        Bound::Included(b) => a <= b,
-        Bound::Excluded(b) => a < b,
-        Bound::Unbounded => true,
-    }
-}
-
+// A range from `a`, which is Excluded, up to a bound.
 fn excluded_before(a: u64, hi: Bound) -> bool
     ensures { λ r. ⌜ r ≡ ordered (Bound.Excluded a) hi ⌝ }
 {
@@ -66,29 +55,9 @@ fn check_ordered(range: Span) -> bool
     let lo = range.lo;
     let hi = range.hi;
     match lo {
-        Bound::Included(a) => included_before(a, hi),
+        Bound::Included(a) => hi.admits_start(a),
         Bound::Excluded(a) => excluded_before(a, hi),
         Bound::Unbounded => true,
-    }
-}
-
-fn test_range(range: Span) -> Checked
-    ensures { λ r. ⌜ checkNumber r ≡ cond (ordered (range .lo) (range .hi)) 0 4 ⌝ }
-{
-    if check_ordered(range) {
-        Checked::Sound
-    } else {
-        Checked::Refused(Refusal::BadRange)
-    }
-}
-
-fn test_interval(x: Interval) -> Checked
-    ensures { λ r. ⌜ checkNumber r ≡ cond (proper x) 0 5 ⌝ }
-{
-    if x.is_proper() {
-        Checked::Sound
-    } else {
-        Checked::Refused(Refusal::BadInterval)
     }
 }
 
@@ -96,8 +65,8 @@ fn test_query(query: Query) -> Checked
     ensures { λ r. ⌜ checkNumber r ≡ queryNumber query ⌝ }
 {
     match query {
-        Query::Overlap(range) => test_range(range),
-        Query::Exact(x) => test_interval(x),
+        Query::Overlap(range) => Checked::sound_if(check_ordered(range), Refusal::BadRange),
+        Query::Exact(x) => Checked::sound_if(x.is_proper(), Refusal::BadInterval),
     }
 }
 
@@ -134,10 +103,11 @@ impl Map {
     fn test_start(self, nodes: &[u64], colours: &[u8], query: Query) -> Checked
         ensures { λ r. ⌜ checkNumber r ≡ startNumber self (now (nodes .entry)) (now (colours .entry)) query ⌝ }
     {
-        match self.check(nodes, colours) {
-            Checked::Refused(why) => Checked::Refused(why),
-            Checked::Sound => test_query(query),
-        }
+        let checked = self.check(nodes, colours);
+        let Checked::Sound = checked else {
+            return checked;
+        };
+        test_query(query)
     }
 
     // The slot that a lookup begins at.
@@ -162,10 +132,11 @@ impl Map {
     fn test_step(self, nodes: &[u64], colours: &[u8], query: Query, cursor: Cursor) -> Checked
         ensures { λ r. ⌜ checkNumber r ≡ stepNumber self (now (nodes .entry)) (now (colours .entry)) query cursor ⌝ }
     {
-        match self.test_start(nodes, colours, query) {
-            Checked::Refused(why) => Checked::Refused(why),
-            Checked::Sound => self.test_place(nodes, query, cursor),
-        }
+        let checked = self.test_start(nodes, colours, query);
+        let Checked::Sound = checked else {
+            return checked;
+        };
+        self.test_place(nodes, query, cursor)
     }
 
     // The first refusal of a drain into an output of `room` places.
@@ -180,10 +151,11 @@ impl Map {
     ) -> Checked
         ensures { λ r. ⌜ checkNumber r ≡ drainNumber self (now (nodes .entry)) (now (colours .entry)) query cursor limit room ⌝ }
     {
-        match self.test_step(nodes, colours, query, cursor) {
-            Checked::Refused(why) => Checked::Refused(why),
-            Checked::Sound => test_room(limit, room),
-        }
+        let checked = self.test_step(nodes, colours, query, cursor);
+        let Checked::Sound = checked else {
+            return checked;
+        };
+        test_room(limit, room)
     }
 
     // The fresh cursor of an overlap lookup. It is tested where it is used.
@@ -197,8 +169,9 @@ impl Map {
     pub fn fresh_exact(self, nodes: &[u64], colours: &[u8], query: Interval) -> Started
         ensures { λ r. ⌜ startPaper r ≡ startCall self (now (nodes .entry)) (now (colours .entry)) query ⌝ }
     {
-        let Checked::Refused(why) = self.test_start(nodes, colours, Query::Exact(query)) else {
-            return Started::Done(Cursor::fresh(self.begin(nodes, Query::Exact(query))));
+        let exact = Query::Exact(query);
+        let Checked::Refused(why) = self.test_start(nodes, colours, exact) else {
+            return Started::Done(Cursor::fresh(self.begin(nodes, exact)));
         };
         Started::Refused(why)
     }

@@ -29,14 +29,11 @@ impl Map {
     fn test_slot(self, nodes: &[u64], colours: &[u8], slot: u64) -> Checked
         ensures { λ r. ⌜ checkNumber r ≡ removeNumber self (now (nodes .entry)) (now (colours .entry)) slot ⌝ }
     {
-        match self.check(nodes, colours) {
-            Checked::Refused(why) => Checked::Refused(why),
-            Checked::Sound => if slot < self.count {
-                Checked::Sound
-            } else {
-                Checked::Refused(Refusal::NoSuch)
-            },
-        }
+        let checked = self.check(nodes, colours);
+        let Checked::Sound = checked else {
+            return checked;
+        };
+        Checked::sound_if(slot < self.count, Refusal::NoSuch)
     }
 
     // The removal of a slot that is there.
@@ -46,12 +43,11 @@ impl Map {
             × (now (nodes .exit) ≡ removeRule (now (nodes .entry)) (now (colours .entry)) (self .count) (self .root) slot .store .words)
             × (now (colours .exit) ≡ removeRule (now (nodes .entry)) (now (colours .entry)) (self .count) (self .root) slot .store .colours) ⌝ }
     {
-        let count = self.count;
-        let r = remove_at(nodes, colours, count, self.root, slot);
+        let r = remove_at(nodes, colours, self.count, self.root, slot);
         let pairs = r.pairs;
         Removal::Done(Gone {
             map: Map {
-                count: count - 1,
+                count: self.count - 1,
                 root: r.root,
             },
             value: r.value,

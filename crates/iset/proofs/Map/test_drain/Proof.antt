@@ -1,4 +1,4 @@
-use Rattle.iset.proofs.Laws.{handed-on, let-through}
+use Rattle.iset.proofs.Laws.{let-through, turned-away}
 use Rattle.iset.specs.Lookup.{drainNumber}
 use borrow.Author.Needs.{needs}
 use Rattle.iset.proofs.Map.test_drain.Statement.{statement}
@@ -8,4 +8,4 @@ pub test-drain-spec : {M : Type 1} → statement M
 unfolding drainNumber
 test-drain-spec =
     tie.close
-    (tie.spec (λ c κs. search needs) (λ c. search needs) (λ c. search needs) (λ c κs. search needs) (λ c. search handed-on) (λ c. search let-through))
+    (tie.spec (λ c κs. search needs) (λ c. search needs) (λ c. search needs) (λ c. search turned-away) (λ c κs. search needs) (λ c. search let-through))

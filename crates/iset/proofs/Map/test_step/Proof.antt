@@ -1,5 +1,5 @@
 use Rattle.iset.proofs.Lookups.{start-words}
-use Rattle.iset.proofs.Laws.{handed-on, let-through}
+use Rattle.iset.proofs.Laws.{let-through, turned-away}
 use Rattle.iset.specs.Lookup.{stepNumber}
 use borrow.Author.Needs.{needs}
 use Rattle.iset.proofs.Map.test_step.Statement.{statement}
@@ -9,4 +9,4 @@ pub test-step-spec : {M : Type 1} → statement M
 unfolding stepNumber
 test-step-spec =
     tie.close
-    (tie.spec (λ c κs. search needs) (λ c. search needs) (λ c. search needs) (λ c κs. search start-words) (λ c. search handed-on) (λ c. search let-through))
+    (tie.spec (λ c κs. search needs) (λ c. search needs) (λ c. search needs) (λ c. search turned-away) (λ c κs. search start-words) (λ c. search let-through))

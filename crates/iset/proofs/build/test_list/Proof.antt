@@ -1,6 +1,6 @@
 use Rattle.words.proofs.Tests.{equal, passed, picked, unequal}
 use Rattle.iset.specs.Build.{buildNumber}
-use Rattle.iset.proofs.Laws.{over-room, in-room}
+use Rattle.iset.proofs.Laws.{over-room, in-room, tested}
 use borrow.Author.Needs.{needs}
 use Rattle.iset.proofs.build.test_list.Statement.{statement}
 use Rattle.iset.proofs.build.test_list.Tie as tie
@@ -15,6 +15,6 @@ test-list-spec =
     (λ c. search (equal, over-room))
     (λ c κs. search needs)
     (λ c κs. search needs)
-    (λ c. search (equal, in-room, picked))
-    (λ c. search (equal, in-room, picked, passed))
+    (λ c κs. search needs)
+    (λ c. search (equal, in-room, picked, tested))
     (λ c. search (equal, in-room, passed)))

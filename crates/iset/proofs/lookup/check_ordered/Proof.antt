@@ -1,3 +1,4 @@
+use Rattle.iset.proofs.Lookups.{from-included, from-excluded}
 use borrow.Author.Needs.{needs}
 use Rattle.iset.proofs.lookup.check_ordered.Statement.{statement}
 use Rattle.iset.proofs.lookup.check_ordered.Tie as tie
@@ -11,6 +12,6 @@ check-ordered-spec =
     (λ c. search needs)
     (λ c κs. search needs)
     (λ c. search needs)
-    (λ c. cc)
-    (λ c. cc)
+    (λ c. search from-included)
+    (λ c. search from-excluded)
     (λ c. search needs))
