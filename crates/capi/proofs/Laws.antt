@@ -8,11 +8,13 @@ use lib.ListN.{length}
 use borrow.Author.Tests.{lt-ltb, le-ltb, ne-eqb}
 use Rattle.words.specs.Ix.{U}
 use Rattle.words.specs.Refusals.{refusalNumber}
+use Rattle.words.specs.declared.interval.Bound.{Bound}
 use Rattle.words.specs.declared.refusal.Refusal.{Refusal}
 use Rattle.iter.specs.Cursors.{ended}
 use Rattle.iter.specs.Drains.{filled}
 use Rattle.iter.specs.declared.Cursor.{Cursor}
 use Rattle.iter.specs.declared.rules.Query.{Query}
+use Rattle.iter.specs.declared.rules.Query.the-variants.{Overlap}
 use Rattle.iter.specs.declared.seek.Step.{Step}
 use Rattle.iter.specs.declared.seek.Step.the-variants.{Hit, End}
 use Rattle.iset.specs.Check.{checkNumber}
@@ -123,3 +125,6 @@ module _ (t : Checked) (k : ℕ) (e : checkNumber t ≡ k) where
 
   pub refused-number : (y : Refusal) (r : ℕ) → t ≡ Refused y → r ≡ refusalNumber y → r ≡ k
   refused-number y r q p = p ∙ sym (ap checkNumber q) ∙ e
+
+pub range-made : (l h lo hi : Bound) → l ≡ lo → h ≡ hi → _≡_ {A = Query} (Overlap (record { lo = l; hi = h })) (Overlap (record { lo = lo; hi = hi }))
+range-made l h lo hi p q = rw (p, q)

@@ -36,17 +36,16 @@ pub fn put_gone(g: Gone, answer: &mut [u64])
     requires { ⌜ 9 ≤ length (now answer) ⌝ }
     ensures { λ _. ⌜ now (answer .exit) ≡ filled (goneNumbers (g .value) (g .map .count) (g .map .root) (g .pairs)) (now (answer .entry)) ⌝ }
 {
-    let p = g.pairs;
     let numbers = [
         g.value,
         g.map.count,
         g.map.root,
-        p.first.old,
-        p.first.new,
-        p.second.old,
-        p.second.new,
-        p.third.old,
-        p.third.new,
+        g.pairs.first.old,
+        g.pairs.first.new,
+        g.pairs.second.old,
+        g.pairs.second.new,
+        g.pairs.third.old,
+        g.pairs.third.new,
     ];
     put(&numbers, answer);
 }
@@ -89,7 +88,6 @@ pub fn put_drained(d: Drained, answer: &mut [u64])
     requires { ⌜ 5 ≤ length (now answer) ⌝ }
     ensures { λ _. ⌜ now (answer .exit) ≡ filled (drainNumbers (d .hits) (d .entered) (d .next)) (now (answer .entry)) ⌝ }
 {
-    let c = d.next;
-    let numbers = [d.hits, d.entered, c.slot, c.levels, c.bits];
+    let numbers = [d.hits, d.entered, d.next.slot, d.next.levels, d.next.bits];
     put(&numbers, answer);
 }

@@ -1,3 +1,4 @@
+use Rattle.capi.proofs.Laws.{range-made}
 use borrow.Author.Needs.{needs}
 use Rattle.capi.proofs.range.range.Statement.{statement}
 use Rattle.capi.proofs.range.range.Tie as tie
@@ -8,4 +9,4 @@ range-spec =
     (tie.spec
     (λ c κs. search needs)
     (λ c κs. search needs)
-    (λ c. cc))
+    (λ c. search range-made))
