@@ -19,12 +19,14 @@ use Rattle.iset.specs.declared.build.Built.the-variants as built
 use Rattle.iset.specs.declared.remove.Gone.{Gone}
 use Rattle.iset.specs.declared.remove.Removal.{Removal}
 use Rattle.iset.specs.declared.remove.Removal.the-variants as removal
-use Rattle.slots.specs.Reading.{byteRule, endRule, newRule}
+use Rattle.slots.specs.Reading.{gapAfter, byteRule, complete, endRule, newRule}
 use Rattle.slots.specs.Working.{Shelf, Desk, shelf, desk, roomFor, enteredWork, enteredList, listedIn, workLeft}
 use Rattle.slots.specs.Working.{builtIn, removalIn, settledIn, removedIn, wrongIn, onDesk, lineIn}
 use Rattle.slots.specs.Feeding.{Turn, turn, stepped, lined, lastLine, settledDesk, finished, printedOn}
 use Rattle.slots.specs.Writing.{page, puts, workText}
 use Rattle.slots.specs.declared.State.{State}
+use Rattle.slots.specs.declared.reading.Before.{Before}
+use Rattle.slots.specs.declared.reading.Line.{Line}
 use Rattle.slots.specs.declared.reading.Line.the-variants.{Start}
 use Rattle.slots.specs.declared.reading.Said.{Said}
 use Rattle.slots.specs.declared.reading.Said.the-variants.{Entry, Remove, Other}
@@ -45,13 +47,38 @@ module _ (n len : ℕ) (t : Bool) (e : t ≡ roomFor n len) (q : t ≡ true) whe
 pub listing : (k n : ℕ) → k ≡ n + 1 → Listing k ≡ Listing (n + 1)
 listing k n e = rw e
 
--- an entry, by what the work was
+-- a byte and the end of a line, by what the line was; a space and the end after a number, by what stands before it
+module _ (l z : Line) (e : l ≡ z) where
+  pub byte-of : (b : ℕ) (r : Line) → r ≡ byteRule z b → r ≡ byteRule l b
+  byte-of b r h = rw e h
+
+  pub end-of : (r : Said) → r ≡ endRule z → r ≡ endRule l
+  end-of r h = rw e h
+
+module _ (g z : Before) (e : g ≡ z) (v : ℕ) where
+  pub gap-of : (r : Line) → r ≡ gapAfter z v → r ≡ gapAfter g v
+  gap-of r h = rw e h
+
+  pub complete-of : (r : Said) → r ≡ complete z v → r ≡ complete g v
+  complete-of r h = rw e h
+
+-- an entry, any other line, the build and a removal, by what the work was
 module _ (w z : Work) (e : w ≡ z) where
   pub entered-of : (r : Work) (len : ℕ) → r ≡ enteredWork z len → r ≡ enteredWork w len
   entered-of r len h = rw e h
 
   pub listed-of : (a b c : ℕ) (E F : List ℕ) → F ≡ enteredList z a b c E → F ≡ enteredList w a b c E
   listed-of a b c E F h = rw e h
+
+  pub wrong-of : (r : Work) → r ≡ wrongIn z → r ≡ wrongIn w
+  wrong-of r h = rw e h
+
+  module _ (W C : List ℕ) (h : Shelf) where
+    pub settled-of : (E : List ℕ) → h ≡ settledIn E (shelf z W C) → h ≡ settledIn E (shelf w W C)
+    settled-of E p = rw e p
+
+    pub removed-of : (k : ℕ) → h ≡ removedIn k (shelf z W C) → h ≡ removedIn k (shelf w W C)
+    removed-of k p = rw e p
 
 pub three : (E : List ℕ) (i a b c : ℕ) → set (set (set E i a) (i + 1) b) (i + 2) c ≡ sets E i (a ∷ b ∷ c ∷ [])
 three E i a b c =
@@ -93,14 +120,7 @@ module _ (b : Removal) (m : Map) (k : ℕ) (W C X K : List ℕ)
   pub remove-refused : (r : Work) (y : Refusal) → b ≡ removal.Refused y → r ≡ Refused (refusalNumber y) → shelf r X K ≡ removalIn m W C k
   remove-refused r y d h = remove-left r (rw d (h ∙ sym (work-refused y _ _)))
 
--- the map that is built where it is not there yet; a removal from one that is there; a removal after the build
-module _ (r w : Work) (W C X K : List ℕ) where
-  pub settled-list : (n : ℕ) (E : List ℕ) → w ≡ Listing n → shelf r X K ≡ builtIn W C (listedIn n E) → shelf r X K ≡ settledIn E (shelf w W C)
-  settled-list n E e p = rw e p
-
-  pub removed-held : (m : Map) (k : ℕ) → w ≡ Held m → shelf r X K ≡ removalIn m W C k → shelf r X K ≡ removedIn k (shelf w W C)
-  removed-held m k e p = rw e p
-
+-- a removal after the build
 pub removed-then : (r w : Work) (h : Shelf) (X K Y L : List ℕ) (k : ℕ) → shelf w X K ≡ h → shelf r Y L ≡ removedIn k (shelf w X K)
     → shelf r Y L ≡ removedIn k h
 removed-then r w h X K Y L k e q = q ∙ ap (λ (s : Shelf). removedIn k s) e

@@ -1,3 +1,4 @@
+use Rattle.slots.proofs.Arms.{complete-of}
 use borrow.Author.Needs.{needs}
 use Rattle.slots.proofs.reading.complete.Statement.{statement}
 use Rattle.slots.proofs.reading.complete.Tie as tie
@@ -12,5 +13,5 @@ complete-spec =
     (λ c. search needs)
     (λ c. search needs)
     (λ c. search needs)
-    (λ c. cc)
-    (λ c. cc))
+    (λ c. search complete-of)
+    (λ c. search complete-of))

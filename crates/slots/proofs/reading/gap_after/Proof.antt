@@ -1,3 +1,4 @@
+use Rattle.slots.proofs.Arms.{gap-of}
 use borrow.Author.Needs.{needs}
 use Rattle.slots.proofs.reading.gap_after.Statement.{statement}
 use Rattle.slots.proofs.reading.gap_after.Tie as tie
@@ -10,7 +11,7 @@ gap-after-spec =
     (λ c. search needs)
     (λ c. search needs)
     (λ c. search needs)
-    (λ c. cc)
-    (λ c. cc)
+    (λ c. search gap-of)
+    (λ c. search gap-of)
     (λ c. search needs)
     (λ c. search needs))

@@ -1,3 +1,4 @@
+use Rattle.slots.proofs.Arms.{byte-of}
 use borrow.Author.Needs.{needs}
 use Rattle.slots.proofs.reading.Line.byte.Statement.{statement}
 use Rattle.slots.proofs.reading.Line.byte.Tie as tie
@@ -15,8 +16,8 @@ byte-spec =
     (λ c. search needs)
     (λ c κs. search needs)
     (λ c. search needs)
-    (λ c. cc)
-    (λ c. cc)
-    (λ c. cc)
-    (λ c. cc)
+    (λ c. search byte-of)
+    (λ c. search byte-of)
+    (λ c. search byte-of)
+    (λ c. search byte-of)
     (λ c. search needs))

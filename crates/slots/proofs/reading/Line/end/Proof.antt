@@ -1,3 +1,4 @@
+use Rattle.slots.proofs.Arms.{end-of}
 use borrow.Author.Needs.{needs}
 use Rattle.slots.proofs.reading.Line.end.Statement.{statement}
 use Rattle.slots.proofs.reading.Line.end.Tie as tie
@@ -14,6 +15,6 @@ end-spec =
     (λ c. search needs)
     (λ c. search needs)
     (λ c. search needs)
-    (λ c. cc)
+    (λ c. search end-of)
     (λ c. search needs)
     (λ c. search needs))

@@ -1,4 +1,4 @@
-use Rattle.slots.proofs.Arms.{removed-held}
+use Rattle.slots.proofs.Arms.{removed-of}
 use borrow.Author.Needs.{needs}
 use Rattle.slots.proofs.working.Work.remove_held.Statement.{statement}
 use Rattle.slots.proofs.working.Work.remove_held.Tie as tie
@@ -11,8 +11,8 @@ remove-held-spec =
     (λ c. search needs)
     (λ c κs. search needs)
     (λ c. search needs)
-    (λ c. cc)
+    (λ c. search removed-of)
     (λ c. search needs)
     (λ c. search needs)
-    (λ c. search removed-held)
-    (λ c. cc))
+    (λ c. search removed-of)
+    (λ c. search removed-of))

@@ -1,4 +1,4 @@
-use Rattle.slots.proofs.Arms.{settled-list}
+use Rattle.slots.proofs.Arms.{settled-of}
 use borrow.Author.Needs.{needs}
 use Rattle.slots.proofs.working.Work.settle.Statement.{statement}
 use Rattle.slots.proofs.working.Work.settle.Tie as tie
@@ -13,6 +13,6 @@ settle-spec =
     (λ c. search needs)
     (λ c. search needs)
     (λ c. search needs)
-    (λ c. search settled-list)
-    (λ c. cc)
-    (λ c. cc))
+    (λ c. search settled-of)
+    (λ c. search settled-of)
+    (λ c. search settled-of))

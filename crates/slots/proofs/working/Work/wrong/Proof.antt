@@ -1,3 +1,4 @@
+use Rattle.slots.proofs.Arms.{wrong-of}
 use borrow.Author.Needs.{needs}
 use Rattle.slots.proofs.working.Work.wrong.Statement.{statement}
 use Rattle.slots.proofs.working.Work.wrong.Tie as tie
@@ -11,6 +12,6 @@ wrong-spec =
     (λ c. search needs)
     (λ c κs. search needs)
     (λ c. search needs)
-    (λ c. cc)
-    (λ c. cc)
-    (λ c. cc))
+    (λ c. search wrong-of)
+    (λ c. search wrong-of)
+    (λ c. search wrong-of))
