@@ -139,32 +139,50 @@ fn chain(n: u64, nodes: &mut [u64], colours: &[u8]) {
     }
 }
 
-fn some(list: &mut [u64], nodes: &mut [u64], colours: &mut [u8]) {
-    build(255, list, nodes, colours);
-    build(256, list, nodes, colours);
-    build(4096, list, nodes, colours);
+// How many entries the builds have: the last but one as many as a map can have, the last one more.
+fn size(k: u64) -> usize {
+    match k {
+        0 => 255,
+        1 => 256,
+        2 => 4096,
+        3 => 65535,
+        _ => 65536,
+    }
 }
 
-// As many entries as a map can have, and one more.
-fn most(list: &mut [u64], nodes: &mut [u64], colours: &mut [u8]) {
-    build(65535, list, nodes, colours);
-    build(65536, list, nodes, colours);
+fn builds(list: &mut [u64], nodes: &mut [u64], colours: &mut [u8]) {
+    let mut k = 0;
+    while k < 5 {
+        let n = size(k);
+        k += 1;
+        build(n, list, nodes, colours);
+    }
+}
+
+fn links(k: u64) -> u64 {
+    match k {
+        0 => 1,
+        1 => 2,
+        2 => 4000,
+        3 => 65535,
+        _ => 65536,
+    }
 }
 
 fn chains(nodes: &mut [u64], colours: &[u8]) {
-    chain(1, nodes, colours);
-    chain(2, nodes, colours);
-    chain(4000, nodes, colours);
-    chain(65535, nodes, colours);
-    chain(65536, nodes, colours);
+    let mut k = 0;
+    while k < 5 {
+        let n = links(k);
+        k += 1;
+        chain(n, nodes, colours);
+    }
 }
 
 fn main() {
     let mut list = list_space();
     let mut nodes = words_space();
     let mut colours = bytes_space();
-    some(&mut list, &mut nodes, &mut colours);
-    most(&mut list, &mut nodes, &mut colours);
+    builds(&mut list, &mut nodes, &mut colours);
     let black = bytes_space();
     chains(&mut nodes, &black);
 }
