@@ -5,4 +5,4 @@ use Rattle.bitvec.proofs.bit_at.Tie as tie
 
 pub bit-at-spec : {M : Type 1} → statement M
 unfolding bitAt
-bit-at-spec = tie.close (tie.spec (λ c. search needs) (λ c κs. search needs) (λ c. cc))
+bit-at-spec = tie.close (tie.spec (λ c. search needs) (λ c κs. search needs) (λ c. c .bit-of .ensures))
