@@ -5,4 +5,4 @@ use Rattle.stack.proofs.ActionStack.mark.Tie as tie
 
 pub mark-spec : {M : Type 1} → statement M
 unfolding marked
-mark-spec = tie.close (tie.spec (λ c. search needs) (λ c κs. search needs) (λ c. cc))
+mark-spec = tie.close (tie.spec (λ c. search needs) (λ c κs. search needs) (λ c. rw (c .put-state .ensures)))

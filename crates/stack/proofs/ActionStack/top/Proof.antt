@@ -5,4 +5,4 @@ use Rattle.stack.proofs.ActionStack.top.Tie as tie
 
 pub top-spec : {M : Type 1} → statement M
 unfolding top
-top-spec = tie.close (tie.spec (λ c. search needs) (λ c κs. search needs) (λ c. cc))
+top-spec = tie.close (tie.spec (λ c. search needs) (λ c κs. search needs) (λ c. c .state-at .ensures))
