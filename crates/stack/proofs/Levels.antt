@@ -118,21 +118,13 @@ state-bits x (suc j) = rw (state-next, twice, bit-up, bit-up) (state-bits (x / 4
 
 pub put-bits : (x j : ℕ) (a b : Bool) → putState x j (num a + 2 * num b) ≡ put (put x (2 * j) a) (suc (2 * j)) b
 unfolding put
-put-bits x zero a b = rw put-first (go a b)
-  where
-    go : (a b : Bool) → x / 4 * 4 + (num a + 2 * num b) ≡ ((x / 2 * 2 + num a) / 2 / 2 * 2 + num b) * 2 + (x / 2 * 2 + num a) % 2
-    go true true = omega arith
-    go true false = omega arith
-    go false true = omega arith
-    go false false = omega arith
+put-bits x zero true b = rw put-first (omega arith)
+put-bits x zero false b = rw put-first (omega arith)
 put-bits x (suc j) a b =
     let y : ℕ = put (x / 2 / 2) (2 * j) a in
-    let e : ((y * 2 + x / 2 % 2) * 2 + x % 2) / 2 ≡ y * 2 + x / 2 % 2 = omega arith in
-    let f : (y * 2 + x / 2 % 2) / 2 ≡ y = omega arith in
-    let g : ((y * 2 + x / 2 % 2) * 2 + x % 2) % 2 ≡ x % 2 = omega arith in
-    let i : (y * 2 + x / 2 % 2) % 2 ≡ x / 2 % 2 = omega arith in
-    let k : putState (x / 4) j (num a + 2 * num b) ≡ put (put (x / 4) (2 * j) a) (suc (2 * j)) b = put-bits (x / 4) j a b in
-    rw (put-next, k, twice, e, f, g, i, halves) (omega arith)
+    let e = over (y * 2 + x / 2 % 2) (x % 2) 2 (omega arith) in
+    let f = over y (x / 2 % 2) 2 (omega arith) in
+    rw (put-next, put-bits (x / 4) j a b, twice, e .0, f .0, e .1, f .1, halves, two-bits) (omega arith)
 
 -- `go_left` sets the last bit of its level and leaves every other bit
 pub left-bit : (x j : ℕ) → putState x j (stateAt x j % 2 + 2) ≡ put x (suc (2 * j)) true
