@@ -18,7 +18,7 @@ use Rattle.audit.specs.declared.Found.{Found}
 use Rattle.audit.specs.Survey.{nodeAt, noNodes, tied, fits, combined, childless, enters, survey}
 use Rattle.audit.proofs.Tests.{both, same, less, not-so, twins}
 
--- a node that fits, and one that does not
+-- a node that fits
 pub joined : (x : Node) (l r : Found) (b : Bool) (d : ℕ) → b ≡ fits x l r → b ≡ true → (d ≡ dark (x .red)) × (d ≤ 1)
     → record {
       ok = true;
@@ -30,9 +30,6 @@ pub joined : (x : Node) (l r : Found) (b : Bool) (d : ℕ) → b ≡ fits x l r 
       hull = x .hull;
     } ≡ combined x l r
 joined x l r b d e t q = rw (sym e ∙ t, q .0) refl
-
-pub passed : {A : Type 0} (b d : Bool) (r x y : A) → b ≡ d → b ≡ false → r ≡ y → r ≡ cond d x y
-passed b d r x y e t q = rw (sym e ∙ t) q
 
 -- a node without children
 module _ (d : Interval) (a : Found) (e : a ≡ noNodes true d) where

@@ -1,6 +1,6 @@
 -- The weights of bits: the table's rule, proved once for all of it; what is in a number at the weight of a bit, and the number with that bit written.
 use mathlib.Core.Path.{_≡_, refl, sym, ap, _∙_}
-use mathlib.Core.Bool.{Bool, true, false, not, _&&_, false≢true}
+use mathlib.Core.Bool.{Bool, true, false, not}
 use mathlib.Core.List.{List, [], _∷_}
 use Prim.Native.Nat.{ℕ, zero, suc, _+_, _-_, _*_, _/_, _%_, _^_, _<_, _≤_, zero-le}
 use native.Mathlib.Omega.{arith}
@@ -28,17 +28,15 @@ abbrev weights : List ℕ
 weights = 1 ∷ 2 ∷ 4 ∷ 8 ∷ 16 ∷ 32 ∷ 64 ∷ 128 ∷ []
 
 -- its rule: a test over the whole table, which is computed, and the law of doubles
+tested : weights ≡ doubles 1 8
+tested = refl
+
 weights-are : (k : ℕ) → k < 8 → getD weights k 0 ≡ 2 ^ k
-weights-are k h = doubles-at 1 8 k h ∙ omega arith
+weights-are k h = ap (λ (t : List ℕ). getD t k 0) tested ∙ doubles-at 1 8 k h ∙ omega arith
 
 -- so what is handed out for bit j, where it is the entry k of the table, and k is j
-pub entry-is : (j k w : ℕ) → j ≡ k → ltb k 8 && eqb w (getD weights k 0) ≡ true → w ≡ 2 ^ j
-entry-is j k w e t = go (ltb k 8) (eqb w (getD weights k 0)) refl refl t
-  where
-    go : (a b : Bool) → ltb k 8 ≡ a → eqb w (getD weights k 0) ≡ b → a && b ≡ true → w ≡ 2 ^ j
-    go true true f g z = eqb-true w (getD weights k 0) g ∙ weights-are k (ltb-true k 8 f) ∙ ap (λ (i : ℕ). 2 ^ i) (sym e)
-    go true false f g z = absurd (false≢true z)
-    go false b f g z = absurd (false≢true z)
+pub entry-is : (j k w : ℕ) → j ≡ k → ltb k 8 ≡ true → w ≡ getD weights k 0 → w ≡ 2 ^ j
+entry-is j k w e h t = t ∙ weights-are k (ltb-true k 8 h) ∙ ap (λ (i : ℕ). 2 ^ i) (sym e)
 
 -- the last bit of a byte is the one that is none of the others
 past : (k j : ℕ) → k ≤ j → (j ≡ k → ⊥) → suc k ≤ j

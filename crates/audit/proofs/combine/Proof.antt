@@ -1,5 +1,6 @@
 use borrow.Author.Needs.{needs}
-use Rattle.audit.proofs.Laws.{joined, passed}
+use Rattle.words.proofs.Tests.{passed}
+use Rattle.audit.proofs.Laws.{joined}
 use Rattle.audit.proofs.combine.Statement.{statement}
 use Rattle.audit.proofs.combine.Tie as tie
 
