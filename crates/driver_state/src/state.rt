@@ -1,7 +1,7 @@
 // What stays from line to line.
 use words::ix::U;
 
-// What the last request left in the arenas' copies, for `commit`: a map with its node words and colour bytes, or the
+// What the last request left in the arena's copy, for `commit`: a map with its node words and colour bytes, or the
 // bytes of the bit calls. Store: count, root, how many words, how many bytes. Bytes: how many.
 pub enum Left {
     Nothing,
