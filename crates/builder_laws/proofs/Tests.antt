@@ -12,7 +12,7 @@ use Rattle.builder.specs.Input.{startOf, endOf, intervalOf, count, every, prope
 use Rattle.builder_laws.specs.Input.{Input}
 
 module _ (p : ℕ → Bool) where
-  every-sound : (m k : ℕ) → every p k m ≡ true → (j : ℕ) → k ≤ j → j < k + m → p j ≡ true
+  pub every-sound : (m k : ℕ) → every p k m ≡ true → (j : ℕ) → k ≤ j → j < k + m → p j ≡ true
   unfolding every
   every-sound zero k h j x y = absurd (omega arith)
   every-sound (suc m) k h j x y = go (p k) refl h (every-sound m (suc k))

@@ -27,7 +27,7 @@ module _ (m : Map) (W C : List ℕ) where
   held = room (length W) (length C)
 
   -- what the rule's two tests were, from its number
-  cases : {X : Type 0} (k : ℕ) → checkRule m W C ≡ k → (held < m .count → 1 ≡ k → X) → (m .count ≤ held → Passes W C (m .count) (m .root) → 0 ≡ k → X)
+  pub cases : {X : Type 0} (k : ℕ) → checkRule m W C ≡ k → (held < m .count → 1 ≡ k → X) → (m .count ≤ held → Passes W C (m .count) (m .root) → 0 ≡ k → X)
       → (m .count ≤ held → (Passes W C (m .count) (m .root) → ⊥) → 2 ≡ k → X) → X
   unfolding checkRule
   cases {X = X} k e over sound broken = go (ltb held (m .count)) (wholeOf W C (m .count) (m .root)) refl refl e

@@ -33,7 +33,7 @@ module _ (m : Map) (W C : List ℕ) (q : Query) (e : startNumber m W C q ≡ 0) 
   pub tree-of : Passes W C (m .count) (m .root)
   tree-of = check-zero m W C (start-accepts m W C q e .0) .1
 
-  few : m .count ≤ 65535
+  pub few : m .count ≤ 65535
   few = let h : m .count ≤ room (length W) (length C) = check-zero m W C (start-accepts m W C q e .0) .0 in omega arith
 
   -- the fresh cursor is accepted, and a drain from it whose limit the output holds

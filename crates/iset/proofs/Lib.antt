@@ -5,5 +5,8 @@ pub mod Insertions
 pub mod Sequence
 pub mod Lookups
 pub mod Found
+pub mod Runs
+pub mod Refusals
+pub mod Below
 pub mod Laws
 pub mod Determined

@@ -61,7 +61,7 @@ module _ (m : Map) (W C : List ℕ) (q : Query) where
   held : startNumber m W C q ≡ 0 → m .count ≤ room (length W) (length C)
   held e = check-zero m W C (start-accepts e .0) .0
 
-not-bad : (f : Form) → formNumber f ≡ 0 → f ≡ Bad → ⊥
+pub not-bad : (f : Form) → formNumber f ≡ 0 → f ≡ Bad → ⊥
 not-bad f e q = let z : _≡_ {A = ℕ} 7 0 = sym (ap formNumber q) ∙ e in omega arith
 
 module _ (m : Map) (W C : List ℕ) (q : Query) (t : Checked) (s : t ≡ Sound) where

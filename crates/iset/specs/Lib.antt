@@ -5,3 +5,6 @@ pub mod Remove
 pub mod Insert
 pub mod Sequence
 pub mod Lookup
+pub mod Runs
+pub mod Refusals
+pub mod Below

@@ -57,7 +57,7 @@ module _ (W C : List ℕ) (n r : ℕ) (key : Interval) (small : n ≤ 65535) (P 
     abbrev pub below : Tree
     below = node (H .left) k (H .right)
 
-    all-below : those (equals W key) (slots below) ≡ all
+    pub all-below : those (equals W key) (slots below) ≡ all
     all-below =
         rw (
           ← (H .there),
@@ -69,12 +69,12 @@ module _ (W C : List ℕ) (n r : ℕ) (key : Interval) (small : n ≤ 65535) (P 
           append-nil,
         )
 
-    shape-below : Shape W n (par W k) k below
+    pub shape-below : Shape W n (par W k) k below
     shape-below =
         focus W n U r (H .way) below (rw (H .there) (P .shape)) (λ q j h e.
         record { here = refl; live = h .live; up = refl; left = h .left; right = h .right })
 
-    walk-below : Walk W n Q E (par W k) k below
+    pub walk-below : Walk W n Q E (par W k) k below
     walk-below =
         let z : size (plug (H .way) below) ≤ n = rw (H .there) (omega (arith, tree-size W C n r P)) in
         let y : height (plug (H .way) below) ≤ 32 = rw (H .there) (tree-low W C n r P small) in
@@ -88,7 +88,7 @@ module _ (W C : List ℕ) (n r : ℕ) (key : Interval) (small : n ≤ 65535) (P 
           rule = follows W n Q E (by-link W n key small) small;
         }
 
-  walk-none : (k : ℕ) → k ≡ U → Walk W n Q E U k leaf
+  pub walk-none : (k : ℕ) → k ≡ U → Walk W n Q E U k leaf
   walk-none k e =
       record {
         small = small;
@@ -101,7 +101,7 @@ module _ (W C : List ℕ) (n r : ℕ) (key : Interval) (small : n ≤ 65535) (P 
       }
 
   -- the tree that the walk goes through has all equal entries
-  start-tree : {X : Type 0} → ((p : ℕ) (t : Tree) → Walk W n Q E p begin t → those (equals W key) (slots t) ≡ all → X) → X
+  pub start-tree : {X : Type 0} → ((p : ℕ) (t : Tree) → Walk W n Q E p begin t → those (equals W key) (slots t) ≡ all → X) → X
   start-tree x =
       exact-start (λ e i. x U leaf (walk-none begin e) (sym i)) (λ H. x (par W begin) (below begin H) (walk-below begin H) (all-below begin H))
 

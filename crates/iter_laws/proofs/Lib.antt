@@ -7,6 +7,7 @@ pub mod Places
 pub mod Fresh
 pub mod Later
 pub mod Forms
+pub mod Parts
 pub mod Bounds
 pub mod Within
 pub mod Overlaps

@@ -201,7 +201,7 @@ module _ (W : List ℕ) (n : ℕ) (Q : Rules) (E : Bool → ℕ → ℕ → Bool
       go leaf e h = y h
       go (node l s r) e h = x (stands (spot [] l s r 0) (e, omega arith) (fresh k) (rw (h .here)))
 
-  after-end : (m : ℕ) (c : Cursor) → c .slot ≡ U → after W n Q m c ≡ c
+  pub after-end : (m : ℕ) (c : Cursor) → c .slot ≡ U → after W n Q m c ≡ c
   unfolding after
   after-end zero c e = refl
   after-end (suc m) c e = rw (e, le-ltb U n (omega arith))

@@ -12,3 +12,4 @@ pub mod Hang
 pub mod Inside
 pub mod Insertion
 pub mod Sequence
+pub mod Below

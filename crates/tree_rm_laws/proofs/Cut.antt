@@ -66,10 +66,10 @@ module _ (n v : ℕ) (base W : List ℕ) (K : ℕ → Bool) (r : ℕ) (small : n
   abbrev X : List ℕ
   X = redirect n W (par W v) v U
 
-  two : (s : ℕ) → occs s q + hit s v ≤ 1
+  pub two : (s : ℕ) → occs s q + hit s v ≤ 1
   two s = omega (arith, h .once s, occ-plug s (h .q) (Bare v))
 
-  place : Above W n r q (par W v) v
+  pub place : Above W n r q (par W v) v
   place =
       let (p, k, a, sh) = unplug-shape W n r (h .q) (Bare v) (h .shape) in
       rw (sh .here, ← (sh .up)) at a
@@ -81,7 +81,7 @@ module _ (n v : ℕ) (base W : List ℕ) (K : ℕ → Bool) (r : ℕ) (small : n
   live s o = shape-live W n U r (plug (h .q) (Bare v)) s (h .shape) (omega (arith, occ-plug s (h .q) (Bare v), occ-plug s (h .q) leaf))
 
   -- 32 hulls suffice
-  short : length q ≤ 32
+  pub short : length q ≤ 32
   short =
       let z : size (plug q leaf) ≤ n = size-le n (plug q leaf) live (λ s. omega (arith, two s, occ-plug s q leaf)) in
       omega (arith, way-height q leaf, height-32 K (plug q leaf) (even .0) (even .1) (omega arith))

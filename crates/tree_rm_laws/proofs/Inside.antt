@@ -63,13 +63,13 @@ module _ (n : ℕ) where
       go true = low-refl n W
       go false = low-swap n W s x ls lx
 
-  leftmost-live : (height : ℕ) (W : List ℕ) (k : ℕ) → k < n → leftmost n height W k < n
+  pub leftmost-live : (height : ℕ) (W : List ℕ) (k : ℕ) → k < n → leftmost n height W k < n
   unfolding leftmost
   leftmost-live zero W k h = h
   leftmost-live (suc height) W k h =
       by-link n (kid W true k) (λ m. m < n) (λ s. leftmost n height W s) k (leftmost-live height W (kid W true k)) (λ u. h)
 
-  vacated-live : (W : List ℕ) (s : ℕ) → s < n → vacated n W s < n
+  pub vacated-live : (W : List ℕ) (s : ℕ) → s < n → vacated n W s < n
   unfolding vacated
   vacated-live W s h = go (leb n (kid W false s)) refl
     where

@@ -23,9 +23,11 @@ pub mod Cut
 pub mod Landing
 pub mod PairLaws
 pub mod Removal
+pub mod Enough
 pub mod Doubled
 pub mod Unique
 pub mod Low
 pub mod Mended
 pub mod Inside
 pub mod Sequence
+pub mod Below

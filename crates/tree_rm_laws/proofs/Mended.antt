@@ -71,7 +71,7 @@ module _ (n : ℕ) where
       }
 
   -- the fourth case has a red close nephew, and a red link leads to a slot
-  four-close : (p s c d : Bool) → choose p s c d ≡ four → c ≡ true
+  pub four-close : (p s c d : Bool) → choose p s c d ≡ four → c ≡ true
   four-close p s true d e = refl
   four-close p s false d e = absurd (false≢true (sym (not-four p s d) ∙ ap isFour e))
 

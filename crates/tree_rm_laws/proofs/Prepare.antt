@@ -108,7 +108,7 @@ module _ (X C : List ℕ) (n r x : ℕ) (b : Bool) (c : List Frame) (near : Tree
         }
 
     -- x is black: 36 turns suffice
-    as-black : red C x ≡ false → Lighter n x base 36 X (red C) r x
+    pub as-black : red C x ≡ false → Lighter n x base 36 X (red C) r x
     as-black e =
         let (way, o) = at-x X C n r x b c near h in
         let kid-U : (d : Bool) → kid X d x ≡ U = by-side (λ d. kid X d x ≡ U) b (rw none at (o .left)) (o .right) in (
@@ -153,10 +153,10 @@ module _ (X C : List ℕ) (n r x : ℕ) (b : Bool) (c : List Frame) (near : Tree
 
   -- a child y: it is cut off, with the entry of x in it
   module _ (l : Tree) (y : ℕ) (l′ : Tree) (near-is : near ≡ node l y l′) where
-    live-y : y < n
+    pub live-y : y < n
     live-y = at-y X C n r x b c near h l y l′ near-is .live
 
-    reds : (red C x ≡ false) × (red C y ≡ true)
+    pub reds : (red C x ≡ false) × (red C y ≡ true)
     reds = (black-x X C n r x b c near h l y l′ near-is, red-y X C n r x b c near h l y l′ near-is)
 
     tree-y : t ≡ plug c (bin b (Bare y) x leaf)

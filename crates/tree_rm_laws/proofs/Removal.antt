@@ -58,7 +58,7 @@ module _ (W C : List ℕ) (n r s : ℕ) (small : n ≤ 65535) (fit : n * 8 ≤ l
   tall : height t ≤ 32
   tall = tree-low W C n r h small
 
-  count : (a : ℕ) → a < n → times a (slots t) ≡ 1
+  pub count : (a : ℕ) → a < n → times a (slots t) ≡ 1
   count a q = times-slots a t ∙ h .once a q
 
   kept-rising : RisingAt W (without s (slots t))
@@ -103,7 +103,7 @@ module _ (W C : List ℕ) (n r s : ℕ) (small : n ≤ 65535) (fit : n * 8 ≤ l
     live-x =
         live x (rw (ch .tree-is) (omega (arith, occ-plug x (ch .c) (bin (ch .b) (ch .near) x leaf), occ-bin x (ch .b) (ch .near) x leaf, hit-same x)))
 
-    spot : Spot X C n r x (ch .b) (ch .c) (ch .near)
+    pub spot : Spot X C n r x (ch .b) (ch .c) (ch .near)
     spot =
         let sh : Shape X n U r t = keep W X n U r t (λ a o. same-exchanged W s x a) (h .shape) in
         record {
@@ -118,7 +118,7 @@ module _ (W C : List ℕ) (n r s : ℕ) (small : n ≤ 65535) (fit : n * 8 ≤ l
           hulls = ch .hulls;
         }
 
-    ready : ReadyIn n x y (slots t) X S
+    pub ready : ReadyIn n x y (slots t) X S
     ready = let p = prepared X C n r x (ch .b) (ch .c) (ch .near) spot in rw (← (ch .tree-is)) at p
 
     child-is : y < n → (a : ℕ) → 0 < occs a (ch .c) + hit a x → y ≢ a

@@ -4,5 +4,7 @@ pub mod Pairs
 pub mod Remove
 pub mod Names
 pub mod Removed
+pub mod With
+pub mod Below
 pub mod Corrected
 pub mod Sequence

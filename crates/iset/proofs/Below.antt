@@ -1,0 +1,300 @@
+-- "Slots from count up are not read": on two stores that agree below the count each public call answers the same, and leaves stores that agree
+-- below the count that it answers.
+use mathlib.Core.Path.{_≡_, refl, sym, _∙_}
+use mathlib.Core.Bool.{Bool, true, false, cond, _&&_}
+use mathlib.Core.List.{List, map}
+use Prim.Native.Nat.{ℕ, zero, suc, _+_, _-_, _/_, _^_, _<_, _≤_}
+use native.Mathlib.Omega.{arith}
+use lib.ListN.{length}
+use lib.Dec.{eqb, ltb, leb}
+use borrow.Author.Tests.{ne-eqb, ltb-true}
+use Rattle.words.specs.Ix.{U}
+use Rattle.words.specs.Nodes.{room, hi, lo, kid, par, interval, hull}
+use Rattle.words.specs.Intervals.{reached, admits, contains}
+use Rattle.words.specs.declared.interval.Interval.{Interval}
+use Rattle.words.specs.declared.node.Entry.{Entry}
+use Rattle.words.specs.declared.node.Field.the-variants.{Start, End, HullStart, HullEnd, Child, Parent}
+use Rattle.bitvec.specs.Colours.{red}
+use Rattle.tree.specs.Tree.{Tree, slots, occ}
+use Rattle.tree.specs.Passes.{Passes}
+use Rattle.tree.proofs.Frames.{keep}
+use Rattle.tree.proofs.Slots.{times-slots}
+use Rattle.tree.proofs.Checked.{slot-live}
+use Rattle.tree_rm_laws.specs.Remove.{removeRule}
+use Rattle.tree_rm_laws.specs.Below.{Agree, Alike}
+use Rattle.tree_rm_laws.proofs.Beside.{hulls-same}
+use Rattle.tree_rm_laws.proofs.Fits.{Keeps, keeps}
+use Rattle.tree_rm_laws.proofs.Rows.{map-same}
+use Rattle.tree_rm_laws.proofs.Below.{link-same, SameRemoval, removed-below}
+use Rattle.tree_in_laws.specs.Insert.{insertRule}
+use Rattle.tree_in_laws.proofs.Below.{inserted-below}
+use Rattle.stack.specs.States.{top, stateAt}
+use Rattle.iter.specs.Cursors.{stackOf}
+use Rattle.iter.specs.Walk.{Rules, deeper, down, move, hits, ending, hitting, counts, seek, fuel, step}
+use Rattle.iter.specs.Drains.{drain, limitOf}
+use Rattle.iter.specs.Forms.{onSide, formed, heldForm, formOf}
+use Rattle.iter.specs.Overlap.{meets, shouldGo}
+use Rattle.iter.specs.Exact.{equals, sorted, shouldGoExact, find}
+use Rattle.iter.specs.Queries.{rules}
+use Rattle.iter.specs.declared.Cursor.{Cursor}
+use Rattle.iter.specs.declared.rules.Query.{Query}
+use Rattle.iter.specs.declared.rules.Query.the-variants.{Overlap, Exact}
+use Rattle.iset.specs.Check.{checkRule}
+use Rattle.iset.specs.Remove.{removeNumber, refusedRemoval, removeCall, removeNodes, removeColours}
+use Rattle.iset.specs.Insert.{properNumber, insertNumber, refusedInsertion, insertDone, insertCall, insertNodes, insertColours}
+use Rattle.iset.specs.Lookup.{beginning, startNumber, stepNumber, drainNumber, startCall, stepCall, drainCall, drainOutput}
+use Rattle.iset.specs.Below.{SameBelow}
+use Rattle.iset.specs.declared.Map.{Map}
+use Rattle.iset.proofs.Checks.{cases, one-check, two-check, zero-check, check-zero}
+use Rattle.iset.proofs.Removals as removals
+use Rattle.iset.proofs.Insertions as insertions
+
+pub turned : (n : ℕ) (W C X D : List ℕ) → SameBelow n W C X D → SameBelow n X D W C
+turned n W C X D h =
+    record {
+      words = (sym (h .words .0), λ f a l. sym (h .words .1 f a l));
+      colours = (sym (h .colours .0), λ a l. sym (h .colours .1 a l));
+    }
+
+-- the check
+pub passes-below : (n r : ℕ) (W C X D : List ℕ) → SameBelow n W C X D → Passes W C n r → Passes X D n r
+passes-below n r W C X D s h =
+    let A : Agree n W X = s .words in
+    let t : Tree = h .tree in
+    let live : (a : ℕ) → 0 < occ a t → a < n = slot-live W C n r h in
+    let k : Keeps (red C) (red D) t = keeps (red C) (red D) t (λ a o. sym (s .colours .1 a (live a o))) in
+    let e : map (interval X) (slots t) ≡ map (interval W) (slots t) =
+    map-same (interval W) (interval X) (slots t) (λ a o. let l : a < n = live a (omega (arith, times-slots a t)) in rw (A .1 Start a l, A .1 End a l)) in
+    record {
+      tree = t;
+      shape = keep W X n U r t (λ a o. (λ b. sym (A .1 (Child b) a (live a o)), sym (A .1 Parent a (live a o)))) (h .shape);
+      once = h .once;
+      proper = λ a l. rw (← (A .1 Start a l), ← (A .1 End a l)) (h .proper a l);
+      rising = rw e (h .rising);
+      hulls = hulls-same W X t (λ a o f q. sym (A .1 f a (live a o))) (h .hulls);
+      top = k .root-is ∙ h .top;
+      hues = k .hues-is (h .hues);
+    }
+
+pub check-below : (m : Map) (W C X D : List ℕ) → SameBelow (m .count) W C X D → checkRule m W C ≡ checkRule m X D
+check-below m W C X D s =
+    cases m W C (checkRule m W C) refl
+    (λ h z. sym z ∙ sym (one-check m X D (rw (← (s .words .0), ← (s .colours .0)) h)))
+    (λ h p z. sym z ∙ sym (zero-check m X D (rw (← (s .words .0), ← (s .colours .0)) h) (passes-below (m .count) (m .root) W C X D s p)))
+    (λ h p z. sym z ∙ sym (two-check m X D (rw (← (s .words .0), ← (s .colours .0)) h)
+    (λ q. p (passes-below (m .count) (m .root) X D W C (turned (m .count) W C X D s) q))))
+
+-- the rules of a lookup, at a slot below the count
+module _ (n : ℕ) (W X : List ℕ) (A : Agree n W X) where
+  same-go : (q : Query) (b : Bool) (s : ℕ) → s < n → rules W n q .go b s ≡ rules X n q .go b s
+  unfolding rules shouldGo shouldGoExact sorted
+  same-go (Overlap q) true s l =
+      rw (A .1 (Child true) s l)
+      (link-same n {A = Bool} (λ i j. i ≡ j) (kid X true s) (λ a. reached (q .lo) (hi W a)) (λ a. reached (q .lo) (hi X a)) false false
+      (λ h. rw (A .1 HullEnd (kid X true s) h)) refl)
+  same-go (Overlap q) false s l =
+      rw (A .1 (Child false) s l)
+      (link-same n {A = Bool} (λ i j. i ≡ j) (kid X false s) (λ a. admits (q .hi) (lo W a)) (λ a. admits (q .hi) (lo X a)) false false
+      (λ h. rw (A .1 HullStart (kid X false s) h)) refl)
+  same-go (Exact x) true s l =
+      rw (A .1 (Child true) s l, A .1 Start s l, A .1 End s l)
+      (link-same n {A = Bool} (λ i j. i ≡ j) (kid X true s) (λ a. sorted X x true s && contains (hull W a) x) (λ a. sorted X x true s && contains (hull X a) x) false false
+      (λ h. rw (A .1 HullStart (kid X true s) h, A .1 HullEnd (kid X true s) h)) refl)
+  same-go (Exact x) false s l =
+      rw (A .1 (Child false) s l, A .1 Start s l, A .1 End s l)
+      (link-same n {A = Bool} (λ i j. i ≡ j) (kid X false s) (λ a. sorted X x false s && contains (hull W a) x) (λ a. sorted X x false s && contains (hull X a) x) false false
+      (λ h. rw (A .1 HullStart (kid X false s) h, A .1 HullEnd (kid X false s) h)) refl)
+
+  same-match : (q : Query) (s : ℕ) → s < n → rules W n q .match s ≡ rules X n q .match s
+  unfolding rules meets equals
+  same-match (Overlap q) s l = rw (A .1 Start s l, A .1 End s l)
+  same-match (Exact x) s l = rw (A .1 Start s l, A .1 End s l)
+
+  -- the walk
+  module _ (q : Query) where
+    abbrev Q : Rules
+    Q = rules W n q
+
+    abbrev R : Rules
+    R = rules X n q
+
+    same-deeper : (b : Bool) (c : Cursor) → c .slot < n → deeper Q b c ≡ deeper R b c
+    unfolding deeper
+    same-deeper b c l = rw (same-go q b (c .slot) l)
+
+    same-move : (c : Cursor) → c .slot < n → move W Q c ≡ move X R c
+    unfolding move down
+    same-move c l =
+        rw (same-deeper true c l, same-deeper false c l, A .1 (Child true) (c .slot) l, A .1 (Child false) (c .slot) l, A .1 Parent (c .slot) l)
+
+    same-hits : (c : Cursor) → hits n Q c ≡ hits n R c
+    unfolding hits
+    same-hits c = go (ltb (c .slot) n) refl
+      where
+        go : (t : Bool) → ltb (c .slot) n ≡ t → t && (eqb (top (stackOf c)) 1 && Q .match (c .slot)) ≡ t && (eqb (top (stackOf c)) 1 && R .match (c .slot))
+        go true e = rw (same-match q (c .slot) (ltb-true (c .slot) n e))
+        go false e = refl
+
+    same-seek : (f e : ℕ) (c : Cursor) → seek W n Q f e c ≡ seek X n R f e c
+    unfolding seek
+    same-seek zero e c = refl
+    same-seek (suc f) e c = go (same-seek f) (ltb (c .slot) n) refl
+      where
+        go : ((e : ℕ) (c : Cursor) → seek W n Q f e c ≡ seek X n R f e c) → (t : Bool) → ltb (c .slot) n ≡ t
+            → cond t (cond (hits n Q (move W Q c)) (hitting (move W Q c) e) (seek W n Q f (e + counts n (move W Q c)) (move W Q c))) (ending e)
+            ≡ cond t (cond (hits n R (move X R c)) (hitting (move X R c) e) (seek X n R f (e + counts n (move X R c)) (move X R c))) (ending e)
+        go rec true i = rw (same-move c (ltb-true (c .slot) n i), same-hits (move X R c), rec (e + counts n (move X R c)) (move X R c))
+        go rec false i = refl
+
+    same-step : (c : Cursor) → step W n Q c ≡ step X n R c
+    unfolding step
+    same-step c = same-seek (fuel n) (counts n c) c
+
+    same-drain : (limit : ℕ) (c : Cursor) → drain W n Q limit c ≡ drain X n R limit c
+    unfolding drain
+    same-drain zero c = refl
+    same-drain (suc limit) c = rw (same-step c, same-drain limit (step X n R c .next))
+
+  -- where a lookup begins, and the forms of its cursors
+  same-find : (x : Interval) (f k : ℕ) → find W n x f k ≡ find X n x f k
+  unfolding find equals sorted
+  same-find x zero k = refl
+  same-find x (suc f) k = go (same-find x f) (ltb k n) refl
+    where
+      go : ((k : ℕ) → find W n x f k ≡ find X n x f k) → (t : Bool) → ltb k n ≡ t
+          → cond t (cond (equals W x k) k (find W n x f (kid W (sorted W x true k) k))) U
+          ≡ cond t (cond (equals X x k) k (find X n x f (kid X (sorted X x true k) k))) U
+      go rec false i = refl
+      go rec true i =
+          let l : k < n = ltb-true k n i in
+          rw (A .1 Start k l, A .1 End k l, A .1 (Child (sorted X x true k)) k l, rec (kid X (sorted X x true k) k))
+
+  same-formed : (k bits j s : ℕ) → s < n → formed W n k bits j s ≡ formed X n k bits j s
+  unfolding formed onSide
+  same-formed k bits zero s l = refl
+  same-formed k bits (suc j) s l = rw (A .1 Parent s l) (go (same-formed k bits j) (ltb (par X s) n) refl)
+    where
+      go : ((s : ℕ) → s < n → formed W n k bits j s ≡ formed X n k bits j s) → (t : Bool) → ltb (par X s) n ≡ t
+          → t && (onSide W (stateAt bits j) (par X s) s && formed W n k bits j (par X s))
+          ≡ t && (onSide X (stateAt bits j) (par X s) s && formed X n k bits j (par X s))
+      go rec false i = refl
+      go rec true i =
+          let p : par X s < n = ltb-true (par X s) n i in
+          rw (A .1 (Child true) (par X s) p, A .1 (Child false) (par X s) p, rec (par X s) p)
+
+  same-held : (k : ℕ) (c : Cursor) → heldForm W n k c ≡ heldForm X n k c
+  unfolding heldForm
+  same-held k c = go (ltb (c .slot) n) refl
+    where
+      go : (t : Bool) → ltb (c .slot) n ≡ t
+          → t && (leb 1 (c .levels) && (leb (c .levels) 32 && (eqb (c .bits / 4 ^ (c .levels - 1)) 1 && formed W n k (c .bits) (c .levels - 1) (c .slot))))
+          ≡ t && (leb 1 (c .levels) && (leb (c .levels) 32 && (eqb (c .bits / 4 ^ (c .levels - 1)) 1 && formed X n k (c .bits) (c .levels - 1) (c .slot))))
+      go false i = refl
+      go true i = rw (same-formed k (c .bits) (c .levels - 1) (c .slot) (ltb-true (c .slot) n i))
+
+  same-form : (k : ℕ) (c : Cursor) → formOf W n k c ≡ formOf X n k c
+  unfolding formOf
+  same-form k c = rw (same-held k c)
+
+-- the public calls
+module _ (m : Map) (W C X D : List ℕ) (s : SameBelow (m .count) W C X D) where
+  abbrev n : ℕ
+  n = m .count
+
+  same-beginning : (q : Query) → beginning m W q ≡ beginning m X q
+  same-beginning (Overlap q) = refl
+  same-beginning (Exact x) = same-find n W X (s .words) x 32 (m .root)
+
+  same-start : (q : Query) → startNumber m W C q ≡ startNumber m X D q
+  unfolding startNumber
+  same-start q = rw (check-below m W C X D s)
+
+  pub start-below : (x : Interval) → startCall m W C x ≡ startCall m X D x
+  unfolding startCall
+  start-below x = rw (same-start (Exact x), same-find n W X (s .words) x 32 (m .root))
+
+  module _ (q : Query) (c : Cursor) where
+    same-stepNumber : stepNumber m W C q c ≡ stepNumber m X D q c
+    unfolding stepNumber
+    same-stepNumber = rw (same-start q, same-beginning q, same-form n W X (s .words) (beginning m X q) c)
+
+    pub step-below : stepCall m W C q c ≡ stepCall m X D q c
+    unfolding stepCall
+    step-below = rw (same-stepNumber, same-step n W X (s .words) q c)
+
+    module _ (limit : ℕ) where
+      same-drainNumber : (places : ℕ) → drainNumber m W C q c limit places ≡ drainNumber m X D q c limit places
+      unfolding drainNumber
+      same-drainNumber places = rw same-stepNumber
+
+      pub drain-below : (places : ℕ) → drainCall m W C q c limit places ≡ drainCall m X D q c limit places
+      unfolding drainCall
+      drain-below places = rw (same-drainNumber places, same-drain n W X (s .words) q (limitOf limit) c)
+
+      pub output-below : (out : List ℕ) → drainOutput m W C q c limit out ≡ drainOutput m X D q c limit out
+      unfolding drainOutput
+      output-below out = rw (same-drainNumber (length out), same-drain n W X (s .words) q (limitOf limit) c)
+
+  -- a call that is refused, by the number k, or not
+  by-number : (k : ℕ) (j : ℕ) (Y Z E F I T G H : List ℕ) → (k ≡ 0 → SameBelow j Y E Z F) → SameBelow j I G T H
+      → SameBelow j (cond (eqb k 0) Y I) (cond (eqb k 0) E G) (cond (eqb k 0) Z T) (cond (eqb k 0) F H)
+  by-number zero j Y Z E F I T G H f g = f refl
+  by-number (suc k) j Y Z E F I T G H f g = rw (ne-eqb (suc k) 0 (λ z. omega arith)) g
+
+  one-answer : {A : Type 0} (k : ℕ) (x y z : A) → (k ≡ 0 → x ≡ y) → cond (eqb k 0) x z ≡ cond (eqb k 0) y z
+  one-answer zero x y z f = f refl
+  one-answer (suc k) x y z f = rw (ne-eqb (suc k) 0 (λ z. omega arith))
+
+  -- a removal
+  module _ (t : ℕ) where
+    same-removeNumber : removeNumber m W C t ≡ removeNumber m X D t
+    unfolding removeNumber
+    same-removeNumber = rw (check-below m W C X D s)
+
+    rule-below : removeNumber m W C t ≡ 0 → SameRemoval n (removeRule W C n (m .root) t) (removeRule X D n (m .root) t)
+    rule-below e =
+        let h : m .count ≤ room (length W) (length C) = check-zero m W C (removals.accepts m W C t e .0) .0 in
+        removed-below W X C D n (m .root) t (omega arith) (removals.accepts m W C t e .1) (s .words) (s .colours)
+
+    pub remove-below : removeCall m W C t ≡ removeCall m X D t
+    unfolding removeCall
+    remove-below =
+        rw (← same-removeNumber)
+        (one-answer (removeNumber m W C t) _ _ (refusedRemoval m (removeNumber m W C t))
+        (λ e. let r = rule-below e in rw (r .values, r .stores .2, r .pairs)))
+
+    pub remove-leaves-below : SameBelow n (removeNodes m W C t) (removeColours m W C t) (removeNodes m X D t) (removeColours m X D t)
+    unfolding removeNodes removeColours
+    remove-leaves-below =
+        rw (← same-removeNumber)
+        (by-number (removeNumber m W C t) n _ _ _ _ W X C D
+        (λ e. record { words = rule-below e .stores .0; colours = rule-below e .stores .1 }) s)
+
+  -- an insertion: below the count that it answers
+  module _ (e : Entry) where
+    same-insertNumber : insertNumber m W C e ≡ insertNumber m X D e
+    unfolding insertNumber properNumber
+    same-insertNumber = rw (check-below m W C X D s, s .words .0, s .colours .0)
+
+    added-below : insertNumber m W C e ≡ 0 → Alike (n + 1) (insertRule W C n (m .root) e) (insertRule X D n (m .root) e)
+    added-below z =
+        let h : m .count < room (length W) (length C) = insertions.accepts m W C e z .0 in
+        inserted-below W X C D n (m .root) e (omega arith) (omega arith) (s .words) (s .colours)
+
+    pub insert-below : insertCall m W C e ≡ insertCall m X D e
+    unfolding insertCall
+    insert-below =
+        rw (← same-insertNumber)
+        (one-answer (insertNumber m W C e) _ _ (refusedInsertion m (insertNumber m W C e)) (λ z. rw (added-below z .2)))
+
+    pub insert-leaves-below :
+        SameBelow (insertCall m W C e .count) (insertNodes m W C e) (insertColours m W C e) (insertNodes m X D e) (insertColours m X D e)
+    unfolding insertCall insertNodes insertColours
+    insert-leaves-below = rw (← same-insertNumber) (go (insertNumber m W C e) refl)
+      where
+        go : (k : ℕ) → insertNumber m W C e ≡ k
+            → SameBelow (cond (eqb k 0) (insertDone m (insertRule W C n (m .root) e)) (refusedInsertion m k) .count)
+            (cond (eqb k 0) (insertRule W C n (m .root) e .words) W) (cond (eqb k 0) (insertRule W C n (m .root) e .colours) C)
+            (cond (eqb k 0) (insertRule X D n (m .root) e .words) X) (cond (eqb k 0) (insertRule X D n (m .root) e .colours) D)
+        go zero z = record { words = added-below z .0; colours = added-below z .1 }
+        go (suc k) z = rw (ne-eqb (suc k) 0 (λ z. omega arith)) s

@@ -1,0 +1,449 @@
+-- Demand 1 of each public call: it is refused exactly as document 01's table says, both ways, with the first refusal in its order; and a refused
+-- call leaves all that was lent, and answers the map or the cursor as given.
+use mathlib.Core.Path.{_≡_, refl, sym, ap, _∙_}
+use mathlib.Core.Bool.{Bool, true, false, cond, true≢false}
+use mathlib.Core.List.{List}
+use Prim.Native.Nat.{ℕ, zero, suc, _+_, _-_, _/_, _%_, _<_, _≤_}
+use native.Mathlib.Omega.{arith}
+use native.Mathlib.Numerals.{add-one}
+use lib.ListN.{length}
+use lib.Dec.{eqb, ltb}
+use borrow.Author.Tests.{eq-eqb, ne-eqb, ltb-true, ltb-false, leb-true, leb-false, eqb-true}
+use contract.Lifetimes.{Lfts}
+use borrow.Fn.Kinds as K
+use denote.Triple.Clauses.{AtExit}
+use denote.Ref.{now}
+use Rattle.words.specs.Ix.{U}
+use Rattle.words.specs.Nodes.{room}
+use Rattle.words.specs.declared.interval.Bound.{Bound}
+use Rattle.words.specs.declared.interval.Bound.the-variants.{Included, Excluded, Unbounded}
+use Rattle.words.specs.declared.interval.Interval.{Interval}
+use Rattle.words.specs.declared.node.Entry.{Entry}
+use Rattle.tree.specs.Tree.{leaf}
+use Rattle.tree.specs.Order.{NotAfter}
+use Rattle.tree.specs.Passes.{Passes}
+use Rattle.tree.proofs.Orders.{le-sound, le-complete}
+use Rattle.builder.specs.Input.{startOf, endOf, intervalOf, count, every, properAt, inOrder, allProper, sorted}
+use Rattle.builder_laws.proofs.Tests.{every-sound}
+use Rattle.iter.specs.Cursors.{ended}
+use Rattle.iter.specs.Drains.{limitOf}
+use Rattle.iter.specs.Forms.{formOf}
+use Rattle.iter.specs.declared.Cursor.{Cursor}
+use Rattle.iter.specs.declared.Form.{Form}
+use Rattle.iter.specs.declared.Form.the-variants as form
+use Rattle.iter.specs.declared.rules.Query.{Query}
+use Rattle.iter.specs.declared.rules.Query.the-variants.{Overlap, Exact}
+use Rattle.iter_laws.specs.Place.{Held}
+use Rattle.iter_laws.proofs.OverlapRuns.{overlap-fresh-form, overlap-ended-form, overlap-held-form, overlap-bad-form}
+use Rattle.iter_laws.proofs.ExactRuns.{exact-start, exact-fresh-form, exact-ended-form, exact-held-form, exact-bad-form, exact-none-held}
+use Rattle.iter_laws.proofs.Forms.{fresh-form, ended-form, bad-form}
+use Rattle.iset.specs.Build.{buildNumber, BuildAnswer, buildPaper, buildRule, buildNodes, buildColour}
+use Rattle.iset.specs.Check.{checkRule}
+use Rattle.iset.specs.Remove.{removeNumber, RemoveAnswer, refusedRemoval, removePaper, removeCall, removeNodes, removeColours}
+use Rattle.iset.specs.Insert.{entryOf, properNumber, insertNumber, InsertAnswer, refusedInsertion, insertPaper, insertCall, insertNodes, insertColours}
+use Rattle.iset.specs.Lookup.{ordered, queryNumber, beginning, formNumber, startNumber, stepNumber, drainNumber, StartAnswer, startCall, StepAnswer, refusedStep, stepCall, DrainAnswer, refusedDrain, drainPaper, drainCall, drainOutput}
+use Rattle.iset.specs.Refusals.{Rows, accept, refuse, Exactly, NoSuch, BadRange, BadInterval, BadCursor, ShortOutput, checkRows, buildRows, removeRows, insertRows, startRows, stepRows, drainRows}
+use Rattle.iset.specs.declared.Map.{Map}
+use Rattle.words.specs.Refusals.{refusalNumber}
+use Rattle.words.specs.declared.refusal.Refusal.{Refusal}
+use Rattle.words.proofs.Refusals.{number-pos}
+use Rattle.iset.specs.declared.build.Built.the-variants as built
+use Rattle.iset.specs.declared.remove.Removal.the-variants as removal
+use Rattle.iset.specs.declared.insert.Insertion.the-variants as insertion
+use Rattle.iset.specs.declared.lookup.Emptied.the-variants as emptied
+use Rattle.iset.proofs.Map.insert.Reads as insert-reads
+use Rattle.iset.proofs.Map.insert.Kinds as insert-kinds
+use Rattle.iset.proofs.Map.remove.Reads as remove-reads
+use Rattle.iset.proofs.Map.remove.Kinds as remove-kinds
+use Rattle.iset.proofs.Map.drain.Reads as drain-reads
+use Rattle.iset.proofs.Map.drain.Kinds as drain-kinds
+use Rattle.iset.proofs.Map.build.Reads as build-reads
+use Rattle.iset.proofs.Map.build.Kinds as build-kinds
+use Rattle.iset.proofs.Checks.{cases, check-one, one-check, check-two, two-check}
+use Rattle.iset.proofs.Found.{tree-of, few}
+
+-- Tables. One after another:
+abbrev followed : Rows → Rows → Rows
+followed accept T = T
+followed (refuse a P R) T = refuse a P (followed R T)
+
+-- a number that no row of a table has
+abbrev Lacks : ℕ → Rows → Type 0
+Lacks a accept = a ≡ 0 → ⊥
+Lacks a (refuse b P R) = (a ≡ b → ⊥) × Lacks a R
+
+abbrev Apart : Rows → Rows → Type 0
+Apart accept T = Unit {0}
+Apart (refuse a P R) T = Lacks a T × (a ≡ 0 → ⊥) × Apart R T
+
+never : (a : ℕ) (R : Rows) (k : ℕ) → Lacks a R → Exactly R k → k ≡ a → ⊥
+never a accept k l e i = l (sym i ∙ e)
+never a (refuse b P R) k l e i = never a R k (l .1) (e .1 (λ p. l .0 (sym i ∙ e .0 .1 p))) i
+
+-- a call that tests by the one table and, where that refuses nothing, by the other
+first-then : (R T : Rows) (a b : ℕ) → Apart R T → Exactly R a → (a ≡ 0 → Exactly T b) → Exactly (followed R T) (cond (eqb a 0) b a)
+first-then accept T a b d e f = rw (eq-eqb a 0 e) (f e)
+first-then (refuse c P R) T a b d e f = (
+  (λ j. go a refl j, λ p. let i : a ≡ c = e .0 .1 p in rw (ne-eqb a 0 (λ z. d .1 (sym i ∙ z))) i),
+  λ z. first-then R T a b (d .2) (e .1 z) f,
+)
+  where
+    go : (k : ℕ) → a ≡ k → cond (eqb k 0) b k ≡ c → P
+    go zero i j = absurd (never c T b (d .0) (f i) j)
+    go (suc k) i j = let y : suc k ≡ c = rw (ne-eqb (suc k) 0 (λ z. omega arith)) at j in e .0 .0 (i ∙ y)
+
+-- a row before a table, by a test that is passed, or by one that is not
+passed-row : (a : ℕ) (P : Type 0) (R : Rows) (k : ℕ) (t : Bool) → Lacks a R → (t ≡ true → P → ⊥) → (t ≡ false → P) → (t ≡ true → Exactly R k)
+    → Exactly (refuse a P R) (cond t k a)
+passed-row a P R k true l f g h = ((λ i. absurd (never a R k l (h refl) i), λ p. absurd (f refl p)), λ z. h refl)
+passed-row a P R k false l f g h = ((λ i. g refl, λ p. refl), λ z. absurd (z (g refl)))
+
+failed-row : (a : ℕ) (P : Type 0) (R : Rows) (k : ℕ) (t : Bool) → Lacks a R → (t ≡ true → P) → (t ≡ false → P → ⊥) → (t ≡ false → Exactly R k)
+    → Exactly (refuse a P R) (cond t a k)
+failed-row a P R k false l f g h = ((λ i. absurd (never a R k l (h refl) i), λ p. absurd (g refl p)), λ z. h refl)
+failed-row a P R k true l f g h = ((λ i. f refl, λ p. refl), λ z. absurd (z (f refl)))
+
+-- an answer by the number k has that number, and a refused one is the refusal's
+number-is : {A : Type 0} (f : A → ℕ) (k : ℕ) (x y : A) → f x ≡ 0 → f y ≡ k → f (cond (eqb k 0) x y) ≡ k
+number-is f zero x y p q = p
+number-is f (suc k) x y p q = rw (ne-eqb (suc k) 0 (λ z. omega arith)) q
+
+kept : {A : Type 0} (k : ℕ) (x y : A) → (k ≡ 0 → ⊥) → cond (eqb k 0) x y ≡ y
+kept k x y d = rw (ne-eqb k 0 d)
+
+-- The check.
+pub check-refusals : (m : Map) (W C : List ℕ) → Exactly (checkRows m W C) (checkRule m W C)
+check-refusals m W C = (
+  (check-one m W C, one-check m W C),
+  λ o. (
+    (λ e. check-two m W C e .1, two-check m W C (omega arith)),
+    λ b. cases m W C (checkRule m W C) refl (λ h z. absurd (o h)) (λ h s z. sym z) (λ h s z. absurd (b s)),
+  ),
+)
+
+-- A build.
+every-fails : (p : ℕ → Bool) (m k : ℕ) → every p k m ≡ false → (j : ℕ) × (k ≤ j) × (j < k + m) × (p j ≡ false)
+unfolding every
+every-fails p zero k e = absurd (true≢false e)
+every-fails p (suc m) k e = go (p k) refl e (every-fails p m (suc k))
+  where
+    go : (t : Bool) → p k ≡ t → cond t (every p (suc k) m) false ≡ false
+        → (every p (suc k) m ≡ false → (j : ℕ) × (suc k ≤ j) × (j < suc k + m) × (p j ≡ false)) → (j : ℕ) × (k ≤ j) × (j < k + suc m) × (p j ≡ false)
+    go true i q r = let (j, x, y, z) = r q in (j, omega arith, omega arith, z)
+    go false i q r = (k, omega arith, omega arith, i)
+
+module _ (W C S : List ℕ) where
+  abbrev Improper : Type 0
+  Improper = (k : ℕ) × (k < length S / 3) × BadInterval (startOf S k) (endOf S k)
+
+  abbrev Falls : Type 0
+  Falls = (k : ℕ) × (suc k < length S / 3) × (NotAfter (intervalOf S k) (intervalOf S (suc k)) → ⊥)
+
+  proper-not : allProper S ≡ true → Improper → ⊥
+  unfolding allProper properAt
+  proper-not e x = omega (arith, ltb-true (startOf S (x .0)) (endOf S (x .0)) (every-sound (properAt S) (count S) 0 e (x .0) (omega arith) (omega (arith, x .1))), x .2)
+
+  improper : allProper S ≡ false → Improper
+  unfolding allProper properAt
+  improper e = let (k, a, b, f) = every-fails (properAt S) (count S) 0 e in (k, omega arith, ltb-false (startOf S k) (endOf S k) f)
+
+  sorted-not : sorted S ≡ true → Falls → ⊥
+  unfolding sorted inOrder
+  sorted-not e x =
+      x .2 (rw (← add-one (x .0))
+      (le-sound (intervalOf S (x .0)) (intervalOf S (x .0 + 1)) (every-sound (inOrder S) (count S - 1) 0 e (x .0) (omega arith) (omega (arith, x .1)))))
+
+  falls : sorted S ≡ false → Falls
+  unfolding sorted inOrder
+  falls e =
+      let (k, a, b, f) = every-fails (inOrder S) (count S - 1) 0 e in
+      (k, omega arith, λ h. true≢false (sym (le-complete (intervalOf S k) (intervalOf S (k + 1)) (rw (add-one k) h)) ∙ f))
+
+  build-no : buildRule W C S .no ≡ buildNumber (length W) (length C) S
+  unfolding buildRule
+  build-no = number-is (λ (a : BuildAnswer). a .no) (buildNumber (length W) (length C) S) _ _ refl refl
+
+  -- the tables from each row on
+  abbrev from-6 : Rows
+  from-6 = refuse 6 Falls accept
+
+  abbrev from-5 : Rows
+  from-5 = refuse 5 Improper from-6
+
+  abbrev from-1 : Rows
+  from-1 = refuse 1 (room (length W) (length C) < length S / 3) from-5
+
+  build-5 : Exactly from-5 (cond (allProper S) (cond (sorted S) 0 6) 5)
+  build-5 =
+      passed-row 5 Improper from-6 (cond (sorted S) 0 6) (allProper S) (omega arith) proper-not improper
+      (λ v. passed-row 6 Falls accept 0 (sorted S) (omega arith) sorted-not falls (λ w. refl))
+
+  build-1 : Exactly from-1 (cond (ltb (room (length W) (length C)) (length S / 3)) 1 (cond (allProper S) (cond (sorted S) 0 6) 5))
+  build-1 =
+      failed-row 1 (room (length W) (length C) < length S / 3) from-5 (cond (allProper S) (cond (sorted S) 0 6) 5)
+      (ltb (room (length W) (length C)) (length S / 3)) (omega arith)
+      (λ u. ltb-true (room (length W) (length C)) (length S / 3) u)
+      (λ u p. omega (arith, ltb-false (room (length W) (length C)) (length S / 3) u)) (λ u. build-5)
+
+  pub build-refusals : Exactly (buildRows W C S) (buildRule W C S .no)
+  unfolding buildNumber
+  build-refusals =
+      rw build-no
+      (passed-row 8 (length S % 3 ≡ 0 → ⊥) from-1
+      (cond (ltb (room (length W) (length C)) (length S / 3)) 1 (cond (allProper S) (cond (sorted S) 0 6) 5)) (eqb (length S % 3) 0) (omega arith)
+      (λ t p. p (eqb-true (length S % 3) 0 t)) (λ t i. true≢false (sym (eq-eqb (length S % 3) 0 i) ∙ t)) (λ t. build-1))
+
+  -- "a refused build: count 0, root U"
+  pub build-leaves : (buildRule W C S .no ≡ 0 → ⊥)
+      → (buildRule W C S ≡ record { no = buildRule W C S .no; count = 0; root = U }) × (buildNodes W C S ≡ W) × (buildColour W C S ≡ C)
+  unfolding buildRule buildNodes buildColour
+  build-leaves d =
+      let f : buildNumber (length W) (length C) S ≡ 0 → ⊥ = λ e. d (build-no ∙ e) in
+      (rw build-no (kept (buildNumber (length W) (length C) S) _ _ f), kept (buildNumber (length W) (length C) S) _ _ f, kept (buildNumber (length W) (length C) S) _ _ f)
+
+-- A removal.
+module _ (m : Map) (W C : List ℕ) (s : ℕ) where
+  remove-no : removeCall m W C s .no ≡ removeNumber m W C s
+  unfolding removeCall
+  remove-no = number-is (λ (a : RemoveAnswer). a .no) (removeNumber m W C s) _ _ refl refl
+
+  pub remove-refusals : Exactly (removeRows m W C s) (removeCall m W C s .no)
+  unfolding removeNumber
+  remove-refusals =
+      rw remove-no
+      (first-then (checkRows m W C) (refuse 3 (NoSuch m s) accept) (checkRule m W C) (cond (ltb s (m .count)) 0 3) (omega arith)
+      (check-refusals m W C)
+      (λ e. passed-row 3 (NoSuch m s) accept 0 (ltb s (m .count)) (omega arith)
+      (λ t p. omega (arith, ltb-true s (m .count) t)) (ltb-false s (m .count)) (λ t. refl)))
+
+  pub remove-leaves : (removeCall m W C s .no ≡ 0 → ⊥)
+      → (removeCall m W C s ≡ refusedRemoval m (removeCall m W C s .no)) × (removeNodes m W C s ≡ W) × (removeColours m W C s ≡ C)
+  unfolding removeCall removeNodes removeColours
+  remove-leaves d =
+      let f : removeNumber m W C s ≡ 0 → ⊥ = λ e. d (remove-no ∙ e) in
+      (rw remove-no (kept (removeNumber m W C s) _ _ f), kept (removeNumber m W C s) _ _ f, kept (removeNumber m W C s) _ _ f)
+
+-- An insertion.
+module _ (m : Map) (W C : List ℕ) (e : Entry) where
+  abbrev held : ℕ
+  held = room (length W) (length C)
+
+  insert-no : insertCall m W C e .no ≡ insertNumber m W C e
+  unfolding insertCall
+  insert-no = number-is (λ (a : InsertAnswer). a .no) (insertNumber m W C e) _ _ refl refl
+
+  proper-row : Exactly (followed (checkRows m W C) (refuse 5 (BadInterval (e .start) (e .end)) accept)) (properNumber m W C e)
+  unfolding properNumber
+  proper-row =
+      first-then (checkRows m W C) (refuse 5 (BadInterval (e .start) (e .end)) accept) (checkRule m W C) (cond (ltb (e .start) (e .end)) 0 5) (omega arith)
+      (check-refusals m W C)
+      (λ z. passed-row 5 (BadInterval (e .start) (e .end)) accept 0 (ltb (e .start) (e .end)) (omega arith)
+      (λ t p. omega (arith, ltb-true (e .start) (e .end) t)) (ltb-false (e .start) (e .end)) (λ t. refl))
+
+  pub insert-refusals : Exactly (insertRows m W C e) (insertCall m W C e .no)
+  unfolding insertNumber
+  insert-refusals = rw insert-no (go (ltb (m .count) held) refl)
+    where
+      go : (t : Bool) → ltb (m .count) held ≡ t → Exactly (insertRows m W C e) (cond t (properNumber m W C e) 1)
+      go true i =
+          let h : m .count < held = ltb-true (m .count) held i in
+          ((λ z. absurd (omega (arith, proper-row .0 .0 z)), λ p. absurd (omega arith)), λ z. proper-row .1 (λ p. omega arith))
+      go false i = ((λ z. ltb-false (m .count) held i, λ p. refl), λ z. absurd (z (ltb-false (m .count) held i)))
+
+  pub insert-leaves : (insertCall m W C e .no ≡ 0 → ⊥)
+      → (insertCall m W C e ≡ refusedInsertion m (insertCall m W C e .no)) × (insertNodes m W C e ≡ W) × (insertColours m W C e ≡ C)
+  unfolding insertCall insertNodes insertColours
+  insert-leaves d =
+      let f : insertNumber m W C e ≡ 0 → ⊥ = λ z. d (insert-no ∙ z) in
+      (rw insert-no (kept (insertNumber m W C e) _ _ f), kept (insertNumber m W C e) _ _ f, kept (insertNumber m W C e) _ _ f)
+
+-- A lookup's range or interval, and its cursor.
+module _ (m : Map) (W C : List ℕ) where
+  ordered-not : (x y : Bound) → ordered x y ≡ true → BadRange x y → ⊥
+  ordered-not (Included a) (Included b) e p = omega (arith, leb-true a b e)
+  ordered-not (Included a) (Excluded b) e p = omega (arith, ltb-true a b e)
+  ordered-not (Included a) Unbounded e p = p
+  ordered-not (Excluded a) (Included b) e p = omega (arith, ltb-true a b e)
+  ordered-not (Excluded a) (Excluded b) e p = omega (arith, ltb-true a b e)
+  ordered-not (Excluded a) Unbounded e p = p
+  ordered-not Unbounded y e p = p
+
+  disordered : (x y : Bound) → ordered x y ≡ false → BadRange x y
+  disordered (Included a) (Included b) e = leb-false a b e
+  disordered (Included a) (Excluded b) e = ltb-false a b e
+  disordered (Included a) Unbounded e = absurd (true≢false e)
+  disordered (Excluded a) (Included b) e = ltb-false a b e
+  disordered (Excluded a) (Excluded b) e = ltb-false a b e
+  disordered (Excluded a) Unbounded e = absurd (true≢false e)
+  disordered Unbounded y e = absurd (true≢false e)
+
+  -- the rows of a query alone
+  abbrev queryRow : Query → Rows
+  queryRow (Overlap q) = refuse 4 (BadRange (q .lo) (q .hi)) accept
+  queryRow (Exact x) = refuse 5 (BadInterval (x .start) (x .end)) accept
+
+  query-row : (q : Query) → Exactly (queryRow q) (queryNumber q)
+  query-row (Overlap q) =
+      passed-row 4 (BadRange (q .lo) (q .hi)) accept 0 (ordered (q .lo) (q .hi)) (omega arith)
+      (ordered-not (q .lo) (q .hi)) (disordered (q .lo) (q .hi)) (λ t. refl)
+  query-row (Exact x) =
+      passed-row 5 (BadInterval (x .start) (x .end)) accept 0 (ltb (x .start) (x .end)) (omega arith)
+      (λ t p. omega (arith, ltb-true (x .start) (x .end) t)) (ltb-false (x .start) (x .end)) (λ t. refl)
+
+  start-row : (q : Query) → Exactly (followed (checkRows m W C) (queryRow q)) (startNumber m W C q)
+  unfolding startNumber
+  start-row q = first-then (checkRows m W C) (queryRow q) (checkRule m W C) (queryNumber q) (apart q) (check-refusals m W C) (λ e. query-row q)
+    where
+      apart : (q : Query) → Apart (checkRows m W C) (queryRow q)
+      apart (Overlap q) = omega arith
+      apart (Exact x) = omega arith
+
+  -- the fresh cursor of an exact lookup
+  start-no : (x : Interval) → startCall m W C x .no ≡ startNumber m W C (Exact x)
+  unfolding startCall
+  start-no x = number-is (λ (a : StartAnswer). a .no) (startNumber m W C (Exact x)) _ _ refl refl
+
+  pub start-refusals : (x : Interval) → Exactly (startRows m W C x) (startCall m W C x .no)
+  start-refusals x = rw (start-no x) (start-row (Exact x))
+
+  -- "a fresh cursor that is refused is the ended one"
+  pub start-leaves : (x : Interval) → (startCall m W C x .no ≡ 0 → ⊥) → startCall m W C x ≡ record { no = startCall m W C x .no; cursor = ended }
+  unfolding startCall
+  start-leaves x d = rw (start-no x) (kept (startNumber m W C (Exact x)) _ _ (λ e. d (start-no x ∙ e)))
+
+  module _ (c : Cursor) where
+    -- by the form that the test finds
+    by-form : (f : Form) (B : Type 0) → (f ≡ form.Fresh → B → ⊥) → (f ≡ form.Held → B → ⊥) → (f ≡ form.Ended → B → ⊥) → (f ≡ form.Bad → B)
+        → Exactly (refuse 7 B accept) (formNumber f)
+    by-form form.Fresh B x y z b = ((λ i. absurd (omega arith), λ p. absurd (x refl p)), λ n. refl)
+    by-form form.Held B x y z b = ((λ i. absurd (omega arith), λ p. absurd (y refl p)), λ n. refl)
+    by-form form.Ended B x y z b = ((λ i. absurd (omega arith), λ p. absurd (z refl p)), λ n. refl)
+    by-form form.Bad B x y z b = ((λ i. b refl, λ p. refl), λ n. absurd (n (b refl)))
+
+    form-row : (q : Query) → startNumber m W C q ≡ 0
+        → Exactly (refuse 7 (BadCursor m W C q c) accept) (formNumber (formOf W (m .count) (beginning m W q) c))
+    form-row (Overlap q) e =
+        let P : Passes W C (m .count) (m .root) = tree-of m W C (Overlap q) e in
+        let f : m .count ≤ 65535 = few m W C (Overlap q) e in
+        by-form (formOf W (m .count) (m .root) c) (BadCursor m W C (Overlap q) c)
+        (λ i p. p .0 (overlap-fresh-form W C (m .count) (m .root) q f P c .0 i))
+        (λ i p. p .2 P (overlap-held-form W C (m .count) (m .root) q f P c .0 i))
+        (λ i p. p .1 (overlap-ended-form W C (m .count) (m .root) q f P c .0 i))
+        (λ i. let b = overlap-bad-form W C (m .count) (m .root) q f P c i in
+        (b .0, b .1, λ P′. overlap-bad-form W C (m .count) (m .root) q f P′ c i .2))
+    form-row (Exact x) e =
+        let P : Passes W C (m .count) (m .root) = tree-of m W C (Exact x) e in
+        let f : m .count ≤ 65535 = few m W C (Exact x) e in
+        let k : ℕ = beginning m W (Exact x) in
+        exact-start W C (m .count) (m .root) x f P
+        (λ u a. by-form (formOf W (m .count) k c) (BadCursor m W C (Exact x) c)
+        (λ i p. p .0 (fresh-form W (m .count) f U k leaf u (omega arith) c .0 i))
+        (λ i p. exact-none-held W C (m .count) (m .root) x f P c u i)
+        (λ i p. p .1 (ended-form W (m .count) f U k leaf u (omega arith) c .0 i))
+        (λ i. let b = bad-form W (m .count) f U k leaf u (omega arith) c i in
+        (b .0, b .1, λ P′ h. exact-bad-form W C (m .count) (m .root) x f P′ k h c i .2)))
+        (λ h. by-form (formOf W (m .count) k c) (BadCursor m W C (Exact x) c)
+        (λ i p. p .0 (exact-fresh-form W C (m .count) (m .root) x f P k h c .0 i))
+        (λ i p. p .2 P h (exact-held-form W C (m .count) (m .root) x f P k h c .0 i))
+        (λ i p. p .1 (exact-ended-form W C (m .count) (m .root) x f P k h c .0 i))
+        (λ i. let b = exact-bad-form W C (m .count) (m .root) x f P k h c i in
+        (b .0, b .1, λ P′ h′. exact-bad-form W C (m .count) (m .root) x f P′ k h′ c i .2)))
+
+    step-row : (q : Query) → Exactly (stepRows m W C q c) (stepNumber m W C q c)
+    unfolding stepNumber
+    step-row (Overlap q) =
+        first-then (followed (checkRows m W C) (queryRow (Overlap q))) (refuse 7 (BadCursor m W C (Overlap q) c) accept) (startNumber m W C (Overlap q))
+        (formNumber (formOf W (m .count) (m .root) c)) (omega arith) (start-row (Overlap q)) (form-row (Overlap q))
+    step-row (Exact x) =
+        first-then (followed (checkRows m W C) (queryRow (Exact x))) (refuse 7 (BadCursor m W C (Exact x) c) accept) (startNumber m W C (Exact x))
+        (formNumber (formOf W (m .count) (beginning m W (Exact x)) c)) (omega arith) (start-row (Exact x)) (form-row (Exact x))
+
+    step-no : (q : Query) → stepCall m W C q c .no ≡ stepNumber m W C q c
+    unfolding stepCall
+    step-no q = number-is (λ (a : StepAnswer). a .no) (stepNumber m W C q c) _ _ refl refl
+
+    pub step-refusals : (q : Query) → Exactly (stepRows m W C q c) (stepCall m W C q c .no)
+    step-refusals q = rw (step-no q) (step-row q)
+
+    pub step-leaves : (q : Query) → (stepCall m W C q c .no ≡ 0 → ⊥) → stepCall m W C q c ≡ refusedStep c (stepCall m W C q c .no)
+    unfolding stepCall
+    step-leaves q d = rw (step-no q) (kept (stepNumber m W C q c) _ _ (λ e. d (step-no q ∙ e)))
+
+    module _ (limit : ℕ) where
+      room-row : (places : ℕ) → Exactly (refuse 9 (ShortOutput limit places) accept) (cond (ltb places (limitOf limit)) 9 0)
+      room-row places =
+          failed-row 9 (ShortOutput limit places) accept 0 (ltb places (limitOf limit)) (omega arith)
+          (ltb-true places (limitOf limit)) (λ t p. omega (arith, ltb-false places (limitOf limit) t)) (λ t. refl)
+
+      drain-row : (q : Query) (places : ℕ) → Exactly (drainRows m W C q c limit places) (drainNumber m W C q c limit places)
+      unfolding drainNumber
+      drain-row (Overlap q) places =
+          first-then (stepRows m W C (Overlap q) c) (refuse 9 (ShortOutput limit places) accept) (stepNumber m W C (Overlap q) c)
+          (cond (ltb places (limitOf limit)) 9 0) (omega arith) (step-row (Overlap q)) (λ e. room-row places)
+      drain-row (Exact x) places =
+          first-then (stepRows m W C (Exact x) c) (refuse 9 (ShortOutput limit places) accept) (stepNumber m W C (Exact x) c)
+          (cond (ltb places (limitOf limit)) 9 0) (omega arith) (step-row (Exact x)) (λ e. room-row places)
+
+      drain-no : (q : Query) (places : ℕ) → drainCall m W C q c limit places .no ≡ drainNumber m W C q c limit places
+      unfolding drainCall
+      drain-no q places = number-is (λ (a : DrainAnswer). a .no) (drainNumber m W C q c limit places) _ _ refl refl
+
+      pub drain-refusals : (q : Query) (places : ℕ) → Exactly (drainRows m W C q c limit places) (drainCall m W C q c limit places .no)
+      drain-refusals q places = rw (drain-no q places) (drain-row q places)
+
+      pub drain-leaves : (q : Query) (out : List ℕ) → (drainCall m W C q c limit (length out) .no ≡ 0 → ⊥)
+          → (drainCall m W C q c limit (length out) ≡ refusedDrain c (drainCall m W C q c limit (length out) .no))
+          × (drainOutput m W C q c limit out ≡ out)
+      unfolding drainCall drainOutput
+      drain-leaves q out d =
+          let f : drainNumber m W C q c limit (length out) ≡ 0 → ⊥ = λ e. d (drain-no q (length out) ∙ e) in
+          (rw (drain-no q (length out)) (kept (drainNumber m W C q c limit (length out)) _ _ f), kept (drainNumber m W C q c limit (length out)) _ _ f)
+
+-- Said of the code: whatever answer r and whatever slices at exit s a call's promise allows from its arguments a, a refusal leaves what was lent.
+refused-number : (k : ℕ) (y : Refusal) → refusalNumber y ≡ k → k ≡ 0 → ⊥
+refused-number k y e z = omega (arith, number-pos y)
+
+pub build-code : (κs : Lfts 3) (a : K.Dens κs build-kinds.ps) (r : K.resT build-kinds.r κs .Denot) (s : AtExit (K.endedOf 3 build-kinds.ps build-kinds.r) κs)
+    → build-reads.Post κs a r s → (y : Refusal) → r ≡ built.Refused y → (now (s .0) ≡ now (a .0)) × (now (s .1 .0) ≡ now (a .1 .0))
+build-code κs a r s p y e =
+    let W : List ℕ = now (a .0) in
+    let C : List ℕ = now (a .1 .0) in
+    let S : List ℕ = now (a .1 .1 .0) in
+    let k : refusalNumber y ≡ buildRule W C S .no = ap (λ (x : BuildAnswer). x .no) (ap buildPaper (sym e) ∙ p .0) in
+    let l = build-leaves W C S (refused-number (buildRule W C S .no) y k) in
+    (p .1 ∙ l .1, p .2 ∙ l .2)
+
+pub remove-code : (κs : Lfts 2) (a : K.Dens κs remove-kinds.ps) (r : K.resT remove-kinds.r κs .Denot) (s : AtExit (K.endedOf 2 remove-kinds.ps remove-kinds.r) κs)
+    → remove-reads.Post κs a r s → (y : Refusal) → r ≡ removal.Refused y → (now (s .1 .0) ≡ now (a .1 .0)) × (now (s .1 .1 .0) ≡ now (a .1 .1 .0))
+remove-code κs a r s p y e =
+    let m : Map = a .0 in
+    let W : List ℕ = now (a .1 .0) in
+    let C : List ℕ = now (a .1 .1 .0) in
+    let t : ℕ = a .1 .1 .1 .0 in
+    let k : refusalNumber y ≡ removeCall m W C t .no = ap (λ (x : RemoveAnswer). x .no) (ap (removePaper m) (sym e) ∙ p .0) in
+    let l = remove-leaves m W C t (refused-number (removeCall m W C t .no) y k) in
+    (p .1 ∙ l .1, p .2 ∙ l .2)
+
+pub insert-code : (κs : Lfts 2) (a : K.Dens κs insert-kinds.ps) (r : K.resT insert-kinds.r κs .Denot) (s : AtExit (K.endedOf 2 insert-kinds.ps insert-kinds.r) κs)
+    → insert-reads.Post κs a r s → (y : Refusal) → r ≡ insertion.Refused y → (now (s .1 .0) ≡ now (a .1 .0)) × (now (s .1 .1 .0) ≡ now (a .1 .1 .0))
+insert-code κs a r s p y e =
+    let m : Map = a .0 in
+    let W : List ℕ = now (a .1 .0) in
+    let C : List ℕ = now (a .1 .1 .0) in
+    let t : Entry = entryOf (a .1 .1 .1 .0) (a .1 .1 .1 .1 .0) (a .1 .1 .1 .1 .1 .0) in
+    let k : refusalNumber y ≡ insertCall m W C t .no = ap (λ (x : InsertAnswer). x .no) (ap (insertPaper m) (sym e) ∙ p .0) in
+    let l = insert-leaves m W C t (refused-number (insertCall m W C t .no) y k) in
+    (p .1 ∙ l .1, p .2 ∙ l .2)
+
+pub drain-code : (κs : Lfts 3) (a : K.Dens κs drain-kinds.ps) (r : K.resT drain-kinds.r κs .Denot) (s : AtExit (K.endedOf 3 drain-kinds.ps drain-kinds.r) κs)
+    → drain-reads.Post κs a r s → (y : Refusal) → r ≡ emptied.Refused y → now (s .1 .1 .1 .1 .1 .1 .0) ≡ now (a .1 .1 .1 .1 .1 .1 .0)
+drain-code κs a r s p y e =
+    let m : Map = a .0 in
+    let W : List ℕ = now (a .1 .0) in
+    let C : List ℕ = now (a .1 .1 .0) in
+    let q : Query = a .1 .1 .1 .0 in
+    let c : Cursor = a .1 .1 .1 .1 .0 in
+    let t : ℕ = a .1 .1 .1 .1 .1 .0 in
+    let out : List ℕ = now (a .1 .1 .1 .1 .1 .1 .0) in
+    let k : refusalNumber y ≡ drainCall m W C q c t (length out) .no = ap (λ (x : DrainAnswer). x .no) (ap (drainPaper c) (sym e) ∙ p .0) in
+    p .1 ∙ drain-leaves m W C c t q out (refused-number (drainCall m W C q c t (length out) .no) y k) .1

@@ -1,0 +1,292 @@
+-- Demand 3, said of the public calls: any steps and drains one after the other, in any mixture, with any limits and any outputs, from the fresh
+-- cursor on an unchanged store that passes the check, over a range, or for an interval, that is accepted.
+use mathlib.Core.Path.{_≡_, refl, ap, _∙_}
+use mathlib.Core.Bool.{Bool, true, false, cond}
+use mathlib.Core.List.{List, [], _∷_, _++_, append-nil}
+use Prim.Native.Nat.{ℕ, _≤_}
+use native.Mathlib.Omega.{arith}
+use native.Mathlib.Nat.{add-zero}
+use lib.ListN.{length}
+use lib.Seq.{take-append-seam}
+use lib.Dec.{ltb}
+use borrow.Author.Tests.{eq-eqb, le-ltb}
+use Rattle.words.specs.Ix.{U}
+use Rattle.words.specs.Nodes.{par}
+use Rattle.words.specs.declared.interval.Interval.{Interval}
+use Rattle.words.specs.declared.interval.Span.{Span}
+use Rattle.tree.specs.Tree.{Tree, leaf}
+use Rattle.tree.specs.Tree as tree
+use Rattle.tree.specs.Passes.{Passes}
+use Rattle.tree.proofs.Checked.{tree-low}
+use Rattle.iter.specs.Lists.{when, those}
+use Rattle.iter.specs.Cursors.{fresh, ended}
+use Rattle.iter.specs.Forms.{formOf}
+use Rattle.iter.specs.Overlap.{meets}
+use Rattle.iter.specs.Exact.{equals}
+use Rattle.iter.specs.Walk.{Rules, Answer, fuel, call}
+use Rattle.iter.specs.Walk as walk
+use Rattle.iter.specs.Drains.{Drained, more, limitOf, filled, calls}
+use Rattle.iter.specs.Drains as drains
+use Rattle.iter.specs.Queries.{rules}
+use Rattle.iter.specs.declared.Cursor.{Cursor}
+use Rattle.iter.specs.declared.Form.{Form}
+use Rattle.iter.specs.declared.Form.the-variants as form
+use Rattle.iter.specs.declared.rules.Query.{Query}
+use Rattle.iter.specs.declared.rules.Query.the-variants.{Overlap, Exact}
+use Rattle.iter.proofs.Drains.{drain-count, drain-split}
+use Rattle.iter_laws.specs.Entered.{entered, overlapRule, exactRule}
+use Rattle.iter_laws.specs.Highest.{Highest}
+use Rattle.iter_laws.proofs.Walks.{Walk}
+use Rattle.iter_laws.proofs.Fresh.{fresh-run, fresh-hits}
+use Rattle.iter_laws.proofs.Parts.{calls-split, Formed, drain-formed, formed-low, slots-end, nodes-parts, nodes-end}
+use Rattle.iter_laws.proofs.Overlaps.{overlap-walk}
+use Rattle.iter_laws.proofs.OverlapRuns.{overlap-each, overlap-bound}
+use Rattle.iter_laws.proofs.ExactRuns.{exact-each, start-tree, walk-below, walk-none}
+use Rattle.iset.specs.Lookup.{beginning, formNumber, startNumber, stepNumber, drainNumber, startCall, stepCall, drainCall, drainOutput}
+use Rattle.iset.specs.Runs.{Ask, step, drain, Given, given, Run, run, short, wanted, total, Sound, AllSound, Hold, NoneRefused, OverlapRun, ExactRun}
+use Rattle.iset.specs.declared.Map.{Map}
+use Rattle.iset.proofs.Lookups.{step-accepts, not-bad}
+use Rattle.iset.proofs.Found.{tree-of, few, fresh-accepted}
+
+-- a drain of one hit, by its step's answer, which has a hit or not
+abbrev one : Answer → Bool → Drained
+one a b =
+    cond b (more (a .slot) (a .entered) (record { slots = []; next = a .next; entered = 0 })) (record { slots = []; next = a .next; entered = a .entered })
+
+-- calls from any cursor that is accepted, by the rules of drains
+module _ (m : Map) (W C : List ℕ) (q : Query) (start : startNumber m W C q ≡ 0) (E : Bool → ℕ → ℕ → Bool) (p : ℕ) (t : Tree)
+    (w : Walk W (m .count) (rules W (m .count) q) E p (beginning m W q) t) where
+  abbrev n : ℕ
+  n = m .count
+
+  abbrev Q : Rules
+  Q = rules W n q
+
+  abbrev k : ℕ
+  k = beginning m W q
+
+  abbrev Accepted : Cursor → Type 0
+  Accepted c = stepNumber m W C q c ≡ 0
+
+  formed : (c : Cursor) → Accepted c → Formed W n Q E p k t w c
+  formed c e i = not-bad (formOf W n k c) (step-accepts m W C q c e .1) i
+
+  accepted : (c : Cursor) → Formed W n Q E p k t w c → Accepted c
+  unfolding stepNumber
+  accepted c f = rw (eq-eqb (startNumber m W C q) 0 start) (go (formOf W n k c) f)
+    where
+      go : (g : Form) → (g ≡ form.Bad → ⊥) → formNumber g ≡ 0
+      go form.Fresh d = refl
+      go form.Held d = refl
+      go form.Ended d = refl
+      go form.Bad d = absurd (d refl)
+
+  -- the cursor after a drain of i hits
+  after-drain : (i : ℕ) (c : Cursor) → Accepted c → Accepted (drains.drain W n Q i c .next)
+  after-drain i c e = accepted (drains.drain W n Q i c .next) (drain-formed W n Q E p k t w i c (formed c e))
+
+  -- what a drain of i hits gives, by the rules
+  abbrev part : ℕ → ℕ → Cursor → Given
+  part z i c =
+      record {
+        no = z;
+        slots = drains.drain W n Q i c .slots;
+        nodes = calls W n Q i c;
+        entered = drains.drain W n Q i c .entered;
+        next = drains.drain W n Q i c .next;
+      }
+
+  step-given : (c : Cursor) → Accepted c → given m W C q c step ≡ part 0 1 c
+  unfolding stepCall drains.drain calls
+  step-given c e =
+      rw (eq-eqb (stepNumber m W C q c) 0 e) (go (walk.step W n Q c) (call W n Q (fuel n) c) (ltb (walk.step W n Q c .slot) n))
+    where
+      go : (a : Answer) (l : List ℕ) (b : Bool)
+          → _≡_ {A = Given} (record { no = 0; slots = when b (a .slot ∷ []); nodes = l; entered = a .entered; next = a .next })
+          (record { no = 0; slots = one a b .slots; nodes = l ++ cond b [] []; entered = one a b .entered; next = one a b .next })
+      go a l true = rw (append-nil, add-zero)
+      go a l false = rw append-nil
+
+  module _ (limit : ℕ) (out : List ℕ) (c : Cursor) (e : Accepted c) where
+    drain-number : drainNumber m W C q c limit (length out) ≡ cond (ltb (length out) (limitOf limit)) 9 0
+    unfolding drainNumber
+    drain-number = rw (eq-eqb (stepNumber m W C q c) 0 e)
+
+    drain-short : ltb (length out) (limitOf limit) ≡ true → given m W C q c (drain limit out) ≡ part 9 0 c
+    unfolding drainCall drainOutput drains.drain calls
+    drain-short i = rw (drain-number, i)
+
+    drain-given : ltb (length out) (limitOf limit) ≡ false → given m W C q c (drain limit out) ≡ part 0 (limitOf limit) c
+    unfolding drainCall drainOutput filled
+    drain-given i = rw (drain-number, i, take-append-seam)
+
+    either : (b : Bool) → ltb (length out) (limitOf limit) ≡ b → given m W C q c (drain limit out) ≡ part (cond b 9 0) (cond b 0 (limitOf limit)) c
+    either true i = drain-short i
+    either false i = drain-given i
+
+  given-is : (x : Ask) (c : Cursor) → Accepted c → given m W C q c x ≡ part (short x) (wanted x) c
+  given-is step c e = step-given c e
+  given-is (drain limit out) c e = either limit out c e (ltb (length out) (limitOf limit)) refl
+
+  next-is : (x : Ask) (c : Cursor) → Accepted c → given m W C q c x .next ≡ drains.drain W n Q (wanted x) c .next
+  next-is x c e = ap (λ (g : Given). g .next) (given-is x c e)
+
+  -- every answered cursor is accepted
+  pub next-accepted : (x : Ask) (c : Cursor) → Accepted c → Accepted (given m W C q c x .next)
+  next-accepted x c e = rw (next-is x c e) (after-drain (wanted x) c e)
+
+  call-sound : (x : Ask) (c : Cursor) → Accepted c → Sound m W C q c x
+  call-sound x c e =
+      record {
+        number = ap (λ (g : Given). g .no) (given-is x c e);
+        counted = rw (given-is x c e) (drain-count W n Q (wanted x) c);
+        accepted = next-accepted x c e;
+        low = formed-low W n Q E p k t w c (formed c e);
+      }
+
+  all-sound : (l : List Ask) (c : Cursor) → Accepted c → AllSound m W C q c l
+  all-sound [] c e = tt
+  all-sound (x ∷ l) c e = (call-sound x c e, all-sound l (given m W C q c x .next) (next-accepted x c e))
+
+  all-accepted : (l : List Ask) (c : Cursor) → Accepted c → Hold l → NoneRefused m W C q c l
+  all-accepted [] c e h = tt
+  all-accepted (step ∷ l) c e h = (call-sound step c e .number, all-accepted l (given m W C q c step .next) (next-accepted step c e) h)
+  all-accepted (drain limit out ∷ l) c e h = (
+    call-sound (drain limit out) c e .number ∙ rw (le-ltb (length out) (limitOf limit) (h .0)),
+    all-accepted l (given m W C q c (drain limit out) .next) (next-accepted (drain limit out) c e) (h .1),
+  )
+
+  -- all calls together are one drain
+  abbrev whole : ℕ → Cursor → Run
+  whole i c =
+      record {
+        slots = drains.drain W n Q i c .slots;
+        nodes = calls W n Q i c;
+        entered = drains.drain W n Q i c .entered;
+        next = drains.drain W n Q i c .next;
+      }
+
+  run-is : (l : List Ask) (c : Cursor) → Accepted c → run m W C q c l ≡ whole (total l) c
+  unfolding drains.drain calls
+  run-is [] c e = refl
+  run-is (x ∷ l) c e =
+      rw (
+        given-is x c e,
+        run-is l (drains.drain W n Q (wanted x) c .next) (after-drain (wanted x) c e),
+        drain-split W n Q (w .small) (wanted x) (total l) c,
+        calls-split W n Q (w .small) (wanted x) (total l) c,
+      )
+
+-- overlap lookup
+module _ (m : Map) (W C : List ℕ) (q : Span) (e : startNumber m W C (Overlap q) ≡ 0) where
+  abbrev P : Passes W C (m .count) (m .root)
+  P = tree-of m W C (Overlap q) e
+
+  overlap-w : Walk W (m .count) (rules W (m .count) (Overlap q)) (overlapRule W q) U (m .root) (P .tree)
+  unfolding rules
+  overlap-w = overlap-walk W C (m .count) (m .root) q (few m W C (Overlap q) e) P
+
+  module _ (l : List Ask) where
+    overlap-is : run m W C (Overlap q) (fresh (m .root)) l
+        ≡ whole m W C (Overlap q) e (overlapRule W q) U (P .tree) overlap-w (total l) (fresh (m .root))
+    overlap-is = run-is m W C (Overlap q) e (overlapRule W q) U (P .tree) overlap-w l (fresh (m .root)) (fresh-accepted m W C (Overlap q) e)
+
+    pub overlap-runs : OverlapRun m W C q (tree-of m W C (Overlap q) e .tree) l (run m W C (Overlap q) (fresh (m .root)) l)
+    unfolding rules
+    overlap-runs =
+        let f : m .count ≤ 65535 = few m W C (Overlap q) e in
+        let a : stepNumber m W C (Overlap q) (fresh (m .root)) ≡ 0 = fresh-accepted m W C (Overlap q) e in
+        let n : ℕ = m .count in
+        let all : run m W C (Overlap q) (fresh (m .root)) l .next ≡ ended
+        → run m W C (Overlap q) (fresh (m .root)) l .slots ≡ those (meets W q) (tree.slots (P .tree)) =
+        λ i. rw overlap-is (slots-end W n (rules W n (Overlap q)) (overlapRule W q) U (m .root) (P .tree) overlap-w (total l) (rw overlap-is at i)) in
+        record {
+          sound = all-sound m W C (Overlap q) e (overlapRule W q) U (P .tree) overlap-w l (fresh (m .root)) a;
+          none-refused = all-accepted m W C (Overlap q) e (overlapRule W q) U (P .tree) overlap-w l (fresh (m .root)) a;
+          slots-first = rw overlap-is (fresh-hits W n (rules W n (Overlap q)) (overlapRule W q) U (m .root) (P .tree) overlap-w (total l));
+          slots-all = all;
+          once-each = λ i s h. rw (all i) (overlap-each W C n (m .root) q f P s h);
+          nodes-all = λ i. rw overlap-is
+              (nodes-end W n (rules W n (Overlap q)) (overlapRule W q) U (m .root) (P .tree) overlap-w (total l) (rw overlap-is at i));
+          counted = rw overlap-is (drain-count W n (rules W n (Overlap q)) (total l) (fresh (m .root)));
+          bound = rw (overlap-is, ← (drain-count W n (rules W n (Overlap q)) (total l) (fresh (m .root)))) (overlap-bound W C n (m .root) q f P (total l));
+          low = tree-low W C n (m .root) P f;
+          ends = λ i. rw (overlap-is, fresh-run W n (rules W n (Overlap q)) (overlapRule W q) U (m .root) (P .tree) overlap-w (total l) i);
+        }
+
+-- exact lookup
+no-first : (xs ys : List ℕ) → xs ++ ys ≡ [] → xs ≡ []
+no-first [] ys e = refl
+no-first (x ∷ xs) ys e = absurd (omega (arith, ap length e))
+
+module _ (m : Map) (W C : List ℕ) (x : Interval) (e : startNumber m W C (Exact x) ≡ 0) where
+  abbrev R : Passes W C (m .count) (m .root)
+  R = tree-of m W C (Exact x) e
+
+  abbrev b : ℕ
+  b = beginning m W (Exact x)
+
+  abbrev Z : Rules
+  Z = rules W (m .count) (Exact x)
+
+  -- "Exact lookup starts at the highest equal node"
+  pub exact-fresh : startCall m W C x .cursor ≡ fresh (beginning m W (Exact x))
+  unfolding startCall
+  exact-fresh = rw (eq-eqb (startNumber m W C (Exact x)) 0 e)
+
+  small : m .count ≤ 65535
+  small = few m W C (Exact x) e
+
+  from-tree : {X : Type 0} → ((p : ℕ) (t : Tree) → Walk W (m .count) Z (exactRule W x) p b t
+      → those (equals W x) (tree.slots t) ≡ those (equals W x) (tree.slots (R .tree)) → X) → X
+  unfolding rules
+  from-tree = start-tree W C (m .count) (m .root) x small R
+
+  highest-w : (h : Highest W x (R .tree) b) → Walk W (m .count) Z (exactRule W x) (par W b) b (tree.node (h .left) b (h .right))
+  unfolding rules
+  highest-w h = walk-below W C (m .count) (m .root) x small R b h
+
+  none-w : b ≡ U → Walk W (m .count) Z (exactRule W x) U b leaf
+  unfolding rules
+  none-w i = walk-none W C (m .count) (m .root) x small R b i
+
+  module _ (l : List Ask) (p : ℕ) (t : Tree) (w : Walk W (m .count) Z (exactRule W x) p b t)
+      (same : those (equals W x) (tree.slots t) ≡ those (equals W x) (tree.slots (R .tree))) where
+    exact-is : run m W C (Exact x) (startCall m W C x .cursor) l ≡ whole m W C (Exact x) e (exactRule W x) p t w (total l) (fresh b)
+    exact-is = rw exact-fresh (run-is m W C (Exact x) e (exactRule W x) p t w l (fresh b) (fresh-accepted m W C (Exact x) e))
+
+    exact-by : ExactRun m W C x (R .tree) l (run m W C (Exact x) (startCall m W C x .cursor) l)
+    unfolding rules
+    exact-by =
+        let n : ℕ = m .count in
+        let a : stepNumber m W C (Exact x) (startCall m W C x .cursor) ≡ 0 = rw exact-fresh (fresh-accepted m W C (Exact x) e) in
+        let all : run m W C (Exact x) (startCall m W C x .cursor) l .next ≡ ended
+        → run m W C (Exact x) (startCall m W C x .cursor) l .slots ≡ those (equals W x) (tree.slots (R .tree)) =
+        λ i. rw exact-is (slots-end W n Z (exactRule W x) p b t w (total l) (rw exact-is at i) ∙ same) in
+        record {
+          sound = all-sound m W C (Exact x) e (exactRule W x) p t w l (startCall m W C x .cursor) a;
+          none-refused = all-accepted m W C (Exact x) e (exactRule W x) p t w l (startCall m W C x .cursor) a;
+          slots-first = rw exact-is (fresh-hits W n Z (exactRule W x) p b t w (total l) ∙ rw same);
+          slots-all = all;
+          once-each = λ i s h. rw (all i) (exact-each W C n (m .root) x small R s h);
+          nodes-all = λ i h. rw exact-is
+              (nodes-end W n Z (exactRule W x) (par W b) b (tree.node (h .left) b (h .right)) (highest-w h) (total l) (rw exact-is at i));
+          nodes-none = λ i. rw exact-is
+              (no-first (calls W n Z (total l) (fresh b)) _ (nodes-parts W n Z (exactRule W x) U b leaf (none-w i) (total l)));
+          counted = rw exact-is (drain-count W n Z (total l) (fresh b));
+          low = tree-low W C n (m .root) R small;
+          ends = λ i. rw (exact-is, fresh-run W n Z (exactRule W x) p b t w (total l) (rw same i));
+        }
+
+  pub exact-runs : (l : List Ask) → ExactRun m W C x (tree-of m W C (Exact x) e .tree) l (run m W C (Exact x) (startCall m W C x .cursor) l)
+  exact-runs l = from-tree (exact-by l)
+
+-- a cursor that is accepted leads to one that is accepted, by any call that is made of it
+pub cursor-accepted : (m : Map) (W C : List ℕ) (q : Query) (c : Cursor) (x : Ask) → stepNumber m W C q c ≡ 0
+    → stepNumber m W C q (given m W C q c x .next) ≡ 0
+cursor-accepted m W C (Overlap q) c x e =
+    let s : startNumber m W C (Overlap q) ≡ 0 = step-accepts m W C (Overlap q) c e .0 in
+    next-accepted m W C (Overlap q) s (overlapRule W q) U (tree-of m W C (Overlap q) s .tree) (overlap-w m W C q s) x c e
+cursor-accepted m W C (Exact i) c x e =
+    let s : startNumber m W C (Exact i) ≡ 0 = step-accepts m W C (Exact i) c e .0 in
+    from-tree m W C i s (λ p t w z. next-accepted m W C (Exact i) s (exactRule W i) p t w x c e)

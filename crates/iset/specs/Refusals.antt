@@ -1,0 +1,116 @@
+-- Document 01's table of refusals, and document 02's item 1: for each public call its rows, a refusal's number and when it is given, in the order in
+-- which the first is given.
+use mathlib.Core.Path.{_≡_}
+use mathlib.Core.Logic.{_↔_}
+use mathlib.Core.List.{List}
+use Prim.Native.Nat.{ℕ, suc, _/_, _%_, _<_, _≤_}
+use lib.ListN.{length}
+use Rattle.words.specs.Nodes.{room}
+use Rattle.words.specs.declared.interval.Bound.{Bound}
+use Rattle.words.specs.declared.interval.Bound.the-variants.{Included, Excluded, Unbounded}
+use Rattle.words.specs.declared.interval.Interval.{Interval}
+use Rattle.words.specs.declared.node.Entry.{Entry}
+use Rattle.tree.specs.Tree.{node}
+use Rattle.tree.specs.Order.{NotAfter}
+use Rattle.tree.specs.Passes.{Passes}
+use Rattle.builder.specs.Input.{startOf, endOf, intervalOf}
+use Rattle.iter.specs.Cursors.{fresh, ended}
+use Rattle.iter.specs.Drains.{limitOf}
+use Rattle.iter.specs.declared.Cursor.{Cursor}
+use Rattle.iter.specs.declared.rules.Query.{Query}
+use Rattle.iter.specs.declared.rules.Query.the-variants.{Overlap, Exact}
+use Rattle.iter_laws.specs.Place.{Held}
+use Rattle.iter_laws.specs.Highest.{Highest}
+use Rattle.iset.specs.Lookup.{beginning}
+use Rattle.iset.specs.declared.Map.{Map}
+
+-- rows of a table; after the last one a call is accepted
+pub data Rows : Type 1 where
+  accept : Rows
+  refuse : ℕ → Type 0 → Rows → Rows
+
+-- A call that answers the number k, 0 where it is not refused, does so exactly as the rows say: it answers a row's number exactly if the row's
+-- condition holds and that of no row before it.
+abbrev pub Exactly : Rows → ℕ → Type 0
+Exactly accept k = k ≡ 0
+Exactly (refuse number P rows) k = ((k ≡ number) ↔ P) × ((P → ⊥) → Exactly rows k)
+
+-- 1: "count .. above capacity"
+abbrev pub NoRoom : Map → List ℕ → List ℕ → Type 0
+NoRoom m W C = room (length W) (length C) < m .count
+
+-- 2: "the check fails"
+abbrev pub Broken : Map → List ℕ → List ℕ → Type 0
+Broken m W C = Passes W C (m .count) (m .root) → ⊥
+
+-- 3: "slot is not below count (U included)"
+abbrev pub NoSuch : Map → ℕ → Type 0
+NoSuch m s = m .count ≤ s
+
+-- 4: "neither bound is Unbounded, and lo > hi, or lo = hi unless both are Included"
+abbrev pub BadRange : Bound → Bound → Type 0
+BadRange (Included a) (Included b) = b < a
+BadRange (Included a) (Excluded b) = b ≤ a
+BadRange (Included a) Unbounded = ⊥
+BadRange (Excluded a) (Included b) = b ≤ a
+BadRange (Excluded a) (Excluded b) = b ≤ a
+BadRange (Excluded a) Unbounded = ⊥
+BadRange Unbounded y = ⊥
+
+-- 5: "a given interval has start >= end"
+abbrev pub BadInterval : ℕ → ℕ → Type 0
+BadInterval start stop = stop ≤ start
+
+-- 7: "cursor has no form below"; a lookup for an interval begins at the highest equal node, and has no held form where there is none
+abbrev pub BadCursor : Map → List ℕ → List ℕ → Query → Cursor → Type 0
+BadCursor m W C (Overlap q) c =
+    (c ≡ fresh (m .root) → ⊥) × (c ≡ ended → ⊥) × ((P : Passes W C (m .count) (m .root)) → Held (P .tree) c → ⊥)
+BadCursor m W C (Exact x) c =
+    (c ≡ fresh (beginning m W (Exact x)) → ⊥) × (c ≡ ended → ⊥)
+    × ((P : Passes W C (m .count) (m .root)) (h : Highest W x (P .tree) (beginning m W (Exact x)))
+    → Held (node (h .left) (beginning m W (Exact x)) (h .right)) c → ⊥)
+
+-- 9: "drain limit above the output's length", and "limit 0 means 64, for refusal 9 too"
+abbrev pub ShortOutput : ℕ → ℕ → Type 0
+ShortOutput limit places = places < limitOf limit
+
+-- "the check by itself 1, 2"
+abbrev pub checkRows : Map → List ℕ → List ℕ → Rows
+checkRows m W C = refuse 1 (NoRoom m W C) (refuse 2 (Broken m W C) accept)
+
+-- "build 8, 1, 5, 6"; 8: "build input length not a multiple of 3"; 1: "entries to build .. above capacity"; 6: "build input falls somewhere"
+abbrev pub buildRows : List ℕ → List ℕ → List ℕ → Rows
+buildRows W C S =
+    refuse 8 (length S % 3 ≡ 0 → ⊥)
+    (refuse 1 (room (length W) (length C) < length S / 3)
+    (refuse 5 ((k : ℕ) × (k < length S / 3) × BadInterval (startOf S k) (endOf S k))
+    (refuse 6 ((k : ℕ) × (suc k < length S / 3) × (NotAfter (intervalOf S k) (intervalOf S (suc k)) → ⊥)) accept)))
+
+-- "remove 1, 2, 3"
+abbrev pub removeRows : Map → List ℕ → List ℕ → ℕ → Rows
+removeRows m W C s = refuse 1 (NoRoom m W C) (refuse 2 (Broken m W C) (refuse 3 (NoSuch m s) accept))
+
+-- document 02: "NoRoom now when count has reached capacity, .. with a count above capacity also 1", then 2, 5
+abbrev pub insertRows : Map → List ℕ → List ℕ → Entry → Rows
+insertRows m W C e =
+    refuse 1 (room (length W) (length C) ≤ m .count) (refuse 2 (Broken m W C) (refuse 5 (BadInterval (e .start) (e .end)) accept))
+
+-- the fresh cursor of an exact lookup: 1, 2, 5
+abbrev pub startRows : Map → List ℕ → List ℕ → Interval → Rows
+startRows m W C x = refuse 1 (NoRoom m W C) (refuse 2 (Broken m W C) (refuse 5 (BadInterval (x .start) (x .end)) accept))
+
+-- "overlap step 1, 2, 4, 7; exact step 1, 2, 5, 7"
+abbrev pub stepRows : Map → List ℕ → List ℕ → Query → Cursor → Rows
+stepRows m W C (Overlap q) c =
+    refuse 1 (NoRoom m W C) (refuse 2 (Broken m W C) (refuse 4 (BadRange (q .lo) (q .hi)) (refuse 7 (BadCursor m W C (Overlap q) c) accept)))
+stepRows m W C (Exact x) c =
+    refuse 1 (NoRoom m W C) (refuse 2 (Broken m W C) (refuse 5 (BadInterval (x .start) (x .end)) (refuse 7 (BadCursor m W C (Exact x) c) accept)))
+
+-- "drain as its step, then 9"
+abbrev pub drainRows : Map → List ℕ → List ℕ → Query → Cursor → ℕ → ℕ → Rows
+drainRows m W C (Overlap q) c limit places =
+    refuse 1 (NoRoom m W C) (refuse 2 (Broken m W C) (refuse 4 (BadRange (q .lo) (q .hi)) (refuse 7 (BadCursor m W C (Overlap q) c)
+    (refuse 9 (ShortOutput limit places) accept))))
+drainRows m W C (Exact x) c limit places =
+    refuse 1 (NoRoom m W C) (refuse 2 (Broken m W C) (refuse 5 (BadInterval (x .start) (x .end)) (refuse 7 (BadCursor m W C (Exact x) c)
+    (refuse 9 (ShortOutput limit places) accept))))

@@ -1,0 +1,181 @@
+-- "Slots from count up are not read", of an insertion on any words with room for it: on two stores that agree below the count it leaves stores, one
+-- root among them, that agree up to the new slot.
+use mathlib.Core.Path.{_≡_, refl, sym, ap, _∙_}
+use mathlib.Core.Bool.{Bool, true, false, cond, not}
+use mathlib.Core.List.{List}
+use Prim.Native.Nat.{ℕ, zero, suc, _+_, _*_, _<_, _≤_}
+use native.Mathlib.Omega.{arith}
+use lib.ListN.{length}
+use lib.Dec.{eqb}
+use Rattle.words.specs.Ix.{U}
+use Rattle.words.specs.Nodes.{word, kid, par, putKid, putNode}
+use Rattle.words.specs.declared.interval.Interval.{Interval}
+use Rattle.words.specs.declared.node.Entry.{Entry}
+use Rattle.words.specs.declared.node.Field.{Field}
+use Rattle.words.specs.declared.node.Field.the-variants.{Start, End, Value, HullStart, HullEnd, Child, Parent}
+use Rattle.words.proofs.Nodes.{entry-putNode, hull-putNode, kid-putNode, par-putNode}
+use Rattle.bitvec.specs.Colours.{red, redAt, dye}
+use Rattle.bitvec.proofs.Bytes.{length-setBit, bitAt-same, bitAt-other}
+use Rattle.tree.proofs.Cases.{compare}
+use Rattle.tree_rm_laws.specs.Repair.{Next, done, again, goOn}
+use Rattle.tree_rm_laws.specs.Below.{Agree, Hued, Alike}
+use Rattle.tree_rm_laws.proofs.Mended.{red-slot}
+use Rattle.tree_rm_laws.proofs.Below.{link-same, same-redAt, agree-put, agree-putNode, agree-fix, agree-fixUp, agree-turn, same-rootAfter, Both, both-dye, SameNext, same-ending}
+use Rattle.tree_in_laws.specs.Descent.{goesLeft, descend, under}
+use Rattle.tree_in_laws.specs.Mend.{rotated, outer, inner, recoloured, mendAt, mendBelow, mendStep, mend}
+use Rattle.tree_in_laws.specs.Insert.{own, hungNode, hungWords, hungRoot, hung, mended, insertRule}
+
+-- the repair of n entries
+module _ (n : ℕ) where
+  module _ (W X : List ℕ) (A : Agree n W X) where
+    agree-rotated : (b : Bool) (P S : ℕ) → P < n → S < n → Agree n (rotated n W b P S) (rotated n X b P S)
+    unfolding rotated
+    agree-rotated b P S lp ls = agree-fix n _ _ S ls (agree-fix n _ _ P lp (agree-turn n W X b P S lp ls A))
+
+  module _ (W X C D : List ℕ) (A : Agree n W X) (B : Both n C D) where
+    same-outer : (r : ℕ) (b : Bool) (P G : ℕ) → P < n → G < n → SameNext n (outer n W C r b P G) (outer n X D r b P G)
+    unfolding outer
+    same-outer r b P G lp lg = (
+      agree-rotated W X A (not b) G P lg lp,
+      both-dye n (dye C P false) (dye D P false) G true lg (both-dye n C D P false lp B),
+      same-rootAfter n W X r G P lg A,
+    )
+
+    same-recoloured : (r P u G : ℕ) → P < n → u < n → G < n → SameNext n (recoloured W C r P u G) (recoloured X D r P u G)
+    unfolding recoloured
+    same-recoloured r P u G lp lu lg = (
+      A,
+      both-dye n _ _ G true lg (both-dye n (dye C P false) (dye D P false) u false lu (both-dye n C D P false lp B)),
+      refl,
+      refl,
+      lg,
+    )
+
+  same-inner : (W X C D : List ℕ) → Agree n W X → Both n C D → (r x : ℕ) (b : Bool) (P G : ℕ) → x < n → P < n → G < n
+      → SameNext n (inner n W C r x b P G) (inner n X D r x b P G)
+  unfolding inner
+  same-inner W X C D A B r x b P G lx lp lg =
+      same-outer (rotated n W b P x) (rotated n X b P x) C D (agree-rotated W X A b P x lp lx) B r b x G lx lg
+
+  module _ (W X C D : List ℕ) (A : Agree n W X) (B : Both n C D) (r x : ℕ) (lx : x < n) where
+    same-mendAt : (P G : ℕ) (b : Bool) → P < n → G < n → SameNext n (mendAt n W C r x P G b) (mendAt n X D r x P G b)
+    unfolding mendAt
+    same-mendAt P G b lp lg =
+        rw (A .1 (Child (not b)) G lg, A .1 (Child (not b)) P lp, same-redAt n C D (kid X (not b) G) (B .1))
+        (go (redAt n D (kid X (not b) G)) (eqb (kid X (not b) P) x) refl)
+      where
+        go : (t u : Bool) → redAt n D (kid X (not b) G) ≡ t
+            → SameNext n (cond t (recoloured W C r P (kid X (not b) G) G) (cond u (inner n W C r x b P G) (outer n W C r b P G)))
+            (cond t (recoloured X D r P (kid X (not b) G) G) (cond u (inner n X D r x b P G) (outer n X D r b P G)))
+        go true u e = same-recoloured W X C D A B r P (kid X (not b) G) G lp (red-slot n D (kid X (not b) G) e) lg
+        go false true e = same-inner W X C D A B r x b P G lx lp lg
+        go false false e = same-outer W X C D A B r b P G lp lg
+
+    same-mendBelow : (P : ℕ) → P < n → SameNext n (mendBelow n W C r x P) (mendBelow n X D r x P)
+    unfolding mendBelow
+    same-mendBelow P lp =
+        rw (A .1 Parent P lp)
+        (link-same n {A = Next} (SameNext n) (par X P) (λ G. mendAt n W C r x P G (eqb (kid W true G) P)) (λ G. mendAt n X D r x P G (eqb (kid X true G) P)) (done W C r) (done X D r)
+        (λ lg. rw (A .1 (Child true) (par X P) lg) (same-mendAt P (par X P) (eqb (kid X true (par X P)) P) lp lg)) (A, B, refl))
+
+    same-mendStep : SameNext n (mendStep n W C r x) (mendStep n X D r x)
+    unfolding mendStep
+    same-mendStep =
+        rw (A .1 Parent x lx)
+        (link-same n {A = Next} (SameNext n) (par X x) (λ P. cond (red C P) (mendBelow n W C r x P) (done W C r)) (λ P. cond (red D P) (mendBelow n X D r x P) (done X D r))
+        (done W (dye C x false) r) (done X (dye D x false) r)
+        (λ lp. rw (B .1 .1 (par X x) lp) (go (par X x) lp (red D (par X x)))) (A, both-dye n C D x false lx B, refl))
+      where
+        go : (P : ℕ) → P < n → (t : Bool) → SameNext n (cond t (mendBelow n W C r x P) (done W C r)) (cond t (mendBelow n X D r x P) (done X D r))
+        go P lp true = same-mendBelow P lp
+        go P lp false = (A, B, refl)
+
+  same-mend : (turns : ℕ) (W X C D : List ℕ) (r x : ℕ) → Agree n W X → Both n C D → x < n → SameNext n (mend n turns W C r x) (mend n turns X D r x)
+  unfolding mend
+  same-mend zero W X C D r x A B l = (A, B, refl, refl, l)
+  same-mend (suc turns) W X C D r x A B l = go (same-mend turns) (mendStep n W C r x) (mendStep n X D r x) (same-mendStep W X C D A B r x l)
+    where
+      go : ((W X C D : List ℕ) (r x : ℕ) → Agree n W X → Both n C D → x < n → SameNext n (mend n turns W C r x) (mend n turns X D r x))
+          → (s t : Next) → SameNext n s t → SameNext n (goOn s (λ X D q i. mend n turns X D q i)) (goOn t (λ X D q i. mend n turns X D q i))
+      go rec (done W C r) (done X D q) h = h
+      go rec (done W C r) (again X D q j) h = absurd h
+      go rec (again W C r i) (done X D q) h = absurd h
+      go rec (again W C r i) (again X D q j) h = rw (← (h .2), ← (h .3)) (rec W X C D r i (h .0) (h .1) (h .4))
+
+  -- the way down
+  module _ (W X : List ℕ) (A : Agree n W X) (x : Interval) where
+    same-goesLeft : (k : ℕ) → k < n → goesLeft W x k ≡ goesLeft X x k
+    unfolding goesLeft
+    same-goesLeft k l = rw (A .1 Start k l, A .1 End k l)
+
+    same-descend : (height k : ℕ) → k < n → descend n height W x k ≡ descend n height X x k
+    unfolding descend
+    same-descend zero k l = refl
+    same-descend (suc height) k l =
+        rw (same-goesLeft k l, A .1 (Child (goesLeft X x k)) k l)
+        (link-same n {A = ℕ} (λ i j. i ≡ j) (kid X (goesLeft X x k) k) (λ s. descend n height W x s) (λ s. descend n height X x s) k k
+        (λ h. same-descend height (kid X (goesLeft X x k) k) h) refl)
+
+    same-under : (r : ℕ) → under n W r x ≡ under n X r x
+    unfolding under
+    same-under r =
+        link-same n {A = ℕ} (λ i j. i ≡ j) r (λ s. descend n 32 W x s) (λ s. descend n 32 X x s) U U (λ h. same-descend 32 r h) refl
+
+-- the eight words of one slot are written in both
+same-node : (W X : List ℕ) (s : ℕ) (e : Entry) (h : Interval) (left right up : ℕ) → s * 8 + 8 ≤ length W → s * 8 + 8 ≤ length X
+    → (f : Field) → word (putNode W s e h left right up) f s ≡ word (putNode X s e h left right up) f s
+same-node W X s e h left right up m k Start =
+    ap (λ (e : Entry). e .start) (entry-putNode W s e h left right up m ∙ sym (entry-putNode X s e h left right up k))
+same-node W X s e h left right up m k End =
+    ap (λ (e : Entry). e .end) (entry-putNode W s e h left right up m ∙ sym (entry-putNode X s e h left right up k))
+same-node W X s e h left right up m k Value =
+    ap (λ (e : Entry). e .value) (entry-putNode W s e h left right up m ∙ sym (entry-putNode X s e h left right up k))
+same-node W X s e h left right up m k HullStart =
+    ap (λ (i : Interval). i .start) (hull-putNode W s e h left right up m ∙ sym (hull-putNode X s e h left right up k))
+same-node W X s e h left right up m k HullEnd =
+    ap (λ (i : Interval). i .end) (hull-putNode W s e h left right up m ∙ sym (hull-putNode X s e h left right up k))
+same-node W X s e h left right up m k (Child b) = kid-putNode W s e h left right up b m ∙ sym (kid-putNode X s e h left right up b k)
+same-node W X s e h left right up m k Parent = par-putNode W s e h left right up m ∙ sym (par-putNode X s e h left right up k)
+
+module _ (W X C D : List ℕ) (n r : ℕ) (e : Entry) (room : (n + 1) * 8 ≤ length W) (bits : n + 1 ≤ length C * 8) (A : Agree n W X) (H : Hued n C D) where
+  -- one slot more, where that is written too
+  agree-hungNode : (p : ℕ) → Agree (n + 1) (hungNode W n e p) (hungNode X n e p)
+  unfolding hungNode
+  agree-hungNode p =
+      let N = agree-putNode n W X n e (own e) U U p A in (
+        N .0,
+        λ f a l. compare n a (λ q. let i : a ≡ n = omega arith in
+            rw i (same-node W X n e (own e) U U p (omega arith) (omega (arith, A .0)) f)) (λ q. N .1 f a q),
+      )
+
+  agree-hungWords : (p : ℕ) → Agree (n + 1) (hungWords W n e p) (hungWords X n e p)
+  unfolding hungWords
+  agree-hungWords p =
+      link-same n {A = List ℕ} (Agree (n + 1)) p (λ s. putKid (hungNode W n e p) (goesLeft W (own e) s) s n)
+      (λ s. putKid (hungNode X n e p) (goesLeft X (own e) s) s n) (hungNode W n e p) (hungNode X n e p)
+      (λ h. rw (same-goesLeft n W X A (own e) p h)
+      (agree-put (n + 1) (hungNode W n e p) (hungNode X n e p) (agree-hungNode p) (Child (goesLeft X (own e) p)) p n))
+      (agree-hungNode p)
+
+  both-hung : Both (n + 1) (dye C n true) (dye D n true)
+  both-hung = (
+    rw length-setBit bits,
+    (
+      length-setBit C n true ∙ H .0 ∙ sym (length-setBit D n true),
+      λ a l. compare n a
+          (λ q. let i : a ≡ n = omega arith in rw i (bitAt-same C n true (omega arith) ∙ sym (bitAt-same D n true (omega (arith, H .0)))))
+          (λ q. bitAt-other C n true a (omega arith) ∙ H .1 a q ∙ sym (bitAt-other D n true a (omega arith))),
+    ),
+  )
+
+  same-mended : (p : ℕ) → Alike (n + 1) (mended (hung W C n r e p) (n + 1) n) (mended (hung X D n r e p) (n + 1) n)
+  unfolding mended hung
+  same-mended p =
+      let m = same-ending (n + 1) (mend (n + 1) 32 (hungWords W n e p) (dye C n true) (hungRoot n r p) n)
+      (mend (n + 1) 32 (hungWords X n e p) (dye D n true) (hungRoot n r p) n)
+      (same-mend (n + 1) 32 (hungWords W n e p) (hungWords X n e p) (dye C n true) (dye D n true) (hungRoot n r p) n (agree-hungWords p) both-hung (omega arith)) in
+      (agree-fixUp (n + 1) 32 _ _ n (m .0), m .1 .1, m .2)
+
+  pub inserted-below : Alike (n + 1) (insertRule W C n r e) (insertRule X D n r e)
+  unfolding insertRule
+  inserted-below = rw (same-under n W X A (own e) r) (same-mended (under n X r (own e)))

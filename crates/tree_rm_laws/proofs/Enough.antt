@@ -1,0 +1,193 @@
+-- The rule's numbers of turns, of links and of hulls suffice: on every store that passes the check any greater ones come to the same store, value
+-- and pairs.
+use mathlib.Core.Path.{_≡_, refl, sym, _∙_}
+use mathlib.Core.Bool.{Bool, true, false}
+use mathlib.Core.List.{List, [], _∷_}
+use Prim.Native.Nat.{ℕ, zero, suc, _+_, _*_, _<_, _≤_}
+use native.Mathlib.Omega.{arith}
+use lib.ListN.{length}
+use borrow.Author.Tests.{le-leb}
+use Rattle.words.specs.Ix.{U, onLink}
+use Rattle.words.specs.Nodes.{kid, par, fix}
+use Rattle.bitvec.specs.Colours.{red, dye}
+use Rattle.tree.specs.Tree.{Tree, slots, occ, hit, height, Shape, leaf, node}
+use Rattle.tree.specs.Zipper.{bin, Frame, frame, plug, occs, Above}
+use Rattle.tree.specs.Passes.{Passes}
+use Rattle.tree.proofs.Slots.{hit-same, times}
+use Rattle.tree.proofs.Frames.{above-keep, unplug-shape}
+use Rattle.tree.proofs.Checked.{slot-once, tree-low}
+use Rattle.tree_rm_laws.specs.Links.{redirected, removeChild, redirect, rootAfter, fixUp}
+use Rattle.tree_rm_laws.specs.Repair.{Next, done, again, step, goOn, repair}
+use Rattle.tree_rm_laws.specs.Remove.{leftmost, vacated, exchanged, child, Store, store, restructure, handed, above, cutWords, finish, removeFrom, removeRule}
+use Rattle.tree_rm_laws.specs.Pairs.{emptied}
+use Rattle.tree_rm_laws.specs.With.{vacatedWith, restructureWith, cutWordsWith, finishWith, removeFromWith, removeWith}
+use Rattle.tree_rm_laws.proofs.Links.{by-link, on-slot, on-none}
+use Rattle.tree_rm_laws.proofs.Walk.{same-fix, no-walk}
+use Rattle.tree_rm_laws.proofs.Moves.{find, cut-way}
+use Rattle.tree_rm_laws.proofs.Vacate.{leftmost-at, Chosen, chosen}
+use Rattle.tree_rm_laws.proofs.Steps.{restructure-child}
+use Rattle.tree_rm_laws.proofs.Spot.{Spot, child-y}
+use Rattle.tree_rm_laws.proofs.Loop.{Fixed}
+use Rattle.tree_rm_laws.proofs.Repaired.{Finished, repaired}
+use Rattle.tree_rm_laws.proofs.Prepare.{ReadyIn, live-y, reds, as-black}
+use Rattle.tree_rm_laws.proofs.Cut.{way-height, two, place, short}
+use Rattle.tree_rm_laws.proofs.Removal.{count, spot, ready}
+
+-- with its own numbers it is the rule, on any words
+pub with-own : (W C : List ℕ) (n r s : ℕ) → removeWith 36 32 32 W C n r s ≡ removeRule W C n r s
+unfolding removeWith removeRule removeFromWith removeFrom finishWith finish vacatedWith vacated restructureWith restructure cutWordsWith cutWords
+with-own W C n r s = refl
+
+-- the way down to the leftmost slot of a tree
+leftmost-more : (W : List ℕ) (n : ℕ) → n ≤ 65535 → (i j p k : ℕ) (l : Tree) (s : ℕ) (r : Tree) → Shape W n p k (node l s r)
+    → height (node l s r) ≤ i → height (node l s r) ≤ j → leftmost n i W k ≡ leftmost n j W k
+leftmost-more W n small i j p k l s r h a b =
+    leftmost-at W n small i p k l s r h a (λ m c y rest e f g.
+    leftmost-at W n small j p k l s r h b (λ m′ c′ y′ rest′ e′ f′ g′.
+    f ∙ first m m′ rest rest′ (sym g ∙ g′) ∙ sym f′))
+  where
+    first : (m m′ : ℕ) (rest rest′ : List ℕ) → m ∷ rest ≡ m′ ∷ rest′ → m ≡ m′
+    first m m′ rest rest′ e = cc
+
+-- the repair, where it came to an end
+repair-more : (n x : ℕ) (base : List ℕ) (turns m : ℕ) (W C : List ℕ) (r ix : ℕ) → turns ≤ m → Finished n x base (repair n turns W C r ix)
+    → repair n m W C r ix ≡ repair n turns W C r ix
+unfolding repair
+repair-more n x base zero m W C r ix h e = absurd e
+repair-more n x base (suc turns) zero W C r ix h e = absurd (omega arith)
+repair-more n x base (suc turns) (suc m) W C r ix h e = go (λ W C r ix. repair-more n x base turns m W C r ix (omega arith)) (step n W C r ix) e
+  where
+    go : ((W C : List ℕ) (r ix : ℕ) → Finished n x base (repair n turns W C r ix) → repair n m W C r ix ≡ repair n turns W C r ix)
+        → (s : Next) → Finished n x base (goOn s (λ X D q i. repair n turns X D q i))
+        → goOn s (λ X D q i. repair n m X D q i) ≡ goOn s (λ X D q i. repair n turns X D q i)
+    go rec (done W C r) e = refl
+    go rec (again W C r ix) e = rec W C r ix e
+
+-- the way up from p, where it is not longer
+fixUp-more : (c : List Frame) (height m : ℕ) (W : List ℕ) (n r p k : ℕ) → n ≤ 65535 → length c ≤ height → height ≤ m → Above W n r c p k
+    → fixUp n m W p ≡ fixUp n height W p
+unfolding fixUp
+fixUp-more [] height m W n r p k small l h a =
+    no-walk n m W p (omega (arith, a .0)) ∙ sym (no-walk n height W p (omega (arith, a .0)))
+fixUp-more (frame b s far ∷ c) zero m W n r p k small l h a = absurd (omega arith)
+fixUp-more (frame b s far ∷ c) (suc height) zero W n r p k small l h a = absurd (omega arith)
+fixUp-more (frame b s far ∷ c) (suc height) (suc m) W n r p k small l h a =
+    rw (a .at, on-slot n s (a .live), on-slot n s (a .live))
+    (fixUp-more c height m (fix n W s) n r (par W s) s small (omega arith) (omega arith)
+    (above-keep W (fix n W s) n r c (par W s) s (λ x y. same-fix n W s x) (a .rest)))
+
+-- the words after the cut
+cut-with : (m n : ℕ) (W : List ℕ) (g v : ℕ) → cutWordsWith m n W g v ≡ fixUp n m (redirect n W g v U) g
+unfolding cutWordsWith removeChild redirect
+cut-with m n W g v =
+    by-link n g (λ X. X ≡ fixUp n m (onLink n g (λ s. redirected W s v U) W) g) (λ s. fixUp n m (redirected W s v U) s) W
+    (λ h. rw (on-slot n g h) refl)
+    (λ h. rw (on-none n g h) (sym (no-walk n m W g h)))
+
+cut-own : (n : ℕ) (W : List ℕ) (g v : ℕ) → cutWords n W g v ≡ cutWordsWith 32 n W g v
+unfolding cutWords cutWordsWith
+cut-own n W g v = refl
+
+module _ (n v : ℕ) (base W : List ℕ) (K : ℕ → Bool) (r : ℕ) (small : n ≤ 65535) (lv : v < n) (all : (s : ℕ) → s < n → times s base ≡ 1)
+    (h : Fixed n v base W K r) where
+  cut-more : (m : ℕ) → 32 ≤ m → cutWordsWith m n W (par W v) v ≡ cutWords n W (par W v) v
+  cut-more m i =
+      let o : (s : ℕ) → occs s (h .q) + hit s v ≤ 1 = two n v base W K r small lv all h in
+      let way : Above (redirect n W (par W v) v U) n (rootAfter n W r v U) (h .q) (par W v) U =
+      cut-way W n r (h .q) v small (h .room) lv (omega (arith, o v, hit-same v)) (λ s. omega (arith, o s)) (place n v base W K r small lv all h) in
+      cut-with m n W (par W v) v
+      ∙ fixUp-more (h .q) 32 m (redirect n W (par W v) v U) n (rootAfter n W r v U) (par W v) U small (short n v base W K r small lv all h) i way
+      ∙ sym (cut-with 32 n W (par W v) v)
+      ∙ sym (cut-own n W (par W v) v)
+
+-- the repair of the slot x, whose one child tree is `near`
+child-with : (turns n : ℕ) (W C : List ℕ) (r x y : ℕ) → red C x ≡ false → y < n → red C y ≡ true → restructureWith turns n W C r x y ≡ store W (dye C y true) r
+unfolding restructureWith
+child-with turns n W C r x y e h f = rw (e, on-slot n y h (λ s. red C s) false, f) refl
+
+module _ (X C : List ℕ) (n r x : ℕ) (b : Bool) (c : List Frame) (near : Tree) (h : Spot X C n r x b c near) (turns : ℕ) (i : 36 ≤ turns) where
+  abbrev base : List ℕ
+  base = slots (plug c (bin b near x leaf))
+
+  same-repair : near ≡ leaf → red C x ≡ false → repair n turns X C r x ≡ repair n 36 X C r x
+  same-repair e f =
+      let (o, u) = as-black X C n r x b c near h e f in
+      repair-more n x base 36 turns X C r x i (repaired 36 n x base X C r x (h .bits) o u)
+
+  bare-more : near ≡ leaf → (y : ℕ) → restructureWith turns n X C r x y ≡ restructure n X C r x y
+  unfolding restructureWith restructure
+  bare-more e y = go (red C x) refl
+    where
+      go : (t : Bool) → red C x ≡ t → restructureWith turns n X C r x y ≡ restructure n X C r x y
+      go true f = rw f refl
+      go false f = rw (same-repair e f) refl
+
+  restructure-more : restructureWith turns n X C r x (child X x) ≡ restructure n X C r x (child X x)
+  restructure-more = go near refl
+    where
+      go : (u : Tree) → near ≡ u → restructureWith turns n X C r x (child X x) ≡ restructure n X C r x (child X x)
+      go leaf e = bare-more e (child X x)
+      go (node l y l′) e =
+          let (f, g) = reds X C n r x b c near h l y l′ e in
+          let k : y < n = live-y X C n r x b c near h l y l′ e in
+          rw (child-y X C n r x b c near h l y l′ e, restructure-child n X C r x y f k g) (child-with turns n X C r x y f k g)
+
+module _ (W C : List ℕ) (n r s : ℕ) (small : n ≤ 65535) (fit : n * 8 ≤ length W) (bits : n ≤ length C * 8) (ls : s < n) (h : Passes W C n r) where
+  abbrev t : Tree
+  t = h .tree
+
+  tall : height t ≤ 32
+  tall = tree-low W C n r h small
+
+  here : 0 < occ s t
+  here = omega (arith, h .once s ls)
+
+  vacated-more : (links : ℕ) → 32 ≤ links → vacatedWith links n W s ≡ vacated n W s
+  unfolding vacatedWith vacated
+  vacated-more links i = find s t [] here go
+    where
+      go : (d : List Frame) (l r′ : Tree) → t ≡ plug d (node l s r′) → vacatedWith links n W s ≡ vacated n W s
+      go d l leaf e =
+          let (p, k, a, sh) = unplug-shape W n r d (node l s leaf) (rw e at (h .shape)) in
+          rw (le-leb n (kid W false s) (omega (arith, sh .right))) refl
+      go d l (node u v w) e =
+          let (p, k, a, sh) = unplug-shape W n r d (node l s (node u v w)) (rw e at (h .shape)) in
+          let low : height (plug d (node l s (node u v w))) ≤ 32 = rw e at tall in
+          let q : height (node u v w) ≤ 32 = omega (arith, way-height d (node l s (node u v w))) in
+          rw (leftmost-more W n small links 32 s (kid W false s) u v w (sh .right) (omega arith) q) refl
+
+  module _ (x : ℕ) (ch : Chosen s x t W (exchanged W s x)) (turns hulls : ℕ) (i : 36 ≤ turns) (j : 32 ≤ hulls) where
+    abbrev X : List ℕ
+    X = exchanged W s x
+
+    abbrev y : ℕ
+    y = child X x
+
+    abbrev S : Store
+    S = restructure n X C r x y
+
+    abbrev v : ℕ
+    v = emptied n x y
+
+    abbrev g : ℕ
+    g = above n (S .words) x y
+
+    same-store : restructureWith turns n X C r x y ≡ S
+    same-store = restructure-more X C n r x (ch .b) (ch .c) (ch .near) (spot W C n r s small fit bits ls h x ch) turns i
+
+    same-words : cutWordsWith hulls n (handed n (S .words) x y) g v ≡ cutWords n (handed n (S .words) x y) g v
+    same-words =
+        let z : ReadyIn n x y (slots t) X S = ready W C n r s small fit bits ls h x ch in
+        rw (z .above-is)
+        (cut-more n v (slots t) (handed n (S .words) x y) (red (S .colours)) (S .root) small (z .live) (count W C n r s small fit bits ls h) (z .fixed) hulls j)
+
+    from-more : removeFromWith turns hulls W C n r s x ≡ removeFrom W C n r s x
+    unfolding removeFromWith removeFrom finishWith finish
+    from-more = rw (same-store, same-words) refl
+
+  -- greater numbers of turns, of links and of hulls than the rule's 36, 32 and 32 come to the same store, value and pairs
+  pub enough : (turns links hulls : ℕ) → 36 ≤ turns → 32 ≤ links → 32 ≤ hulls → removeWith turns links hulls W C n r s ≡ removeRule W C n r s
+  unfolding removeWith removeRule
+  enough turns links hulls i j k =
+      rw (vacated-more links j)
+      (from-more (vacated n W s) (chosen W n r s t small fit (h .shape) (slot-once W C n r h) (h .hulls) here tall) turns hulls i k)
