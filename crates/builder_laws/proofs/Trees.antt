@@ -6,8 +6,8 @@ use Prim.Native.Nat.{ℕ, zero, suc, _+_, _-_, _/_, _^_, _<_, _≤_}
 use native.Mathlib.Omega.{arith}
 use lib.Dec.{leb}
 use borrow.Author.Tests.{leb-true, leb-false, le-leb}
-use Rattle.tree.specs.Tree.{Tree, leaf, node, slots, occ}
-use Rattle.tree.proofs.Slots.{hit-same, hit-ne, hit-cases, hit-zero, times, times-slots}
+use Rattle.tree.specs.Tree.{Tree, leaf, node, slots, occ, times}
+use Rattle.tree.proofs.Slots.{hit-same, hit-ne, hit-cases, hit-zero, times-slots}
 use Rattle.builder.specs.Build.{center}
 use Rattle.builder.proofs.Spans.{few-left, few-right}
 use Rattle.builder_laws.specs.Built.{range}

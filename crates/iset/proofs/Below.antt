@@ -40,6 +40,7 @@ use Rattle.iter.specs.declared.Cursor.{Cursor}
 use Rattle.iter.specs.declared.rules.Query.{Query}
 use Rattle.iter.specs.declared.rules.Query.the-variants.{Overlap, Exact}
 use Rattle.iset.specs.Check.{checkRule}
+use Rattle.iset.specs.Build.{buildRule}
 use Rattle.iset.specs.Remove.{removeNumber, refusedRemoval, removeCall, removeNodes, removeColours}
 use Rattle.iset.specs.Insert.{properNumber, insertNumber, refusedInsertion, insertDone, insertCall, insertNodes, insertColours}
 use Rattle.iset.specs.Lookup.{beginning, startNumber, stepNumber, drainNumber, startCall, stepCall, drainCall, drainOutput}
@@ -83,6 +84,11 @@ check-below m W C X D s =
     (λ h p z. sym z ∙ sym (zero-check m X D (rw (← (s .words .0), ← (s .colours .0)) h) (passes-below (m .count) (m .root) W C X D s p)))
     (λ h p z. sym z ∙ sym (two-check m X D (rw (← (s .words .0), ← (s .colours .0)) h)
     (λ q. p (passes-below (m .count) (m .root) X D W C (turned (m .count) W C X D s) q))))
+
+-- a build reads no slot at all: its answer goes by the two lengths and the list
+pub build-below : (W C X D S : List ℕ) → length W ≡ length X → length C ≡ length D → buildRule W C S ≡ buildRule X D S
+unfolding buildRule
+build-below W C X D S e f = rw (e, f)
 
 -- the rules of a lookup, at a slot below the count
 module _ (n : ℕ) (W X : List ℕ) (A : Agree n W X) where

@@ -1,15 +1,14 @@
 -- What a build guarantees: it accepts exactly what document 01 lets be built, and what it leaves passes the check.
-use mathlib.Core.Path.{_≡_, refl, sym, _∙_}
+use mathlib.Core.Path.{_≡_, refl}
 use mathlib.Core.Bool.{Bool, true, false, cond}
 use mathlib.Core.List.{List}
-use Prim.Native.Nat.{ℕ, _*_, _/_, _%_, _≤_}
+use Prim.Native.Nat.{ℕ, _/_, _%_, _≤_}
 use native.Mathlib.Omega.{arith}
 use lib.ListN.{length}
 use lib.Dec.{eqb, ltb}
 use borrow.Author.Tests.{eqb-true, ltb-false, eq-eqb, le-ltb}
 use Rattle.words.specs.Nodes.{room}
 use Rattle.builder.specs.Input.{allProper, sorted}
-use Rattle.builder.specs.Build.{buildWords, buildColours, buildRoot}
 use Rattle.builder_laws.specs.Input.{Input}
 use Rattle.builder_laws.specs.Built.{Built}
 use Rattle.builder_laws.proofs.Tests.{tests-sound, tests-complete}

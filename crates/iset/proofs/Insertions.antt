@@ -57,7 +57,8 @@ module _ (m : Map) (W C : List ℕ) (e : Entry) where
   pub tree-before : insertNumber m W C e ≡ 0 → Passes W C (m .count) (m .root)
   tree-before z = check-zero m W C (accepts z .1) .1
 
-  pub inserts : (z : insertNumber m W C e ≡ 0) → Inserted W C (m .count) (m .root) e (tree-before z) (insertRule W C (m .count) (m .root) e)
-  inserts z =
+  -- what the rule gives; `inserts` of Demands says it of the call
+  pub by-rule : (z : insertNumber m W C e ≡ 0) → Inserted W C (m .count) (m .root) e (tree-before z) (insertRule W C (m .count) (m .root) e)
+  by-rule z =
       let h : m .count < held = accepts z .0 in
       inserted W C (m .count) (m .root) e (omega arith) (omega arith) (omega arith) (accepts z .2) (tree-before z)

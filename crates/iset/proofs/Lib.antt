@@ -10,3 +10,4 @@ pub mod Refusals
 pub mod Below
 pub mod Laws
 pub mod Determined
+pub mod Demands

@@ -31,7 +31,7 @@ use Rattle.iter.specs.declared.rules.Query.{Query}
 use Rattle.iter.specs.declared.rules.Query.the-variants.{Overlap, Exact}
 use Rattle.iter.proofs.Ways.{form-placed}
 use Rattle.iset.specs.Check.{checkNumber, checkRule}
-use Rattle.iset.specs.Lookup.{ordered, queryNumber, beginning, formNumber, startNumber, stepNumber, drainNumber, StartAnswer, StepAnswer, stepAnswer, refusedStep, DrainAnswer, drainAnswer, refusedDrain}
+use Rattle.iset.specs.Lookup.{ordered, queryNumber, beginning, formNumber, startNumber, stepNumber, drainNumber, StartAnswer, stepAnswer, refusedStep, DrainAnswer, drainAnswer, refusedDrain}
 use Rattle.iset.specs.declared.Map.{Map}
 use Rattle.iset.specs.declared.Checked.{Checked}
 use Rattle.iset.specs.declared.Checked.the-variants.{Sound, Refused}

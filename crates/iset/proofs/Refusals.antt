@@ -159,7 +159,7 @@ module _ (W C S : List ℕ) where
       let (k, a, b, f) = every-fails (inOrder S) (count S - 1) 0 e in
       (k, omega arith, λ h. true≢false (sym (le-complete (intervalOf S k) (intervalOf S (k + 1)) (rw (add-one k) h)) ∙ f))
 
-  build-no : buildRule W C S .no ≡ buildNumber (length W) (length C) S
+  pub build-no : buildRule W C S .no ≡ buildNumber (length W) (length C) S
   unfolding buildRule
   build-no = number-is (λ (a : BuildAnswer). a .no) (buildNumber (length W) (length C) S) _ _ refl refl
 
@@ -203,7 +203,7 @@ module _ (W C S : List ℕ) where
 
 -- A removal.
 module _ (m : Map) (W C : List ℕ) (s : ℕ) where
-  remove-no : removeCall m W C s .no ≡ removeNumber m W C s
+  pub remove-no : removeCall m W C s .no ≡ removeNumber m W C s
   unfolding removeCall
   remove-no = number-is (λ (a : RemoveAnswer). a .no) (removeNumber m W C s) _ _ refl refl
 
@@ -228,7 +228,7 @@ module _ (m : Map) (W C : List ℕ) (e : Entry) where
   abbrev held : ℕ
   held = room (length W) (length C)
 
-  insert-no : insertCall m W C e .no ≡ insertNumber m W C e
+  pub insert-no : insertCall m W C e .no ≡ insertNumber m W C e
   unfolding insertCall
   insert-no = number-is (λ (a : InsertAnswer). a .no) (insertNumber m W C e) _ _ refl refl
 
@@ -257,26 +257,27 @@ module _ (m : Map) (W C : List ℕ) (e : Entry) where
       let f : insertNumber m W C e ≡ 0 → ⊥ = λ z. d (insert-no ∙ z) in
       (rw insert-no (kept (insertNumber m W C e) _ _ f), kept (insertNumber m W C e) _ _ f, kept (insertNumber m W C e) _ _ f)
 
+-- BadRange, as the test of the bounds has it
+ordered-not : (x y : Bound) → ordered x y ≡ true → BadRange x y → ⊥
+ordered-not (Included a) (Included b) e p = omega (arith, leb-true a b e)
+ordered-not (Included a) (Excluded b) e p = omega (arith, ltb-true a b e)
+ordered-not (Included a) Unbounded e p = p
+ordered-not (Excluded a) (Included b) e p = omega (arith, ltb-true a b e)
+ordered-not (Excluded a) (Excluded b) e p = omega (arith, ltb-true a b e)
+ordered-not (Excluded a) Unbounded e p = p
+ordered-not Unbounded y e p = p
+
+pub disordered : (x y : Bound) → ordered x y ≡ false → BadRange x y
+disordered (Included a) (Included b) e = leb-false a b e
+disordered (Included a) (Excluded b) e = ltb-false a b e
+disordered (Included a) Unbounded e = absurd (true≢false e)
+disordered (Excluded a) (Included b) e = ltb-false a b e
+disordered (Excluded a) (Excluded b) e = ltb-false a b e
+disordered (Excluded a) Unbounded e = absurd (true≢false e)
+disordered Unbounded y e = absurd (true≢false e)
+
 -- A lookup's range or interval, and its cursor.
 module _ (m : Map) (W C : List ℕ) where
-  ordered-not : (x y : Bound) → ordered x y ≡ true → BadRange x y → ⊥
-  ordered-not (Included a) (Included b) e p = omega (arith, leb-true a b e)
-  ordered-not (Included a) (Excluded b) e p = omega (arith, ltb-true a b e)
-  ordered-not (Included a) Unbounded e p = p
-  ordered-not (Excluded a) (Included b) e p = omega (arith, ltb-true a b e)
-  ordered-not (Excluded a) (Excluded b) e p = omega (arith, ltb-true a b e)
-  ordered-not (Excluded a) Unbounded e p = p
-  ordered-not Unbounded y e p = p
-
-  disordered : (x y : Bound) → ordered x y ≡ false → BadRange x y
-  disordered (Included a) (Included b) e = leb-false a b e
-  disordered (Included a) (Excluded b) e = ltb-false a b e
-  disordered (Included a) Unbounded e = absurd (true≢false e)
-  disordered (Excluded a) (Included b) e = ltb-false a b e
-  disordered (Excluded a) (Excluded b) e = ltb-false a b e
-  disordered (Excluded a) Unbounded e = absurd (true≢false e)
-  disordered Unbounded y e = absurd (true≢false e)
-
   -- the rows of a query alone
   abbrev queryRow : Query → Rows
   queryRow (Overlap q) = refuse 4 (BadRange (q .lo) (q .hi)) accept

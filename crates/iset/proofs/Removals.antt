@@ -1,6 +1,6 @@
 -- What a removal guarantees: it is refused exactly as document 01's table says, and what it leaves passes the check, holds the other
 -- entries in their order, and names exactly those that changed slot.
-use mathlib.Core.Path.{_≡_, refl, sym, _∙_}
+use mathlib.Core.Path.{_≡_, refl}
 use mathlib.Core.Bool.{Bool, true, false, cond}
 use mathlib.Core.List.{List}
 use Prim.Native.Nat.{ℕ, _<_, _≤_}
@@ -47,7 +47,8 @@ module _ (m : Map) (W C : List ℕ) (s : ℕ) where
   pub tree-before : removeNumber m W C s ≡ 0 → Passes W C (m .count) (m .root)
   tree-before e = check-zero m W C (accepts e .0) .1
 
-  pub removes : (e : removeNumber m W C s ≡ 0) → Removed W C (m .count) (m .root) s (tree-before e) (removeRule W C (m .count) (m .root) s)
-  removes e =
+  -- what the rule gives; `removes` of Demands says it of the call
+  pub by-rule : (e : removeNumber m W C s ≡ 0) → Removed W C (m .count) (m .root) s (tree-before e) (removeRule W C (m .count) (m .root) s)
+  by-rule e =
       let h : m .count ≤ room (length W) (length C) = check-zero m W C (accepts e .0) .0 in
       removed W C (m .count) (m .root) s (omega arith) (omega arith) (omega arith) (accepts e .1) (tree-before e)

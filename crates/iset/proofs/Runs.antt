@@ -1,6 +1,6 @@
 -- Demand 3, said of the public calls: any steps and drains one after the other, in any mixture, with any limits and any outputs, from the fresh
 -- cursor on an unchanged store that passes the check, over a range, or for an interval, that is accepted.
-use mathlib.Core.Path.{_≡_, refl, ap, _∙_}
+use mathlib.Core.Path.{_≡_, refl, sym, ap, _∙_}
 use mathlib.Core.Bool.{Bool, true, false, cond}
 use mathlib.Core.List.{List, [], _∷_, _++_, append-nil}
 use Prim.Native.Nat.{ℕ, _≤_}
@@ -9,17 +9,17 @@ use native.Mathlib.Nat.{add-zero}
 use lib.ListN.{length}
 use lib.Seq.{take-append-seam}
 use lib.Dec.{ltb}
-use borrow.Author.Tests.{eq-eqb, le-ltb}
+use borrow.Author.Tests.{eq-eqb, le-ltb, lt-ltb}
 use Rattle.words.specs.Ix.{U}
 use Rattle.words.specs.Nodes.{par}
 use Rattle.words.specs.declared.interval.Interval.{Interval}
 use Rattle.words.specs.declared.interval.Span.{Span}
-use Rattle.tree.specs.Tree.{Tree, leaf}
+use Rattle.tree.specs.Tree.{Tree, leaf, node}
 use Rattle.tree.specs.Tree as tree
 use Rattle.tree.specs.Passes.{Passes}
 use Rattle.tree.proofs.Checked.{tree-low}
 use Rattle.iter.specs.Lists.{when, those}
-use Rattle.iter.specs.Cursors.{fresh, ended}
+use Rattle.iter.specs.Cursors.{fresh}
 use Rattle.iter.specs.Forms.{formOf}
 use Rattle.iter.specs.Overlap.{meets}
 use Rattle.iter.specs.Exact.{equals}
@@ -35,16 +35,18 @@ use Rattle.iter.specs.declared.rules.Query.{Query}
 use Rattle.iter.specs.declared.rules.Query.the-variants.{Overlap, Exact}
 use Rattle.iter.proofs.Drains.{drain-count, drain-split}
 use Rattle.iter_laws.specs.Entered.{entered, overlapRule, exactRule}
-use Rattle.iter_laws.specs.Highest.{Highest}
 use Rattle.iter_laws.proofs.Walks.{Walk}
 use Rattle.iter_laws.proofs.Fresh.{fresh-run, fresh-hits}
 use Rattle.iter_laws.proofs.Parts.{calls-split, Formed, drain-formed, formed-low, slots-end, nodes-parts, nodes-end}
 use Rattle.iter_laws.proofs.Overlaps.{overlap-walk}
 use Rattle.iter_laws.proofs.OverlapRuns.{overlap-each, overlap-bound}
-use Rattle.iter_laws.proofs.ExactRuns.{exact-each, start-tree, walk-below, walk-none}
-use Rattle.iset.specs.Lookup.{beginning, formNumber, startNumber, stepNumber, drainNumber, startCall, stepCall, drainCall, drainOutput}
-use Rattle.iset.specs.Runs.{Ask, step, drain, Given, given, Run, run, short, wanted, total, Sound, AllSound, Hold, NoneRefused, OverlapRun, ExactRun}
+use Rattle.iter_laws.proofs.ExactRuns.{exact-start, exact-each, walk-below, all-below, walk-none}
+use Rattle.iset.specs.Check.{checkRule}
+use Rattle.iset.specs.Lookup.{ordered, queryNumber, beginning, formNumber, startNumber, stepNumber, drainNumber, startCall, stepCall, drainCall, drainOutput}
+use Rattle.iset.specs.Runs.{Ask, step, drain, Given, given, Run, run, short, wanted, total, Sound, AllSound, Hold, NoneRefused, Lookup, OverlapRun, Begins, at-highest, no-equal, ExactRun}
+use Rattle.iset.specs.Refusals.{BadRange, BadInterval}
 use Rattle.iset.specs.declared.Map.{Map}
+use Rattle.iset.proofs.Refusals.{disordered}
 use Rattle.iset.proofs.Lookups.{step-accepts, not-bad}
 use Rattle.iset.proofs.Found.{tree-of, few, fresh-accepted}
 
@@ -177,116 +179,112 @@ module _ (m : Map) (W C : List ℕ) (q : Query) (start : startNumber m W C q ≡
         calls-split W n Q (w .small) (wanted x) (total l) c,
       )
 
--- overlap lookup
-module _ (m : Map) (W C : List ℕ) (q : Span) (e : startNumber m W C (Overlap q) ≡ 0) where
-  abbrev P : Passes W C (m .count) (m .root)
-  P = tree-of m W C (Overlap q) e
+  -- from the fresh cursor
+  pub looked : (l : List Ask) → Lookup m W C q (fresh k) (those (Q .match) (tree.slots t)) (entered E t) l
+  looked l =
+      let a : Accepted (fresh k) = fresh-accepted m W C q start in
+      let is : run m W C q (fresh k) l ≡ whole (total l) (fresh k) = run-is l (fresh k) a in
+      record {
+        sound = all-sound l (fresh k) a;
+        none-refused = all-accepted l (fresh k) a;
+        slots-first = rw is (fresh-hits W n Q E p k t w (total l));
+        slots-all = λ i. rw is (slots-end W n Q E p k t w (total l) (rw is at i));
+        nodes-first = rw is (_, nodes-parts W n Q E p k t w (total l));
+        nodes-all = λ i. rw is (nodes-end W n Q E p k t w (total l) (rw is at i));
+        counted = rw is (drain-count W n Q (total l) (fresh k));
+        ends = λ i. rw (is, fresh-run W n Q E p k t w (total l) i);
+      }
 
+-- what is accepted
+module _ (m : Map) (W C : List ℕ) (sound : checkRule m W C ≡ 0) where
+  started : (q : Query) → queryNumber q ≡ 0 → startNumber m W C q ≡ 0
+  unfolding startNumber
+  started q e = rw (sound, e)
+
+  range-started : (q : Span) → (BadRange (q .lo) (q .hi) → ⊥) → startNumber m W C (Overlap q) ≡ 0
+  range-started q d = started (Overlap q) (go (ordered (q .lo) (q .hi)) refl)
+    where
+      go : (b : Bool) → ordered (q .lo) (q .hi) ≡ b → _≡_ {A = ℕ} (cond b 0 4) 0
+      go true e = refl
+      go false e = absurd (d (disordered (q .lo) (q .hi) e))
+
+  interval-started : (x : Interval) → (BadInterval (x .start) (x .end) → ⊥) → startNumber m W C (Exact x) ≡ 0
+  interval-started x d = started (Exact x) (rw (lt-ltb (x .start) (x .end) (omega arith)))
+
+-- overlap lookup
+module _ (m : Map) (W C : List ℕ) (q : Span) (e : startNumber m W C (Overlap q) ≡ 0) (P : Passes W C (m .count) (m .root)) where
   overlap-w : Walk W (m .count) (rules W (m .count) (Overlap q)) (overlapRule W q) U (m .root) (P .tree)
   unfolding rules
   overlap-w = overlap-walk W C (m .count) (m .root) q (few m W C (Overlap q) e) P
 
-  module _ (l : List Ask) where
-    overlap-is : run m W C (Overlap q) (fresh (m .root)) l
-        ≡ whole m W C (Overlap q) e (overlapRule W q) U (P .tree) overlap-w (total l) (fresh (m .root))
-    overlap-is = run-is m W C (Overlap q) e (overlapRule W q) U (P .tree) overlap-w l (fresh (m .root)) (fresh-accepted m W C (Overlap q) e)
+  overlap-lookup : (l : List Ask)
+      → Lookup m W C (Overlap q) (fresh (m .root)) (those (meets W q) (tree.slots (P .tree))) (entered (overlapRule W q) (P .tree)) l
+  unfolding rules
+  overlap-lookup l = looked m W C (Overlap q) e (overlapRule W q) U (P .tree) overlap-w l
 
-    pub overlap-runs : OverlapRun m W C q (tree-of m W C (Overlap q) e .tree) l (run m W C (Overlap q) (fresh (m .root)) l)
-    unfolding rules
-    overlap-runs =
-        let f : m .count ≤ 65535 = few m W C (Overlap q) e in
-        let a : stepNumber m W C (Overlap q) (fresh (m .root)) ≡ 0 = fresh-accepted m W C (Overlap q) e in
-        let n : ℕ = m .count in
-        let all : run m W C (Overlap q) (fresh (m .root)) l .next ≡ ended
-        → run m W C (Overlap q) (fresh (m .root)) l .slots ≡ those (meets W q) (tree.slots (P .tree)) =
-        λ i. rw overlap-is (slots-end W n (rules W n (Overlap q)) (overlapRule W q) U (m .root) (P .tree) overlap-w (total l) (rw overlap-is at i)) in
-        record {
-          sound = all-sound m W C (Overlap q) e (overlapRule W q) U (P .tree) overlap-w l (fresh (m .root)) a;
-          none-refused = all-accepted m W C (Overlap q) e (overlapRule W q) U (P .tree) overlap-w l (fresh (m .root)) a;
-          slots-first = rw overlap-is (fresh-hits W n (rules W n (Overlap q)) (overlapRule W q) U (m .root) (P .tree) overlap-w (total l));
-          slots-all = all;
-          once-each = λ i s h. rw (all i) (overlap-each W C n (m .root) q f P s h);
-          nodes-all = λ i. rw overlap-is
-              (nodes-end W n (rules W n (Overlap q)) (overlapRule W q) U (m .root) (P .tree) overlap-w (total l) (rw overlap-is at i));
-          counted = rw overlap-is (drain-count W n (rules W n (Overlap q)) (total l) (fresh (m .root)));
-          bound = rw (overlap-is, ← (drain-count W n (rules W n (Overlap q)) (total l) (fresh (m .root)))) (overlap-bound W C n (m .root) q f P (total l));
-          low = tree-low W C n (m .root) P f;
-          ends = λ i. rw (overlap-is, fresh-run W n (rules W n (Overlap q)) (overlapRule W q) U (m .root) (P .tree) overlap-w (total l) i);
-        }
+-- Demand 3, of the public calls.
+pub overlap-runs : (m : Map) (W C : List ℕ) (q : Span) → checkRule m W C ≡ 0 → (BadRange (q .lo) (q .hi) → ⊥)
+    → (P : Passes W C (m .count) (m .root)) (l : List Ask) → OverlapRun m W C q (P .tree) l
+unfolding rules
+overlap-runs m W C q sound ranged P l =
+    let e : startNumber m W C (Overlap q) ≡ 0 = range-started m W C sound q ranged in
+    let f : m .count ≤ 65535 = few m W C (Overlap q) e in
+    let L = overlap-lookup m W C q e P l in
+    let is = run-is m W C (Overlap q) e (overlapRule W q) U (P .tree) (overlap-w m W C q e P) l (fresh (m .root)) (fresh-accepted m W C (Overlap q) e) in
+    record {
+      lookup = L;
+      once-each = overlap-each W C (m .count) (m .root) q f P;
+      bound = rw (← (L .counted), is) (overlap-bound W C (m .count) (m .root) q f P (total l));
+      low = tree-low W C (m .count) (m .root) P f;
+    }
 
--- exact lookup
-no-first : (xs ys : List ℕ) → xs ++ ys ≡ [] → xs ≡ []
-no-first [] ys e = refl
-no-first (x ∷ xs) ys e = absurd (omega (arith, ap length e))
+-- exact lookup: it "starts at the highest equal node"
+pub exact-fresh : (m : Map) (W C : List ℕ) (x : Interval) → startNumber m W C (Exact x) ≡ 0 → startCall m W C x .cursor ≡ fresh (beginning m W (Exact x))
+unfolding startCall
+exact-fresh m W C x e = rw (eq-eqb (startNumber m W C (Exact x)) 0 e)
 
-module _ (m : Map) (W C : List ℕ) (x : Interval) (e : startNumber m W C (Exact x) ≡ 0) where
-  abbrev R : Passes W C (m .count) (m .root)
-  R = tree-of m W C (Exact x) e
-
+module _ (m : Map) (W C : List ℕ) (x : Interval) (e : startNumber m W C (Exact x) ≡ 0) (P : Passes W C (m .count) (m .root)) where
   abbrev b : ℕ
   b = beginning m W (Exact x)
 
   abbrev Z : Rules
   Z = rules W (m .count) (Exact x)
 
-  -- "Exact lookup starts at the highest equal node"
-  pub exact-fresh : startCall m W C x .cursor ≡ fresh (beginning m W (Exact x))
-  unfolding startCall
-  exact-fresh = rw (eq-eqb (startNumber m W C (Exact x)) 0 e)
-
   small : m .count ≤ 65535
   small = few m W C (Exact x) e
 
-  from-tree : {X : Type 0} → ((p : ℕ) (t : Tree) → Walk W (m .count) Z (exactRule W x) p b t
-      → those (equals W x) (tree.slots t) ≡ those (equals W x) (tree.slots (R .tree)) → X) → X
+  -- the tree that it goes through, and the walk through it; all equal entries are in it
+  from-tree : {X : Type 0} → ((p : ℕ) (t : Tree) → Begins W x (P .tree) b t → Walk W (m .count) Z (exactRule W x) p b t
+      → those (equals W x) (tree.slots t) ≡ those (equals W x) (tree.slots (P .tree)) → X) → X
   unfolding rules
-  from-tree = start-tree W C (m .count) (m .root) x small R
+  from-tree f =
+      exact-start W C (m .count) (m .root) x small P
+      (λ i a. f U leaf (no-equal i a) (walk-none W C (m .count) (m .root) x small P b i) (sym a))
+      (λ h. f (par W b) (node (h .left) b (h .right)) (at-highest h) (walk-below W C (m .count) (m .root) x small P b h)
+      (all-below W C (m .count) (m .root) x small P b h))
 
-  highest-w : (h : Highest W x (R .tree) b) → Walk W (m .count) Z (exactRule W x) (par W b) b (tree.node (h .left) b (h .right))
-  unfolding rules
-  highest-w h = walk-below W C (m .count) (m .root) x small R b h
-
-  none-w : b ≡ U → Walk W (m .count) Z (exactRule W x) U b leaf
-  unfolding rules
-  none-w i = walk-none W C (m .count) (m .root) x small R b i
-
-  module _ (l : List Ask) (p : ℕ) (t : Tree) (w : Walk W (m .count) Z (exactRule W x) p b t)
-      (same : those (equals W x) (tree.slots t) ≡ those (equals W x) (tree.slots (R .tree))) where
-    exact-is : run m W C (Exact x) (startCall m W C x .cursor) l ≡ whole m W C (Exact x) e (exactRule W x) p t w (total l) (fresh b)
-    exact-is = rw exact-fresh (run-is m W C (Exact x) e (exactRule W x) p t w l (fresh b) (fresh-accepted m W C (Exact x) e))
-
-    exact-by : ExactRun m W C x (R .tree) l (run m W C (Exact x) (startCall m W C x .cursor) l)
-    unfolding rules
-    exact-by =
-        let n : ℕ = m .count in
-        let a : stepNumber m W C (Exact x) (startCall m W C x .cursor) ≡ 0 = rw exact-fresh (fresh-accepted m W C (Exact x) e) in
-        let all : run m W C (Exact x) (startCall m W C x .cursor) l .next ≡ ended
-        → run m W C (Exact x) (startCall m W C x .cursor) l .slots ≡ those (equals W x) (tree.slots (R .tree)) =
-        λ i. rw exact-is (slots-end W n Z (exactRule W x) p b t w (total l) (rw exact-is at i) ∙ same) in
-        record {
-          sound = all-sound m W C (Exact x) e (exactRule W x) p t w l (startCall m W C x .cursor) a;
-          none-refused = all-accepted m W C (Exact x) e (exactRule W x) p t w l (startCall m W C x .cursor) a;
-          slots-first = rw exact-is (fresh-hits W n Z (exactRule W x) p b t w (total l) ∙ rw same);
-          slots-all = all;
-          once-each = λ i s h. rw (all i) (exact-each W C n (m .root) x small R s h);
-          nodes-all = λ i h. rw exact-is
-              (nodes-end W n Z (exactRule W x) (par W b) b (tree.node (h .left) b (h .right)) (highest-w h) (total l) (rw exact-is at i));
-          nodes-none = λ i. rw exact-is
-              (no-first (calls W n Z (total l) (fresh b)) _ (nodes-parts W n Z (exactRule W x) U b leaf (none-w i) (total l)));
-          counted = rw exact-is (drain-count W n Z (total l) (fresh b));
-          low = tree-low W C n (m .root) R small;
-          ends = λ i. rw (exact-is, fresh-run W n Z (exactRule W x) p b t w (total l) (rw same i));
-        }
-
-  pub exact-runs : (l : List Ask) → ExactRun m W C x (tree-of m W C (Exact x) e .tree) l (run m W C (Exact x) (startCall m W C x .cursor) l)
-  exact-runs l = from-tree (exact-by l)
+pub exact-runs : (m : Map) (W C : List ℕ) (x : Interval) → checkRule m W C ≡ 0 → (BadInterval (x .start) (x .end) → ⊥)
+    → (P : Passes W C (m .count) (m .root)) (l : List Ask) → ExactRun m W C x (P .tree) l
+unfolding rules
+exact-runs m W C x sound proper P l =
+    let e : startNumber m W C (Exact x) ≡ 0 = interval-started m W C sound x proper in
+    let f : m .count ≤ 65535 = few m W C (Exact x) e in
+    from-tree m W C x e P (λ p t B w same.
+    record {
+      below = t;
+      begins = B;
+      lookup = rw (exact-fresh m W C x e, ← same) (looked m W C (Exact x) e (exactRule W x) p t w l);
+      once-each = exact-each W C (m .count) (m .root) x f P;
+      low = tree-low W C (m .count) (m .root) P f;
+    })
 
 -- a cursor that is accepted leads to one that is accepted, by any call that is made of it
 pub cursor-accepted : (m : Map) (W C : List ℕ) (q : Query) (c : Cursor) (x : Ask) → stepNumber m W C q c ≡ 0
     → stepNumber m W C q (given m W C q c x .next) ≡ 0
 cursor-accepted m W C (Overlap q) c x e =
     let s : startNumber m W C (Overlap q) ≡ 0 = step-accepts m W C (Overlap q) c e .0 in
-    next-accepted m W C (Overlap q) s (overlapRule W q) U (tree-of m W C (Overlap q) s .tree) (overlap-w m W C q s) x c e
+    let P = tree-of m W C (Overlap q) s in
+    next-accepted m W C (Overlap q) s (overlapRule W q) U (P .tree) (overlap-w m W C q s P) x c e
 cursor-accepted m W C (Exact i) c x e =
     let s : startNumber m W C (Exact i) ≡ 0 = step-accepts m W C (Exact i) c e .0 in
-    from-tree m W C i s (λ p t w z. next-accepted m W C (Exact i) s (exactRule W i) p t w x c e)
+    from-tree m W C i s (tree-of m W C (Exact i) s) (λ p t B w z. next-accepted m W C (Exact i) s (exactRule W i) p t w x c e)

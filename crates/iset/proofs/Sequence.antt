@@ -104,7 +104,7 @@ module _ (m : Map) (W C : List ℕ) where
         (refusedRemoval m (removeNumber m W C s)) (R .store .words) W (R .store .colours) C
         (λ e. let i : Inside (m .count) W C (R .store) = removed-inside W C (m .count) (m .root) s (removals.accepts m W C s e .1) in
         zero-check (record { count = m .count - 1; root = R .store .root }) (R .store .words) (R .store .colours)
-        (rw (i .words-length, i .colours-length) (omega (arith, fits))) (removals.removes m W C s e .passes))
+        (rw (i .words-length, i .colours-length) (omega (arith, fits))) (removals.by-rule m W C s e .passes))
         h
 
     insert-sound : (e : Entry) → Sound (answered S (insert e))
@@ -115,7 +115,7 @@ module _ (m : Map) (W C : List ℕ) where
         (refusedInsertion m (insertNumber m W C e)) (R .words) W (R .colours) C
         (λ z. let i : Inside (m .count + 1) W C R = inserted-inside W C (m .count) (m .root) e in
         zero-check (record { count = m .count + 1; root = R .root }) (R .words) (R .colours)
-        (rw (i .words-length, i .colours-length) (omega (arith, insertions.accepts m W C e z .0))) (insertions.inserts m W C e z .passes))
+        (rw (i .words-length, i .colours-length) (omega (arith, insertions.accepts m W C e z .0))) (insertions.by-rule m W C e z .passes))
         h
 
     answered-sound : (x : Call) → Sound (answered S x)

@@ -8,3 +8,4 @@ pub mod Lookup
 pub mod Runs
 pub mod Refusals
 pub mod Below
+pub mod Demands

@@ -1,7 +1,7 @@
 -- A lookup on an unchanged store, by public calls one after the other, each from the cursor that the last one answered: steps and drains in any
 -- mixture, drains with any limit and any output.
 use mathlib.Core.Path.{_≡_}
-use mathlib.Core.Bool.{cond}
+use mathlib.Core.Bool.{Bool, cond}
 use mathlib.Core.List.{List, [], _∷_, _++_}
 use Prim.Native.Nat.{ℕ, _+_, _-_, _*_, _/_, _<_, _≤_}
 use lib.ListN.{length, take}
@@ -9,9 +9,8 @@ use lib.Dec.{eqb, ltb}
 use Rattle.words.specs.Ix.{U}
 use Rattle.words.specs.declared.interval.Interval.{Interval}
 use Rattle.words.specs.declared.interval.Span.{Span}
-use Rattle.tree.specs.Tree.{Tree, node, slots, height}
+use Rattle.tree.specs.Tree.{Tree, leaf, node, height, times}
 use Rattle.tree.specs.Tree as tree
-use Rattle.tree.proofs.Slots.{times}
 use Rattle.iter.specs.Lists.{when, those}
 use Rattle.iter.specs.Cursors.{fresh, ended}
 use Rattle.iter.specs.Overlap.{meets}
@@ -116,36 +115,46 @@ abbrev pub NoneRefused : Map → List ℕ → List ℕ → Query → Cursor → 
 NoneRefused m W C q c [] = Unit {0}
 NoneRefused m W C q c (x ∷ l) = (given m W C q c x .no ≡ 0) × NoneRefused m W C q (given m W C q c x .next) l
 
--- Demand 3, in a map whose tree is t: the calls of l from the fresh cursor of an overlap lookup.
-pub record OverlapRun (m : Map) (W C : List ℕ) (q : Span) (t : Tree) (l : List Ask) (r : Run) : Type 0 where
-  -- each call as above; none is refused where the outputs hold the limits
-  pub sound : AllSound m W C (Overlap q) (fresh (m .root)) l
-  pub none-refused : Hold l → NoneRefused m W C (Overlap q) (fresh (m .root)) l
-  -- "It hands out exactly the intersecting entries, in tree order, once each": at the end all of them, before it the first
-  pub slots-first : r .slots ≡ take (total l) (those (meets W q) (tree.slots t))
-  pub slots-all : r .next ≡ ended → r .slots ≡ those (meets W q) (tree.slots t)
-  pub once-each : r .next ≡ ended → (s : ℕ) → s < m .count → times s (r .slots) ≡ cond (meets W q s) 1 0
-  -- "The nodes it enters are exactly those that the pruning rules name"
-  pub nodes-all : r .next ≡ ended → r .nodes ≡ entered (overlapRule W q) t
-  -- "and number at most h + t × h × (h - 1) / 2": at the end and before it
-  pub counted : r .entered ≡ length (r .nodes)
-  pub bound : length (r .nodes) ≤ height t + touching W q t * (height t * (height t - 1)) / 2
-  -- "h never passes 32"
-  pub low : height t ≤ 32
-  -- it is at the end as soon as more hits were asked for than there are
-  pub ends : length (those (meets W q) (tree.slots t)) < total l → r .next ≡ ended
+-- A lookup for q by the calls of l, one after the other from the cursor c. `found` lists the slots that are looked for, in tree order; `named` lists
+-- the nodes that the entered rule names, in the order in which the walk enters them.
+pub record Lookup (m : Map) (W C : List ℕ) (q : Query) (c : Cursor) (found named : List ℕ) (l : List Ask) : Type 0 where
+  -- each call as above; none is refused if every output holds its drain's limit
+  pub sound : AllSound m W C q c l
+  pub none-refused : Hold l → NoneRefused m W C q c l
+  -- the hits of all calls together: before the end the first of `found`, at the end exactly all of them
+  pub slots-first : run m W C q c l .slots ≡ take (total l) found
+  pub slots-all : run m W C q c l .next ≡ ended → run m W C q c l .slots ≡ found
+  -- the nodes entered in all calls together: before the end the first of `named`, at the end exactly all of them
+  pub nodes-first : (rest : List ℕ) × (run m W C q c l .nodes ++ rest ≡ named)
+  pub nodes-all : run m W C q c l .next ≡ ended → run m W C q c l .nodes ≡ named
+  -- the sum of the answered counts is the number of these nodes
+  pub counted : run m W C q c l .entered ≡ length (run m W C q c l .nodes)
+  -- the lookup is at its end as soon as more hits were asked for than there are
+  pub ends : length found < total l → run m W C q c l .next ≡ ended
 
--- The same of the calls from the cursor that `Map::fresh_exact` answers. Nodes are entered from the highest equal node on.
-pub record ExactRun (m : Map) (W C : List ℕ) (x : Interval) (t : Tree) (l : List Ask) (r : Run) : Type 0 where
-  pub sound : AllSound m W C (Exact x) (startCall m W C x .cursor) l
-  pub none-refused : Hold l → NoneRefused m W C (Exact x) (startCall m W C x .cursor) l
-  pub slots-first : r .slots ≡ take (total l) (those (equals W x) (tree.slots t))
-  pub slots-all : r .next ≡ ended → r .slots ≡ those (equals W x) (tree.slots t)
-  pub once-each : r .next ≡ ended → (s : ℕ) → s < m .count → times s (r .slots) ≡ cond (equals W x s) 1 0
-  pub nodes-all : r .next ≡ ended → (h : Highest W x t (beginning m W (Exact x)))
-      → r .nodes ≡ entered (exactRule W x) (node (h .left) (beginning m W (Exact x)) (h .right))
-  -- where no entry is equal none is entered
-  pub nodes-none : beginning m W (Exact x) ≡ U → r .nodes ≡ []
-  pub counted : r .entered ≡ length (r .nodes)
+-- each slot below n stands in `found` once if p says so, and else not at all
+abbrev pub OnceEach : ℕ → (ℕ → Bool) → List ℕ → Type 0
+OnceEach n p found = (s : ℕ) → s < n → times s found ≡ cond (p s) 1 0
+
+-- Demand 3: "An overlap lookup from fresh to end on an unchanged checked store of height h hands out exactly the intersecting entries, in tree order,
+-- once each; the nodes it enters are exactly those the pruning rules name, at most h + t·h·(h-1)/2, t the entries that meet or touch; h ≤ 32".
+-- The tree of the store is t.
+pub record OverlapRun (m : Map) (W C : List ℕ) (q : Span) (t : Tree) (l : List Ask) : Type 0 where
+  pub lookup : Lookup m W C (Overlap q) (fresh (m .root)) (those (meets W q) (tree.slots t)) (entered (overlapRule W q) t) l
+  pub once-each : OnceEach (m .count) (meets W q) (those (meets W q) (tree.slots t))
+  -- at the end, and before it
+  pub bound : length (run m W C (Overlap q) (fresh (m .root)) l .nodes) ≤ height t + touching W q t * (height t * (height t - 1)) / 2
   pub low : height t ≤ 32
-  pub ends : length (those (equals W x) (tree.slots t)) < total l → r .next ≡ ended
+
+-- "Exact lookup starts at the highest equal node, U if none": it starts at the slot k and goes through the tree u.
+pub data Begins (W : List ℕ) (x : Interval) (t : Tree) (k : ℕ) : Tree → Type 0 where
+  at-highest : (h : Highest W x t k) → Begins W x t k (node (h .left) k (h .right))
+  no-equal : k ≡ U → those (equals W x) (tree.slots t) ≡ [] → Begins W x t k leaf
+
+-- The same of an exact lookup, from the cursor that `Map::fresh_exact` answers: the equal entries, and the nodes from the highest equal one on.
+pub record ExactRun (m : Map) (W C : List ℕ) (x : Interval) (t : Tree) (l : List Ask) : Type 0 where
+  pub below : Tree
+  pub begins : Begins W x t (beginning m W (Exact x)) below
+  pub lookup : Lookup m W C (Exact x) (startCall m W C x .cursor) (those (equals W x) (tree.slots t)) (entered (exactRule W x) below) l
+  pub once-each : OnceEach (m .count) (equals W x) (those (equals W x) (tree.slots t))
+  pub low : height t ≤ 32

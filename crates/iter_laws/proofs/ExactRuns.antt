@@ -9,11 +9,10 @@ use lib.ListN.{length, take}
 use Rattle.words.specs.Ix.{U}
 use Rattle.words.specs.Nodes.{par}
 use Rattle.words.specs.declared.interval.Interval.{Interval}
-use Rattle.tree.specs.Tree.{Tree, leaf, node, slots, size, height, Shape}
+use Rattle.tree.specs.Tree.{Tree, leaf, node, slots, size, height, Shape, times}
 use Rattle.tree.specs.Zipper.{plug}
 use Rattle.tree.specs.Passes.{Passes}
 use Rattle.tree.proofs.Checked.{tree-size, tree-low}
-use Rattle.tree.proofs.Slots.{times}
 use Rattle.iter.specs.Cursors.{ended, fresh}
 use Rattle.iter.specs.Walk.{Rules, counts, deeper, fuel, seek, step, after}
 use Rattle.iter.specs.Drains.{drain, calls}

@@ -10,9 +10,8 @@ use lib.Dec.{eqb}
 use Rattle.words.specs.Ix.{U}
 use Rattle.words.specs.Nodes.{par}
 use Rattle.words.specs.declared.interval.Span.{Span}
-use Rattle.tree.specs.Tree.{slots, height}
+use Rattle.tree.specs.Tree.{slots, height, times}
 use Rattle.tree.specs.Passes.{Passes}
-use Rattle.tree.proofs.Slots.{times}
 use Rattle.iter.specs.Cursors.{ended, fresh}
 use Rattle.iter.specs.Walk.{Rules, counts, deeper, fuel, seek, step, after}
 use Rattle.iter.specs.Drains.{drain, calls}

@@ -4,9 +4,9 @@ use mathlib.Core.Bool.{Bool, true, false, cond}
 use mathlib.Core.List.{List, [], _∷_, _++_, append-assoc}
 use Prim.Native.Nat.{ℕ, suc, _+_, _*_, _<_, _≤_}
 use native.Mathlib.Omega.{arith}
-use Rattle.tree.specs.Tree.{Tree, leaf, node, slots, hit, size}
+use Rattle.tree.specs.Tree.{Tree, leaf, node, slots, hit, size, times}
 use Rattle.tree.specs.Passes.{Passes}
-use Rattle.tree.proofs.Slots.{hit-same, hit-cases, times, times-slots}
+use Rattle.tree.proofs.Slots.{hit-same, hit-cases, times-slots}
 use Rattle.iter_laws.specs.Place.{held}
 use Rattle.iter.specs.Walk.{Rules}
 use Rattle.iter.specs.Lists.{when, those}

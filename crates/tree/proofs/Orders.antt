@@ -11,7 +11,8 @@ use Rattle.words.specs.Nodes.{interval}
 use Rattle.words.specs.declared.interval.Interval.{Interval}
 use Rattle.tree.specs.Order.{NotAfter, Rising, RisingAt}
 use Rattle.tree.proofs.Cases.{compare}
-use Rattle.tree.proofs.Slots.{hit-cases, times}
+use Rattle.tree.specs.Tree.{times}
+use Rattle.tree.proofs.Slots.{hit-cases}
 
 pub after-self : (a : Interval) → NotAfter a a
 after-self a = record { starts = omega arith; stops = λ h. omega arith }

@@ -7,7 +7,7 @@ use Prim.Native.Nat.{ℕ, _+_, _<_, _≤_}
 use native.Mathlib.Omega.{arith}
 use lib.Dec.{eqb}
 use borrow.Author.Tests.{eq-eqb, ne-eqb, eqb-true, eqb-false}
-use Rattle.tree.specs.Tree.{Tree, leaf, node, slots, hit, occ}
+use Rattle.tree.specs.Tree.{Tree, leaf, node, slots, hit, occ, times}
 use Rattle.tree.specs.Zipper.{bin, Frame, frame, plug, occs}
 use Rattle.tree.proofs.Cases.{compare}
 
@@ -55,11 +55,6 @@ occ-bin a false x s y = omega arith
 pub occ-plug : (a : ℕ) (c : List Frame) (t : Tree) → occ a (plug c t) ≡ occs a c + occ a t
 occ-plug a [] t = omega arith
 occ-plug a (frame b s far ∷ c) t = omega (arith, occ-plug a c (bin b t s far), occ-bin a b t s far)
-
--- how often a slot stands in a list
-abbrev pub times : ℕ → List ℕ → ℕ
-times s [] = 0
-times s (a ∷ l) = hit s a + times s l
 
 pub times-append : (s : ℕ) (xs ys : List ℕ) → times s (xs ++ ys) ≡ times s xs + times s ys
 times-append s [] ys = omega arith

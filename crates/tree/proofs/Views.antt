@@ -1,7 +1,7 @@
 -- Where nothing that a slot holds changes, the view stays; and order, hulls and colours go by the view alone.
 use mathlib.Core.Path.{_≡_, refl, sym, ap, _∙_}
 use mathlib.Core.Bool.{Bool}
-use mathlib.Core.List.{List, [], _∷_, map, map-append}
+use mathlib.Core.List.{List, _∷_, map, map-append}
 use Prim.Native.Nat.{ℕ, _<_, min, max}
 use native.Mathlib.Omega.{arith}
 use Rattle.words.specs.Nodes.{start, stop, lo, hi, value, interval, hull, entry}

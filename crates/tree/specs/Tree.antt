@@ -26,6 +26,11 @@ without s (a ∷ l) = cond (eqb a s) (without s l) (a ∷ without s l)
 unfoldable pub hit : ℕ → ℕ → ℕ
 hit s a = cond (eqb s a) 1 0
 
+-- how often the slot s stands in a list
+abbrev pub times : ℕ → List ℕ → ℕ
+times s [] = 0
+times s (a ∷ l) = hit s a + times s l
+
 -- how often the slot s stands in a tree
 abbrev pub occ : ℕ → Tree → ℕ
 occ s leaf = 0

@@ -8,7 +8,8 @@ use Rattle.words.specs.Intervals.{le}
 use Rattle.words.specs.Nodes.{interval}
 use Rattle.words.specs.declared.interval.Interval.{Interval}
 use Rattle.tree.specs.Order.{NotAfter, Next, Rising}
-use Rattle.tree.proofs.Slots.{hit-same, times}
+use Rattle.tree.specs.Tree.{times}
+use Rattle.tree.proofs.Slots.{hit-same}
 use Rattle.tree.proofs.Orders.{le-sound, le-not, Before}
 use Rattle.tree_in_laws.specs.Inserted.{only, notGreater, greater}
 

@@ -14,13 +14,13 @@ use Rattle.words.specs.declared.interval.Interval.{Interval}
 use Rattle.words.specs.declared.node.Entry.{Entry}
 use Rattle.bitvec.specs.Colours.{red, dye}
 use Rattle.bitvec.proofs.Bytes.{length-setBit}
-use Rattle.tree.specs.Tree.{Tree, leaf, node, slots, hit, occ, size, height, Shape}
+use Rattle.tree.specs.Tree.{Tree, leaf, node, slots, hit, occ, size, height, Shape, times}
 use Rattle.tree.specs.Zipper.{Frame, frame, plug, occs, Above}
 use Rattle.tree.specs.Order.{RisingAt}
 use Rattle.tree.specs.Hulls.{Hulls}
 use Rattle.tree.specs.Passes.{Passes}
 use Rattle.tree.proofs.Cases.{not-any}
-use Rattle.tree.proofs.Slots.{hit-same, hit-cases, hit-zero, occ-plug, times, times-append, times-slots}
+use Rattle.tree.proofs.Slots.{hit-same, hit-cases, hit-zero, occ-plug, times-append, times-slots}
 use Rattle.tree.proofs.Frames.{shape-live, unplug-shape}
 use Rattle.tree.proofs.Sizes.{size-le}
 use Rattle.tree.proofs.Balance.{height-30, height-32}
@@ -28,6 +28,7 @@ use Rattle.tree.proofs.Checked.{slot-live, slot-once, tree-size}
 use Rattle.tree_rm_laws.specs.Links.{fixUp}
 use Rattle.tree_rm_laws.specs.Repair.{Next, done, again}
 use Rattle.tree_rm_laws.specs.Remove.{Store, ending}
+use Rattle.tree_rm_laws.proofs.Enough.{fixUp-more}
 use Rattle.tree_rm_laws.proofs.Paint.{paint, paint-same, red-dye}
 use Rattle.tree_rm_laws.proofs.Fits.{plug-fits}
 use Rattle.tree_rm_laws.proofs.Beside.{HullsBy, occs-parts, by-same, hulls-by}
@@ -41,7 +42,7 @@ use Rattle.tree_in_laws.specs.Insert.{own, hungWords, hungRoot, hung, me
 use Rattle.tree_in_laws.specs.Inserted.{notGreater, greater, Inserted, insertWith}
 use Rattle.tree_in_laws.proofs.Ways.{front, back, slots-way, front-le, back-gt}
 use Rattle.tree_in_laws.proofs.Between.{first-part, second-part, rising-between, upto-map, before-map}
-use Rattle.tree_in_laws.proofs.Enough.{Ended, mend-more, fixUp-more}
+use Rattle.tree_in_laws.proofs.Enough.{Ended, mend-more}
 use Rattle.tree_in_laws.proofs.Partly.{partly-hulls, partly-way}
 use Rattle.tree_in_laws.proofs.Reds.{Dark, reddened, paint-fits}
 use Rattle.tree_in_laws.proofs.HungWords.{kept-hung}

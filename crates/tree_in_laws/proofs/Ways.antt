@@ -8,11 +8,11 @@ use Rattle.words.specs.Ix.{U}
 use Rattle.words.specs.Intervals.{le}
 use Rattle.words.specs.Nodes.{interval, kid}
 use Rattle.words.specs.declared.interval.Interval.{Interval}
-use Rattle.tree.specs.Tree.{Tree, leaf, node, slots, hit, occ, height, Shape}
+use Rattle.tree.specs.Tree.{Tree, leaf, node, slots, hit, occ, height, Shape, times}
 use Rattle.tree.specs.Zipper.{bin, Frame, frame, plug}
 use Rattle.tree.specs.Order.{NotAfter, RisingAt}
 use Rattle.tree.proofs.Cases.{compare}
-use Rattle.tree.proofs.Slots.{hit-same, hit-cases, times, times-append, times-slots}
+use Rattle.tree.proofs.Slots.{hit-same, hit-cases, times-append, times-slots}
 use Rattle.tree.proofs.Orders.{after-trans, le-sound, le-complete, rising-left, rising-right, rising-at}
 use Rattle.tree.proofs.Frames.{open-bin}
 use Rattle.tree_rm_laws.proofs.Links.{on-slot, on-none, not-not}

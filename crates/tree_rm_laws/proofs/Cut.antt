@@ -7,11 +7,11 @@ use native.Mathlib.Omega.{arith}
 use lib.ListN.{length}
 use Rattle.words.specs.Ix.{U, onLink}
 use Rattle.words.specs.Nodes.{par, entry}
-use Rattle.tree.specs.Tree.{Tree, slots, without, hit, occ, size, height, Shape, leaf}
+use Rattle.tree.specs.Tree.{Tree, slots, without, hit, occ, size, height, Shape, leaf, times}
 use Rattle.tree.specs.Zipper.{bin, Frame, plug, occs, Above, frame}
 use Rattle.tree.specs.Hulls.{Hulls}
 use Rattle.tree.specs.Hues.{rootRed, Hues}
-use Rattle.tree.proofs.Slots.{hit-same, occ-plug, times, times-append, times-slots}
+use Rattle.tree.proofs.Slots.{hit-same, occ-plug, times-append, times-slots}
 use Rattle.tree.proofs.Frames.{shape-live, unplug-shape}
 use Rattle.tree.proofs.Sizes.{size-le}
 use Rattle.tree.proofs.Balance.{height-32}

@@ -10,10 +10,10 @@ use borrow.Author.Tests.{le-leb}
 use Rattle.words.specs.Ix.{U, onLink}
 use Rattle.words.specs.Nodes.{kid, par, fix}
 use Rattle.bitvec.specs.Colours.{red, dye}
-use Rattle.tree.specs.Tree.{Tree, slots, occ, hit, height, Shape, leaf, node}
+use Rattle.tree.specs.Tree.{Tree, slots, occ, hit, height, Shape, leaf, node, times}
 use Rattle.tree.specs.Zipper.{bin, Frame, frame, plug, occs, Above}
 use Rattle.tree.specs.Passes.{Passes}
-use Rattle.tree.proofs.Slots.{hit-same, times}
+use Rattle.tree.proofs.Slots.{hit-same}
 use Rattle.tree.proofs.Frames.{above-keep, unplug-shape}
 use Rattle.tree.proofs.Checked.{slot-once, tree-low}
 use Rattle.tree_rm_laws.specs.Links.{redirected, removeChild, redirect, rootAfter, fixUp}
@@ -64,7 +64,7 @@ repair-more n x base (suc turns) (suc m) W C r ix h e = go (λ W C r ix. repair-
     go rec (again W C r ix) e = rec W C r ix e
 
 -- the way up from p, where it is not longer
-fixUp-more : (c : List Frame) (height m : ℕ) (W : List ℕ) (n r p k : ℕ) → n ≤ 65535 → length c ≤ height → height ≤ m → Above W n r c p k
+pub fixUp-more : (c : List Frame) (height m : ℕ) (W : List ℕ) (n r p k : ℕ) → n ≤ 65535 → length c ≤ height → height ≤ m → Above W n r c p k
     → fixUp n m W p ≡ fixUp n height W p
 unfolding fixUp
 fixUp-more [] height m W n r p k small l h a =

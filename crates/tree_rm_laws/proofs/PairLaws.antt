@@ -8,9 +8,9 @@ use native.Mathlib.Omega.{arith}
 use lib.Dec.{eqb, leb, ltb}
 use borrow.Author.Tests.{eqb-false, eq-eqb, ne-eqb, ltb-true, ltb-false, leb-false, lt-leb}
 use Rattle.words.specs.Ix.{U}
-use Rattle.tree.specs.Tree.{hit}
+use Rattle.tree.specs.Tree.{hit, times}
 use Rattle.tree.proofs.Cases.{compare}
-use Rattle.tree.proofs.Slots.{hit-same, hit-ne, hit-cases, hit-zero, times}
+use Rattle.tree.proofs.Slots.{hit-same, hit-ne, hit-cases, hit-zero}
 use Rattle.tree_rm_laws.specs.Pairs.{none, emptied, home, named, lower, upper, sorted, moved}
 use Rattle.tree_rm_laws.specs.declared.pairs.Pair.{Pair}
 use Rattle.tree_rm_laws.specs.Names.{changed, same, tally, Rest, Names}

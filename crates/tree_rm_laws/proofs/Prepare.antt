@@ -12,10 +12,10 @@ use Rattle.words.proofs.Nodes.{length-swap, word-swap, word-swap-slot, entry-sw
 use Rattle.words.specs.declared.node.Field.the-variants.{Child, Parent}
 use Rattle.bitvec.specs.Colours.{red}
 use Rattle.bitvec.proofs.Bytes.{length-setBit, setBit-idle}
-use Rattle.tree.specs.Tree.{Tree, slots, without, hit, leaf, node}
+use Rattle.tree.specs.Tree.{Tree, slots, without, hit, leaf, node, times}
 use Rattle.tree.specs.Zipper.{bin, Frame, plug, occs, frame}
 use Rattle.tree.specs.Hues.{dark}
-use Rattle.tree.proofs.Slots.{hit-same, occ-bin, occ-plug, times, times-slots}
+use Rattle.tree.proofs.Slots.{hit-same, occ-bin, occ-plug, times-slots}
 use Rattle.tree.proofs.Frames.{Same, shape-live, keep}
 use Rattle.tree_rm_laws.specs.Repair.{done, Next, repair, again}
 use Rattle.tree_rm_laws.specs.Pairs.{instead, emptied}

@@ -15,11 +15,11 @@ use Rattle.words.specs.Ix.{U}
 use Rattle.words.specs.Nodes.{entry, swap}
 use Rattle.words.specs.declared.node.Entry.{Entry}
 use Rattle.bitvec.specs.Colours.{red}
-use Rattle.tree.specs.Tree.{Tree, slots, without, hit, occ, height, Shape, leaf}
+use Rattle.tree.specs.Tree.{Tree, slots, without, hit, occ, height, Shape, leaf, times}
 use Rattle.tree.specs.Zipper.{bin, occs}
 use Rattle.tree.specs.Order.{RisingAt}
 use Rattle.tree.specs.Passes.{Passes}
-use Rattle.tree.proofs.Slots.{hit-same, occ-bin, occ-plug, times, times-append, times-slots}
+use Rattle.tree.proofs.Slots.{hit-same, occ-bin, occ-plug, times-append, times-slots}
 use Rattle.tree.proofs.Frames.{Same, keep}
 use Rattle.tree.proofs.Views.{rootRed-view, entries-view, hulls-view, hues-view}
 use Rattle.tree.proofs.Checked.{slot-live, slot-once, tree-low}

@@ -10,10 +10,10 @@ use borrow.Author.Tests.{eq-eqb, ne-eqb}
 use Rattle.words.specs.Nodes.{start, stop, interval, entry}
 use Rattle.words.specs.declared.interval.Interval.{Interval}
 use Rattle.words.specs.declared.node.Entry.{Entry}
-use Rattle.tree.specs.Tree.{Tree, slots, without, hit, node}
+use Rattle.tree.specs.Tree.{Tree, slots, without, hit, node, times}
 use Rattle.tree.specs.Zipper.{bin, Frame, plug, frame}
 use Rattle.tree.specs.Order.{Rising, RisingAt}
-use Rattle.tree.proofs.Slots.{hit-same, hit-cases, hit-zero, times, times-append}
+use Rattle.tree.proofs.Slots.{hit-same, hit-cases, hit-zero, times-append}
 use Rattle.tree.proofs.Orders.{after-trans, rising-same}
 use Rattle.tree_rm_laws.specs.Pairs.{instead}
 

@@ -10,10 +10,10 @@ use borrow.Author.Tests.{eq-eqb, ne-eqb, lt-leb, le-leb}
 use Rattle.words.specs.Ix.{U}
 use Rattle.words.specs.Nodes.{kid, entry, swap}
 use Rattle.words.proofs.Nodes.{word-swap-slot, entry-swap-second, entry-swap-first}
-use Rattle.tree.specs.Tree.{Tree, slots, without, hit, occ, height, Shape, leaf, node}
+use Rattle.tree.specs.Tree.{Tree, slots, without, hit, occ, height, Shape, leaf, node, times}
 use Rattle.tree.specs.Zipper.{bin, Frame, plug, occs, frame}
 use Rattle.tree.specs.Hulls.{Hulls}
-use Rattle.tree.proofs.Slots.{hit-same, hit-zero, occ-plug, times, times-slots}
+use Rattle.tree.proofs.Slots.{hit-same, hit-zero, occ-plug, times-slots}
 use Rattle.tree.proofs.Frames.{shape-live, unplug-shape}
 use Rattle.tree_rm_laws.specs.Pairs.{instead}
 use Rattle.tree_rm_laws.specs.Remove.{leftmost, vacated, exchanged}

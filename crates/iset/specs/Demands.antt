@@ -1,0 +1,89 @@
+-- The three demands, each as one statement about what the public calls answer and leave. A call's rule (specs/Check to Lookup) is what its code is
+-- proved to answer and leave on every input, so a statement about the rules is one about the calls. `proofs/Demands` proves all three.
+use mathlib.Core.Path.{_≡_}
+use mathlib.Core.List.{List}
+use Prim.Native.Nat.{ℕ, _-_, _+_, _/_, _≤_}
+use lib.ListN.{length}
+use Rattle.words.specs.Ix.{U}
+use Rattle.words.specs.declared.interval.Interval.{Interval}
+use Rattle.words.specs.declared.interval.Span.{Span}
+use Rattle.words.specs.declared.node.Entry.{Entry}
+use Rattle.tree.specs.Passes.{Passes}
+use Rattle.builder_laws.specs.Built.{Built}
+use Rattle.tree_rm_laws.specs.Remove.{Store, store, Removal}
+use Rattle.tree_rm_laws.specs.Removed.{Removed}
+use Rattle.tree_rm_laws.specs.With.{removeWith}
+use Rattle.tree_in_laws.specs.Inserted.{Inserted, insertWith}
+use Rattle.iter.specs.Cursors.{ended}
+use Rattle.iter.specs.declared.Cursor.{Cursor}
+use Rattle.iter.specs.declared.rules.Query.{Query}
+use Rattle.iset.specs.Check.{checkRule}
+use Rattle.iset.specs.Build.{buildRule, buildNodes, buildColour}
+use Rattle.iset.specs.Remove.{refusedRemoval, removeCall, removeNodes, removeColours}
+use Rattle.iset.specs.Insert.{refusedInsertion, insertCall, insertNodes, insertColours}
+use Rattle.iset.specs.Lookup.{startCall, refusedStep, stepCall, refusedDrain, drainCall, drainOutput}
+use Rattle.iset.specs.Refusals.{BadRange, BadInterval, Exactly, checkRows, buildRows, removeRows, insertRows, startRows, stepRows, drainRows}
+use Rattle.iset.specs.Runs.{Ask, OverlapRun, ExactRun}
+use Rattle.iset.specs.declared.Map.{Map}
+
+-- Demand 1: "Every public call .. tests everything itself, gives the first refusal in document 01's order, and then nothing lent has changed." `Exactly` is
+-- both directions: a call gives a row's number exactly if that row's condition holds, and that of no row before it. That a call ends, on any numbers and
+-- any lent memory, is part of what the prover shows of its code.
+pub record Demand1 (m : Map) (W C : List ℕ) : Type 0 where
+  pub check : Exactly (checkRows m W C) (checkRule m W C)
+  pub build : (S : List ℕ) → Exactly (buildRows W C S) (buildRule W C S .no)
+  pub remove : (s : ℕ) → Exactly (removeRows m W C s) (removeCall m W C s .no)
+  pub insert : (e : Entry) → Exactly (insertRows m W C e) (insertCall m W C e .no)
+  pub fresh-exact : (x : Interval) → Exactly (startRows m W C x) (startCall m W C x .no)
+  pub step : (q : Query) (c : Cursor) → Exactly (stepRows m W C q c) (stepCall m W C q c .no)
+  pub drain : (q : Query) (c : Cursor) (limit places : ℕ) → Exactly (drainRows m W C q c limit places) (drainCall m W C q c limit places .no)
+  -- a refused call answers its number with the map or the cursor as given ("a refused build: count 0, root U"), and leaves what was lent
+  pub build-leaves : (S : List ℕ) → (buildRule W C S .no ≡ 0 → ⊥)
+      → (buildRule W C S ≡ record { no = buildRule W C S .no; count = 0; root = U }) × (buildNodes W C S ≡ W) × (buildColour W C S ≡ C)
+  pub remove-leaves : (s : ℕ) → (removeCall m W C s .no ≡ 0 → ⊥)
+      → (removeCall m W C s ≡ refusedRemoval m (removeCall m W C s .no)) × (removeNodes m W C s ≡ W) × (removeColours m W C s ≡ C)
+  pub insert-leaves : (e : Entry) → (insertCall m W C e .no ≡ 0 → ⊥)
+      → (insertCall m W C e ≡ refusedInsertion m (insertCall m W C e .no)) × (insertNodes m W C e ≡ W) × (insertColours m W C e ≡ C)
+  pub fresh-exact-leaves : (x : Interval) → (startCall m W C x .no ≡ 0 → ⊥) → startCall m W C x ≡ record { no = startCall m W C x .no; cursor = ended }
+  pub step-leaves : (q : Query) (c : Cursor) → (stepCall m W C q c .no ≡ 0 → ⊥) → stepCall m W C q c ≡ refusedStep c (stepCall m W C q c .no)
+  pub drain-leaves : (q : Query) (c : Cursor) (limit : ℕ) (out : List ℕ) → (drainCall m W C q c limit (length out) .no ≡ 0 → ⊥)
+      → (drainCall m W C q c limit (length out) ≡ refusedDrain c (drainCall m W C q c limit (length out) .no)) × (drainOutput m W C q c limit out ≡ out)
+
+-- What `Map::remove` answers and leaves, in the form of the rule of removal; what `Map::insert` leaves, in that of insertion.
+abbrev pub removal : Map → List ℕ → List ℕ → ℕ → Removal
+removal m W C s =
+    record {
+      store = store (removeNodes m W C s) (removeColours m W C s) (removeCall m W C s .root);
+      value = removeCall m W C s .value;
+      pairs = removeCall m W C s .pairs;
+    }
+
+abbrev pub insertion : Map → List ℕ → List ℕ → Entry → Store
+insertion m W C e = store (insertNodes m W C e) (insertColours m W C e) (insertCall m W C e .root)
+
+-- Demand 2, of calls that are not refused; P is the tree of the store before, the only one (`unique`, tree/proofs/Checked). "On stores that pass the check,
+-- removal, insertion .. are proved equal to document 01's rules. Each removal names exactly the entries that changed slot."
+pub record Demand2 (m : Map) (W C : List ℕ) : Type 0 where
+  -- a build's store passes, with entry k in slot k
+  pub builds : (S : List ℕ) → buildRule W C S .no ≡ 0
+      → (buildRule W C S .count ≡ length S / 3) × Built S W C (length S / 3) (buildNodes W C S) (buildColour W C S) (buildRule W C S .root)
+  -- a removal's store passes, with the other entries in their order; value and pairs are those of the removed and of the moved entries
+  pub removes : (s : ℕ) → removeCall m W C s .no ≡ 0 → (P : Passes W C (m .count) (m .root))
+      → (removeCall m W C s .count ≡ m .count - 1) × Removed W C (m .count) (m .root) s P (removal m W C s)
+  -- an insertion's store passes, with every old entry in its slot and the new one in slot count, after its equals
+  pub inserts : (e : Entry) → insertCall m W C e .no ≡ 0 → (P : Passes W C (m .count) (m .root))
+      → (insertCall m W C e .count ≡ m .count + 1) × (insertCall m W C e .slot ≡ m .count)
+      × Inserted W C (m .count) (m .root) e P (insertion m W C e)
+  -- the numbers at which the rules stop counting never decide: any greater ones come to the same
+  pub remove-enough : (s : ℕ) → removeCall m W C s .no ≡ 0 → (turns links hulls : ℕ) → 36 ≤ turns → 32 ≤ links → 32 ≤ hulls
+      → removal m W C s ≡ removeWith turns links hulls W C (m .count) (m .root) s
+  pub insert-enough : (e : Entry) → insertCall m W C e .no ≡ 0 → (levels turns hulls : ℕ) → 32 ≤ levels → 32 ≤ turns → 32 ≤ hulls
+      → insertion m W C e ≡ insertWith levels turns hulls W C (m .count) (m .root) e
+
+-- Demand 3, of any lookup by `Map::step` and `Map::drain` from the fresh cursor, in any mixture and with any limits, on an unchanged store that passes; the
+-- range is no BadRange, the interval no BadInterval. specs/Runs has the two records.
+pub record Demand3 (m : Map) (W C : List ℕ) : Type 0 where
+  pub overlap : checkRule m W C ≡ 0 → (q : Span) → (BadRange (q .lo) (q .hi) → ⊥) → (P : Passes W C (m .count) (m .root)) (l : List Ask)
+      → OverlapRun m W C q (P .tree) l
+  pub exact : checkRule m W C ≡ 0 → (x : Interval) → (BadInterval (x .start) (x .end) → ⊥) → (P : Passes W C (m .count) (m .root)) (l : List Ask)
+      → ExactRun m W C x (P .tree) l
