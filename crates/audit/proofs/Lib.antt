@@ -5,3 +5,4 @@ pub mod Fits
 pub mod Decides
 pub mod Linear
 pub mod Examples
+pub mod Unread

@@ -1,30 +1,23 @@
 -- "Slots from count up are not read": on two stores that agree below the count each public call answers the same, and leaves stores that agree
 -- below the count that it answers.
-use mathlib.Core.Path.{_≡_, refl, sym, _∙_}
+use mathlib.Core.Path.{_≡_, refl}
 use mathlib.Core.Bool.{Bool, true, false, cond, _&&_}
-use mathlib.Core.List.{List, map}
+use mathlib.Core.List.{List}
 use Prim.Native.Nat.{ℕ, zero, suc, _+_, _-_, _/_, _^_, _<_, _≤_}
 use native.Mathlib.Omega.{arith}
 use lib.ListN.{length}
 use lib.Dec.{eqb, ltb, leb}
 use borrow.Author.Tests.{ne-eqb, ltb-true}
 use Rattle.words.specs.Ix.{U}
-use Rattle.words.specs.Nodes.{room, hi, lo, kid, par, interval, hull}
+use Rattle.words.specs.Nodes.{room, hi, lo, kid, par, hull}
 use Rattle.words.specs.Intervals.{reached, admits, contains}
 use Rattle.words.specs.declared.interval.Interval.{Interval}
 use Rattle.words.specs.declared.node.Entry.{Entry}
 use Rattle.words.specs.declared.node.Field.the-variants.{Start, End, HullStart, HullEnd, Child, Parent}
-use Rattle.bitvec.specs.Colours.{red}
-use Rattle.tree.specs.Tree.{Tree, slots, occ}
-use Rattle.tree.specs.Passes.{Passes}
-use Rattle.tree.proofs.Frames.{keep}
-use Rattle.tree.proofs.Slots.{times-slots}
-use Rattle.tree.proofs.Checked.{slot-live}
+use Rattle.audit.proofs.Unread.{whole-below}
 use Rattle.tree_rm_laws.specs.Remove.{removeRule}
-use Rattle.tree_rm_laws.specs.Below.{Agree, Alike}
-use Rattle.tree_rm_laws.proofs.Beside.{hulls-same}
-use Rattle.tree_rm_laws.proofs.Fits.{Keeps, keeps}
-use Rattle.tree_rm_laws.proofs.Rows.{map-same}
+use Rattle.tree.specs.Below.{Agree}
+use Rattle.tree_rm_laws.specs.Below.{Alike}
 use Rattle.tree_rm_laws.proofs.Below.{link-same, SameRemoval, removed-below}
 use Rattle.tree_in_laws.specs.Insert.{insertRule}
 use Rattle.tree_in_laws.proofs.Below.{inserted-below}
@@ -46,44 +39,14 @@ use Rattle.iset.specs.Insert.{properNumber, insertNumber, refusedInserti
 use Rattle.iset.specs.Lookup.{beginning, startNumber, stepNumber, drainNumber, startCall, stepCall, drainCall, drainOutput}
 use Rattle.iset.specs.Below.{SameBelow}
 use Rattle.iset.specs.declared.Map.{Map}
-use Rattle.iset.proofs.Checks.{cases, one-check, two-check, zero-check, check-zero}
+use Rattle.iset.proofs.Checks.{check-zero}
 use Rattle.iset.proofs.Removals as removals
 use Rattle.iset.proofs.Insertions as insertions
 
-pub turned : (n : ℕ) (W C X D : List ℕ) → SameBelow n W C X D → SameBelow n X D W C
-turned n W C X D h =
-    record {
-      words = (sym (h .words .0), λ f a l. sym (h .words .1 f a l));
-      colours = (sym (h .colours .0), λ a l. sym (h .colours .1 a l));
-    }
-
 -- the check
-pub passes-below : (n r : ℕ) (W C X D : List ℕ) → SameBelow n W C X D → Passes W C n r → Passes X D n r
-passes-below n r W C X D s h =
-    let A : Agree n W X = s .words in
-    let t : Tree = h .tree in
-    let live : (a : ℕ) → 0 < occ a t → a < n = slot-live W C n r h in
-    let k : Keeps (red C) (red D) t = keeps (red C) (red D) t (λ a o. sym (s .colours .1 a (live a o))) in
-    let e : map (interval X) (slots t) ≡ map (interval W) (slots t) =
-    map-same (interval W) (interval X) (slots t) (λ a o. let l : a < n = live a (omega (arith, times-slots a t)) in rw (A .1 Start a l, A .1 End a l)) in
-    record {
-      tree = t;
-      shape = keep W X n U r t (λ a o. (λ b. sym (A .1 (Child b) a (live a o)), sym (A .1 Parent a (live a o)))) (h .shape);
-      once = h .once;
-      proper = λ a l. rw (← (A .1 Start a l), ← (A .1 End a l)) (h .proper a l);
-      rising = rw e (h .rising);
-      hulls = hulls-same W X t (λ a o f q. sym (A .1 f a (live a o))) (h .hulls);
-      top = k .root-is ∙ h .top;
-      hues = k .hues-is (h .hues);
-    }
-
 pub check-below : (m : Map) (W C X D : List ℕ) → SameBelow (m .count) W C X D → checkRule m W C ≡ checkRule m X D
-check-below m W C X D s =
-    cases m W C (checkRule m W C) refl
-    (λ h z. sym z ∙ sym (one-check m X D (rw (← (s .words .0), ← (s .colours .0)) h)))
-    (λ h p z. sym z ∙ sym (zero-check m X D (rw (← (s .words .0), ← (s .colours .0)) h) (passes-below (m .count) (m .root) W C X D s p)))
-    (λ h p z. sym z ∙ sym (two-check m X D (rw (← (s .words .0), ← (s .colours .0)) h)
-    (λ q. p (passes-below (m .count) (m .root) X D W C (turned (m .count) W C X D s) q))))
+unfolding checkRule
+check-below m W C X D s = rw (s .words .0, s .colours .0, whole-below W C X D (m .count) (s .words) (s .colours) (m .root))
 
 -- a build reads no slot at all: its answer goes by the two lengths and the list
 pub build-below : (W C X D S : List ℕ) → length W ≡ length X → length C ≡ length D → buildRule W C S ≡ buildRule X D S

@@ -5,3 +5,4 @@ pub mod Hulls
 pub mod Hues
 pub mod Passes
 pub mod View
+pub mod Below

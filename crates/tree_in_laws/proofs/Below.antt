@@ -18,7 +18,8 @@ use Rattle.bitvec.specs.Colours.{red, redAt, dye}
 use Rattle.bitvec.proofs.Bytes.{length-setBit, bitAt-same, bitAt-other}
 use Rattle.tree.proofs.Cases.{compare}
 use Rattle.tree_rm_laws.specs.Repair.{Next, done, again, goOn}
-use Rattle.tree_rm_laws.specs.Below.{Agree, Hued, Alike}
+use Rattle.tree.specs.Below.{Agree, Hued}
+use Rattle.tree_rm_laws.specs.Below.{Alike}
 use Rattle.tree_rm_laws.proofs.Mended.{red-slot}
 use Rattle.tree_rm_laws.proofs.Below.{link-same, same-redAt, agree-put, agree-putNode, agree-fix, agree-fixUp, agree-turn, same-rootAfter, Both, both-dye, SameNext, same-ending}
 use Rattle.tree_in_laws.specs.Descent.{goesLeft, descend, under}

@@ -22,7 +22,8 @@ use Rattle.tree_rm_laws.specs.Links.{adopt, setChild, redirected, remove
 use Rattle.tree_rm_laws.specs.Repair.{turn, turn-2, turn-4, dyeAt, Case, one, two, three, four, five, choose, Next, done, again, act, turnOf, turnAt, step, goOn, repair}
 use Rattle.tree_rm_laws.specs.Pairs.{instead, emptied}
 use Rattle.tree_rm_laws.specs.Remove.{leftmost, vacated, exchanged, child, Store, store, ending, restructure, handed, above, cutWords, cutRoot, copied, relinked, cleared, swapRemove, Removal, finish, removeFrom, removeRule}
-use Rattle.tree_rm_laws.specs.Below.{Agree, Hued, Alike}
+use Rattle.tree.specs.Below.{Agree, Hued}
+use Rattle.tree_rm_laws.specs.Below.{Alike}
 use Rattle.tree_rm_laws.proofs.Steps.{emptied-live}
 use Rattle.tree_rm_laws.proofs.Mended.{red-slot, four-close}
 use Rattle.tree_rm_laws.proofs.Inside.{vacated-live}
