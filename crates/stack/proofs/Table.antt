@@ -8,9 +8,9 @@ use native.Mathlib.Nat.{div-eq-of-lt}
 use lib.Dec.{eqb, leb}
 use borrow.Author.Tests.{le-leb, lt-leb, leb-true, ne-eqb}
 use Rattle.stack.specs.States.{entered, wasLeft, returned, wasRight, stateAt, putState, start, top, marked, pushed, popped}
-use Rattle.stack.specs.Calls.{Told, done, badBit, some, testRule, markRule, pushRule, popRule, isEmptyRule}
+use Rattle.stack.specs.Calls.{Told, done, some, testRule, markRule, pushRule, popRule, isEmptyRule}
 use Rattle.stack.specs.Calls.{justEntered, notReturned, notRight, wentLeft, canGoLeftRule, canMatchRule, canGoRightRule, goLeftRule, makeMatchRule, goRightRule}
-use Rattle.stack.specs.Written.{byState, Writes}
+use Rattle.stack.specs.Written.{byState, Writes, refusedBy}
 use Rattle.stack.specs.declared.ActionStack.{ActionStack}
 use Rattle.stack.proofs.Levels.{four, state-low, state-put-same, state-put-other}
 
@@ -53,43 +53,43 @@ module _ (s : ActionStack) (one : 1 ≤ s .levels) (few : s .levels ≤ 32) wher
   marks f low = rw (has, ← by-state f (top s) (top-low s)) (writes s (s .levels) (s .levels - 1) (f (top s)) (low (top s)))
 
   -- the tests, by the state of the top level: 00 entered, 01 was left, 10 returned, 11 was right
-  pub can-go-left : canGoLeftRule s ≡ done (byState true false false false (top s)) s
-  can-go-left = tests justEntered
+  pub can-go-left-says : canGoLeftRule s ≡ done (byState true false false false (top s)) s
+  can-go-left-says = tests justEntered
 
-  pub can-match : canMatchRule s ≡ done (byState true true false false (top s)) s
-  can-match = tests notReturned
+  pub can-match-says : canMatchRule s ≡ done (byState true true false false (top s)) s
+  can-match-says = tests notReturned
 
-  pub can-go-right : canGoRightRule s ≡ done (byState true false true false (top s)) s
-  can-go-right = tests notRight
+  pub can-go-right-says : canGoRightRule s ≡ done (byState true false true false (top s)) s
+  can-go-right-says = tests notRight
 
   -- the marks write the top level: from 00, from 01, from 10, from 11
-  pub go-left : Writes s (s .levels) (s .levels - 1) (byState wasLeft wasLeft wasRight wasRight (top s)) (goLeftRule s)
-  go-left = marks wentLeft (λ v. omega arith)
+  pub go-left-says : Writes s (s .levels) (s .levels - 1) (byState wasLeft wasLeft wasRight wasRight (top s)) (goLeftRule s)
+  go-left-says = marks wentLeft (λ v. omega arith)
 
-  pub make-match : Writes s (s .levels) (s .levels - 1) (byState returned returned returned returned (top s)) (makeMatchRule s)
-  make-match = marks (λ _. returned) (λ v. omega arith)
+  pub make-match-says : Writes s (s .levels) (s .levels - 1) (byState returned returned returned returned (top s)) (makeMatchRule s)
+  make-match-says = marks (λ _. returned) (λ v. omega arith)
 
-  pub go-right : Writes s (s .levels) (s .levels - 1) (byState wasRight wasRight wasRight wasRight (top s)) (goRightRule s)
-  go-right = marks (λ _. wasRight) (λ v. omega arith)
+  pub go-right-says : Writes s (s .levels) (s .levels - 1) (byState wasRight wasRight wasRight wasRight (top s)) (goRightRule s)
+  go-right-says = marks (λ _. wasRight) (λ v. omega arith)
 
   -- "its pop clears its two"
-  pub pop : Writes s (s .levels - 1) (s .levels - 1) 0 (popRule s)
+  pub pop-says : Writes s (s .levels - 1) (s .levels - 1) 0 (popRule s)
   unfolding popRule popped
-  pop = rw has (writes s (s .levels - 1) (s .levels - 1) 0 (omega arith))
+  pop-says = rw has (writes s (s .levels - 1) (s .levels - 1) 0 (omega arith))
 
 -- "the stack's push writes 00"
-pub push : (s : ActionStack) → s .levels < 32 → Writes s (s .levels + 1) (s .levels) entered (pushRule s)
+pub push-says : (s : ActionStack) → s .levels < 32 → Writes s (s .levels + 1) (s .levels) entered (pushRule s)
 unfolding pushRule pushed
-push s h = rw (lt-leb 32 (s .levels) h) (writes s (s .levels + 1) (s .levels) entered (omega arith))
+push-says s h = rw (lt-leb 32 (s .levels) h) (writes s (s .levels + 1) (s .levels) entered (omega arith))
 
 -- `new`: one level, 00, and 0 above it
-pub new : (start .levels ≡ 1) × ((k : ℕ) → stateAt (start .bits) k ≡ entered)
+pub new-says : (start .levels ≡ 1) × ((k : ℕ) → stateAt (start .bits) k ≡ entered)
 unfolding stateAt
-new = (refl, λ k. rw (div-eq-of-lt (four k .1)))
+new-says = (refl, λ k. rw (div-eq-of-lt (four k .1)))
 
-pub is-empty : (s : ActionStack) → (s .levels ≡ 0 → isEmptyRule s ≡ done true s) × (1 ≤ s .levels → s .levels ≤ 32 → isEmptyRule s ≡ done false s)
+pub is-empty-says : (s : ActionStack) → (s .levels ≡ 0 → isEmptyRule s ≡ done true s) × (1 ≤ s .levels → s .levels ≤ 32 → isEmptyRule s ≡ done false s)
 unfolding isEmptyRule
-is-empty s = (λ e. rw e, λ h l. rw (le-leb (s .levels) 32 l, ne-eqb (s .levels) 0 (omega arith)))
+is-empty-says s = (λ e. rw e, λ h l. rw (le-leb (s .levels) 32 l, ne-eqb (s .levels) 0 (omega arith)))
 
 -- refusal 10: "pop or state mark of nothing; .. a state test of nothing; any stack call on more than 32 levels"
 module _ (s : ActionStack) (outside : 1 ≤ s .levels → s .levels ≤ 32 → ⊥) where
@@ -102,23 +102,23 @@ module _ (s : ActionStack) (outside : 1 ≤ s .levels → s .levels ≤ 32 → �
       go true false f g = refl
       go false q f g = refl
 
-  pub tests-refused : (canGoLeftRule s ≡ badBit s) × (canMatchRule s ≡ badBit s) × (canGoRightRule s ≡ badBit s)
+  pub tests-refused : (canGoLeftRule s ≡ refusedBy 10 s) × (canMatchRule s ≡ refusedBy 10 s) × (canGoRightRule s ≡ refusedBy 10 s)
   unfolding testRule
   tests-refused = (rw has-none, rw has-none, rw has-none)
 
-  pub marks-refused : (goLeftRule s ≡ badBit s) × (makeMatchRule s ≡ badBit s) × (goRightRule s ≡ badBit s)
+  pub marks-refused : (goLeftRule s ≡ refusedBy 10 s) × (makeMatchRule s ≡ refusedBy 10 s) × (goRightRule s ≡ refusedBy 10 s)
   unfolding markRule
   marks-refused = (rw has-none, rw has-none, rw has-none)
 
-  pub pop-refused : popRule s ≡ badBit s
+  pub pop-refused : popRule s ≡ refusedBy 10 s
   unfolding popRule
   pop-refused = rw has-none
 
 -- "push .. on a stack of 32 levels"
-pub push-refused : (s : ActionStack) → 32 ≤ s .levels → pushRule s ≡ badBit s
+pub push-refused : (s : ActionStack) → 32 ≤ s .levels → pushRule s ≡ refusedBy 10 s
 unfolding pushRule
 push-refused s h = rw (le-leb 32 (s .levels) h)
 
-pub is-empty-refused : (s : ActionStack) → 32 < s .levels → isEmptyRule s ≡ badBit s
+pub is-empty-refused : (s : ActionStack) → 32 < s .levels → isEmptyRule s ≡ refusedBy 10 s
 unfolding isEmptyRule
 is-empty-refused s h = rw (lt-leb (s .levels) 32 h)

@@ -20,3 +20,7 @@ pub record Writes (s : ActionStack) (levels j v : ℕ) (t : Told) : Type 0 where
   pub leaves : t .stack .levels ≡ levels
   pub there : stateAt (t .stack .bits) j ≡ v
   pub elsewhere : (k : ℕ) → k ≢ j → stateAt (t .stack .bits) k ≡ stateAt (s .bits) k
+
+-- "A refusal returns its number, the map or cursor as given": here the stack; nothing was tested
+abbrev pub refusedBy : ℕ → ActionStack → Told
+refusedBy number s = record { no = number; yes = false; stack = s }
