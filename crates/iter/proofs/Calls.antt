@@ -1,4 +1,4 @@
--- The walk stands on the stack's calls: a move by them alone, as the Rust's `move_to_next` makes it, is the rule's move.
+-- The walk stands on the stack's calls: a move by them alone, as the Rust's `move_to_next` makes it, is the rule's move, and no call of it is refused.
 use mathlib.Core.Path.{_≡_, refl, sym, ap, _∙_}
 use mathlib.Core.Bool.{Bool, true, false, not, cond, _&&_}
 use mathlib.Core.List.{List}
@@ -84,12 +84,12 @@ module _ (W : List ℕ) (Q : Rules) (n : ℕ) (c : Cursor) (live : Live n c) whe
       go (suc (suc (suc zero))) e h = rw (asked justEntered 3 e, asked notReturned 3 e, asked notRight 3 e, e) goes-up
       go (suc (suc (suc (suc v)))) e h = absurd (omega arith)
 
-  -- a place counts as entered exactly if `can_go_left` says so there, and can be a hit exactly after `make_match`, where `can_match` does not say so any more and
-  -- `can_go_right` does
+  -- a place counts as entered exactly if `can_go_left` answers true there
   pub entered-by-calls : enters n c ≡ canGoLeftRule s .yes
   unfolding enters
   entered-by-calls = rw (lt-ltb (c .slot) n (live .0), tested s (live .1) (live .2) justEntered)
 
+  -- it may be a hit exactly if `make_match` was made and nothing after it: `can_match` answers false, and `can_go_right` true
   pub hit-by-calls : hits n Q c ≡ (not (canMatchRule s .yes) && canGoRightRule s .yes && Q .match (c .slot))
   unfolding hits
   hit-by-calls = rw (lt-ltb (c .slot) n (live .0), tested s (live .1) (live .2) notReturned, tested s (live .1) (live .2) notRight) (go (top s) (top-low s))

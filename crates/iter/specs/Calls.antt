@@ -16,7 +16,7 @@ pub data Moved : Type 0 where
   to : Cursor → Moved
   refused : ℕ → Moved
 
--- what a stack call answered, taken apart: what it tested, and the stack after it
+-- what a stack call answered, taken apart: what it tested; or the stack after it
 abbrev pub asking : Told → (Bool → Moved) → Moved
 asking t rest = cond (eqb (t .no) 0) (rest (t .yes)) (refused (t .no))
 
@@ -31,7 +31,8 @@ abbrev pub popTo : ℕ → ActionStack → Moved
 popTo k s = having (popRule s) (λ t. asking (isEmptyRule t) (λ empty. to (cursor (cond empty U k) t)))
 
 -- `if stack.can_go_left()`: `go_left`, and if the left rule says so, `push`, and to the left child. `if stack.can_match()`: `make_match`.
--- `if stack.can_go_right() && should_go_right(..)`: `go_right`, `push`, and to the right child; `else`: `pop`, and to the parent.
+-- `if stack.can_go_right() && should_go_right(..)`: `go_right`, `push`, and to the right child; `else`: `pop`, and to the parent. A rule says so only
+-- where the stack takes one more level (`deeper`).
 unfoldable pub moveByCalls : List ℕ → Rules → Cursor → Moved
 moveByCalls W Q c =
     let s : ActionStack = stackOf c in

@@ -1,4 +1,5 @@
-// For a caller that holds a stack by value: the stack is lent to the call on the record, and handed back as that call left it.
+// For a caller that holds a stack by value: the stack is lent to the call on the record, and handed back as that call left it. The library makes
+// none of these calls. The program `drive` runs the calls on the record through them.
 use crate::ActionStack;
 use crate::lent;
 use crate::lent::Outcome;
