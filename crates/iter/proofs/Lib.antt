@@ -4,6 +4,7 @@ pub mod Steps
 pub mod Drains
 pub mod Laws
 pub mod Moves
+pub mod Calls
 pub mod Ways
 pub mod Fills
 pub mod Totals

@@ -8,7 +8,7 @@ use lib.Dec.{eqb, ltb}
 use borrow.Author.Tests.{lt-ltb, le-ltb, ltb-true, eqb-false, ne-eqb}
 use Rattle.words.specs.Ix.{U}
 use Rattle.words.specs.Nodes.{par}
-use Rattle.stack.specs.States.{top, marked, pushed, popped}
+use Rattle.stack.specs.States.{wasLeft, returned, top, marked, pushed, popped}
 use Rattle.iter.specs.Cursors.{stackOf, upTo}
 use Rattle.iter.specs.Walk.{Rules, deeper, mark, down, move, hits, counts, Answer, ending, hitting, seek, fuel, step}
 use Rattle.iter.specs.Places.{Placed}
@@ -27,11 +27,11 @@ module _ (Q : Rules) (b : Bool) (c : Cursor) (r : Bool) (e : r ≡ deeper Q b c)
 
 -- one move, by the state of the top level
 module _ (W : List ℕ) (Q : Rules) (c r : Cursor) (t : ℕ) (e : t ≡ top (stackOf c)) where
-  pub move-entered : t ≡ 0 → r ≡ cond (deeper Q true c) (down W true c) (mark 2 c) → r ≡ move W Q c
+  pub move-entered : t ≡ 0 → r ≡ cond (deeper Q true c) (down W true c) (mark wasLeft c) → r ≡ move W Q c
   unfolding move
   move-entered h p = rw (sym e ∙ h) p
 
-  pub move-left : t ≡ 2 → r ≡ mark 1 c → r ≡ move W Q c
+  pub move-left : t ≡ 2 → r ≡ mark returned c → r ≡ move W Q c
   unfolding move
   move-left h p = rw (sym e ∙ h) p
 
@@ -68,10 +68,10 @@ module _ (W : List ℕ) (Q : Rules) (n : ℕ) (c : Cursor) (small : n ≤ 65535)
       (deeper-room Q true c (deeper Q true c) refl) (deeper-room Q false c (deeper Q false c) refl)
     where
       go : (a b d e f : Bool) → (b ≡ true → c .levels < 32) → (f ≡ true → c .levels < 32)
-          → Placed n (cond a (cond b (down W true c) (mark 2 c)) (cond d (mark 1 c) (cond (e && f) (down W false c) (upTo (par W (c .slot)) c))))
+          → Placed n (cond a (cond b (down W true c) (mark wasLeft c)) (cond d (mark returned c) (cond (e && f) (down W false c) (upTo (par W (c .slot)) c))))
       go true true d e f x y = down-placed true (x refl)
-      go true false d e f x y = mark-placed 2
-      go false b true e f x y = mark-placed 1
+      go true false d e f x y = mark-placed wasLeft
+      go false b true e f x y = mark-placed returned
       go false b false true true x y = down-placed false (y refl)
       go false b false true false x y = up-placed (par W (c .slot))
       go false b false false f x y = up-placed (par W (c .slot))

@@ -5,7 +5,7 @@ use Prim.Native.Nat.{ℕ, zero, suc, _-_, _/_, _^_}
 use lib.Dec.{eqb, ltb, leb}
 use Rattle.words.specs.Ix.{U}
 use Rattle.words.specs.Nodes.{kid, par}
-use Rattle.stack.specs.States.{stateAt}
+use Rattle.stack.specs.States.{wasLeft, returned, wasRight, stateAt}
 use Rattle.iter.specs.declared.Cursor.{Cursor}
 use Rattle.iter.specs.declared.Form.{Form}
 use Rattle.iter.specs.declared.Form.the-variants.{Fresh, Held, Ended, Bad}
@@ -16,7 +16,7 @@ same s levels bits c = eqb (c .slot) s && (eqb (c .levels) levels && eqb (c .bit
 
 -- the slot s is the child of p on the side that p's state says: "each ancestor 01 or 11 by side"
 unfoldable pub onSide : List ℕ → ℕ → ℕ → ℕ → Bool
-onSide W state p s = eqb state 2 && eqb (kid W true p) s || eqb state 3 && eqb (kid W false p) s
+onSide W state p s = eqb state wasLeft && eqb (kid W true p) s || eqb state wasRight && eqb (kid W false p) s
 
 -- j links up from s is k, and each level below j says by which side the way comes
 unfoldable pub formed : List ℕ → ℕ → ℕ → ℕ → ℕ → ℕ → Bool
@@ -29,7 +29,7 @@ formed W n k bits (suc j) s =
 unfoldable pub heldForm : List ℕ → ℕ → ℕ → Cursor → Bool
 heldForm W n k c =
     ltb (c .slot) n && (leb 1 (c .levels) && (leb (c .levels) 32
-    && (eqb (c .bits / 4 ^ (c .levels - 1)) 1 && formed W n k (c .bits) (c .levels - 1) (c .slot))))
+    && (eqb (c .bits / 4 ^ (c .levels - 1)) returned && formed W n k (c .bits) (c .levels - 1) (c .slot))))
 
 unfoldable pub formOf : List ℕ → ℕ → ℕ → Cursor → Form
 formOf W n k c = cond (same k 1 0 c) Fresh (cond (same U 0 0 c) Ended (cond (heldForm W n k c) Held Bad))

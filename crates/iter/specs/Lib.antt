@@ -1,6 +1,7 @@
 pub mod Lists
 pub mod Cursors
 pub mod Walk
+pub mod Calls
 pub mod Drains
 pub mod Forms
 pub mod Overlap

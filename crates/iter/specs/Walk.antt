@@ -6,7 +6,7 @@ use Prim.Native.Nat.{ℕ, zero, suc, _+_, _*_}
 use lib.Dec.{eqb, ltb}
 use Rattle.words.specs.Ix.{U}
 use Rattle.words.specs.Nodes.{kid, par}
-use Rattle.stack.specs.States.{top, marked, pushed}
+use Rattle.stack.specs.States.{entered, wasLeft, returned, wasRight, top, marked, pushed}
 use Rattle.iter.specs.Cursors.{cursor, stackOf, ended, upTo}
 use Rattle.iter.specs.declared.Cursor.{Cursor}
 
@@ -17,8 +17,8 @@ pub record Rules : Type 0 where
 
 -- the state that the top level gets before the walk goes down on a side: 01 was left, 11 was right
 abbrev pub side : Bool → ℕ
-side true = 2
-side false = 3
+side true = wasLeft
+side false = wasRight
 
 -- the walk goes down on a side b: the rules say so, and the stack takes one more level
 unfoldable pub deeper : Rules → Bool → Cursor → Bool
@@ -34,19 +34,19 @@ down W b c = cursor (kid W b (c .slot)) (pushed (marked (side b) (stackOf c)))
 -- one move. 00: go left, or mark 01. 01: mark 10. 10: go right, or up. 11: up.
 unfoldable pub move : List ℕ → Rules → Cursor → Cursor
 move W Q c =
-    cond (eqb (top (stackOf c)) 0)
-    (cond (deeper Q true c) (down W true c) (mark 2 c))
-    (cond (eqb (top (stackOf c)) 2)
-    (mark 1 c)
-    (cond (eqb (top (stackOf c)) 1 && deeper Q false c) (down W false c) (upTo (par W (c .slot)) c)))
+    cond (eqb (top (stackOf c)) entered)
+    (cond (deeper Q true c) (down W true c) (mark wasLeft c))
+    (cond (eqb (top (stackOf c)) wasLeft)
+    (mark returned c)
+    (cond (eqb (top (stackOf c)) returned && deeper Q false c) (down W false c) (upTo (par W (c .slot)) c)))
 
 -- "A live node is entered where the fresh cursor or a move puts it on top in state 00"
 unfoldable pub enters : ℕ → Cursor → Bool
-enters n c = ltb (c .slot) n && eqb (top (stackOf c)) 0
+enters n c = ltb (c .slot) n && eqb (top (stackOf c)) entered
 
 -- a live node is on top in state 10, and its entry is looked for: it is a hit
 unfoldable pub hits : ℕ → Rules → Cursor → Bool
-hits n Q c = ltb (c .slot) n && (eqb (top (stackOf c)) 1 && Q .match (c .slot))
+hits n Q c = ltb (c .slot) n && (eqb (top (stackOf c)) returned && Q .match (c .slot))
 
 -- "Each step answers a hit with its slot, or the end, with the next cursor and the nodes entered in this call"; U at the end
 pub record Answer : Type 0 where

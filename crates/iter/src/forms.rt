@@ -1,6 +1,10 @@
 // The forms of a cursor, judged against the present store.
 use crate::Cursor;
 use crate::Form;
+use stack::ActionStack;
+use stack::RETURNED;
+use stack::WAS_LEFT;
+use stack::WAS_RIGHT;
 use stack::state_at;
 use words::ix::U;
 use words::node::child_of;
@@ -10,6 +14,7 @@ ghost use mathlib.Core.Bool.{_&&_};
 ghost use Prim.Native.Nat.{_+_, _-_, _*_, _/_, _^_, _≤_, _<_};
 ghost use lib.ListN.{length};
 ghost use lib.Dec.{eqb};
+ghost use Rattle.stack.specs.States.{returned};
 ghost use Rattle.iter.specs.Cursors.{fresh, ended};
 ghost use Rattle.iter.specs.Forms.{same, onSide, formed, heldForm, formOf};
 ghost use Rattle.iter.specs.Places.{Live};
@@ -29,7 +34,7 @@ fn is_on_side(nodes: &[u64], state: u64, parent: u64, slot: u64) -> bool
 {
     let left = child_of(nodes, parent, true);
     let right = child_of(nodes, parent, false);
-    ((state == 2) & (left == slot)) | ((state == 3) & (right == slot))
+    ((state == WAS_LEFT) & (left == slot)) | ((state == WAS_RIGHT) & (right == slot))
 }
 
 // So many links up from the slot is `start`, and each level says by which side the way comes.
@@ -55,10 +60,11 @@ impl Cursor {
     pub fn fresh(slot: u64) -> Cursor
         ensures { λ r. ⌜ r ≡ fresh slot ⌝ }
     {
+        let stack = ActionStack::new();
         Cursor {
             slot,
-            levels: 1,
-            bits: 0,
+            levels: stack.levels,
+            bits: stack.bits,
         }
     }
 
@@ -81,11 +87,11 @@ impl Cursor {
     // The top level is 10 with nothing above it, and the levels below say the way from `start`.
     fn is_reached(self, nodes: &[u64], count: u64, start: u64) -> bool
         requires { ⌜ (count * 8 ≤ length (now nodes)) × Live count self ⌝ }
-        ensures { λ r. ⌜ r ≡ eqb (self .bits / 4 ^ (self .levels - 1)) 1
+        ensures { λ r. ⌜ r ≡ eqb (self .bits / 4 ^ (self .levels - 1)) returned
             && formed (now (nodes .entry)) count start (self .bits) (self .levels - 1) (self .slot) ⌝ }
     {
         let links = self.levels - 1;
-        (from_level(self.bits, links) == 1)
+        (from_level(self.bits, links) == RETURNED)
             & is_way(nodes, count, start, self.bits, links, self.slot)
     }
 

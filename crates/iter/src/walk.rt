@@ -4,6 +4,10 @@ use crate::rules::Query;
 use crate::rules::goes;
 use crate::rules::matches;
 use stack::ActionStack;
+use stack::ENTERED;
+use stack::RETURNED;
+use stack::WAS_LEFT;
+use stack::WAS_RIGHT;
 use words::ix::U;
 use words::node::child_of;
 use words::node::parent_of;
@@ -14,7 +18,7 @@ ghost use lib.ListN.{length};
 ghost use lib.Dec.{eqb};
 ghost use Rattle.words.specs.Ix.{U};
 ghost use Rattle.words.specs.Nodes.{par};
-ghost use Rattle.stack.specs.States.{top};
+ghost use Rattle.stack.specs.States.{wasLeft, top};
 ghost use Rattle.iter.specs.Cursors.{stackOf, upTo};
 ghost use Rattle.iter.specs.Walk.{side, mark, down, deeper, move, enters, hits, counts};
 ghost use Rattle.iter.specs.Queries.{rules};
@@ -24,7 +28,7 @@ ghost use Rattle.iter.specs.Places.{Placed, Live};
 fn side_mark(left_side: bool) -> u64
     ensures { λ r. ⌜ (r ≡ side «left_side») × (r < 4) ⌝ }
 {
-    if left_side { 2 } else { 3 }
+    if left_side { WAS_LEFT } else { WAS_RIGHT }
 }
 
 // Where the walk goes up to with so many levels.
@@ -102,12 +106,12 @@ impl Cursor {
     fn left_or_mark(self, nodes: &[u64], count: u64, query: Query) -> Cursor
         requires { ⌜ (count * 8 ≤ length (now nodes)) × Live count self ⌝ }
         ensures { λ r. ⌜ r ≡ cond (deeper (rules (now (nodes .entry)) count query) true self)
-            (down (now (nodes .entry)) true self) (mark 2 self) ⌝ }
+            (down (now (nodes .entry)) true self) (mark wasLeft self) ⌝ }
     {
         if self.goes_down(nodes, count, query, true) {
             self.down(nodes, true)
         } else {
-            self.mark(2)
+            self.mark(WAS_LEFT)
         }
     }
 
@@ -130,13 +134,13 @@ impl Cursor {
         ensures { λ r. ⌜ r ≡ move (now (nodes .entry)) (rules (now (nodes .entry)) count query) self ⌝ }
     {
         let state = self.state();
-        if state == 0 {
+        if state == ENTERED {
             return self.left_or_mark(nodes, count, query);
         }
-        if state == 2 {
-            return self.mark(1);
+        if state == WAS_LEFT {
+            return self.mark(RETURNED);
         }
-        if state == 1 {
+        if state == RETURNED {
             return self.right_or_up(nodes, count, query);
         }
         self.up(nodes)
@@ -150,7 +154,7 @@ impl Cursor {
         if count <= self.slot {
             return false;
         }
-        self.state() == 0
+        self.state() == ENTERED
     }
 
     // What the place counts among the nodes entered.
@@ -169,6 +173,6 @@ impl Cursor {
         if count <= self.slot {
             return false;
         }
-        (self.state() == 1) & matches(nodes, count, query, self.slot)
+        (self.state() == RETURNED) & matches(nodes, count, query, self.slot)
     }
 }

@@ -6,6 +6,7 @@ use Prim.Native.Nat.{ℕ, suc, _+_, _*_, _^_}
 use lib.ListN.{length}
 use Rattle.tree.specs.Tree.{Tree, node, slots}
 use Rattle.tree.specs.Zipper.{Frame, frame, plug}
+use Rattle.stack.specs.States.{returned}
 use Rattle.iter.specs.Walk.{side}
 use Rattle.iter.specs.declared.Cursor.{Cursor}
 
@@ -25,7 +26,7 @@ at s q bs = record { slot = s; levels = suc (length bs); bits = q * 4 ^ length b
 
 -- the held cursor at the slot s: top 10
 abbrev pub held : ℕ → List Bool → Cursor
-held s bs = at s 1 bs
+held s bs = at s returned bs
 
 -- "Held: a live slot, as many levels as its depth, top 10, each ancestor 01 or 11 by side"
 pub record Held (t : Tree) (c : Cursor) : Type 0 where

@@ -10,8 +10,7 @@ use lib.Dec.{eqb}
 use borrow.Author.Tests.{eqb-true, eqb-false}
 use Rattle.bitvec.specs.Bits.{bit, put}
 use Rattle.bitvec.proofs.Numbers.{num, put-idle}
-use Rattle.stack.specs.States.{stateAt, putState, top, marked, pushed, popped}
-use Rattle.stack.specs.declared.ActionStack.{ActionStack}
+use Rattle.stack.specs.States.{stateAt, putState}
 
 pub four : (j : ℕ) → (4 ^ suc j ≡ 4 * 4 ^ j) × (0 < 4 ^ j)
 four zero = (omega arith, omega arith)
@@ -137,29 +136,3 @@ left-bit x j =
     go true false = refl
     go false true = refl
     go false false = refl
-
--- the stack calls, at the level that they write and at every other
-module _ (s : ActionStack) where
-  pub marked-top : (v : ℕ) → v < 4 → top (marked v s) ≡ v
-  unfolding top marked
-  marked-top v h = state-put-same (s .bits) (s .levels - 1) v h
-
-  pub marked-other : (v k : ℕ) → v < 4 → k ≢ s .levels - 1 → stateAt (marked v s .bits) k ≡ stateAt (s .bits) k
-  unfolding marked
-  marked-other v k h d = state-put-other (s .bits) (s .levels - 1) k v h d
-
-  pub pushed-top : top (pushed s) ≡ 0
-  unfolding top pushed
-  pushed-top = let e : s .levels + 1 - 1 ≡ s .levels = omega arith in rw e (state-put-same (s .bits) (s .levels) 0 (omega arith))
-
-  pub pushed-other : (k : ℕ) → k ≢ s .levels → stateAt (pushed s .bits) k ≡ stateAt (s .bits) k
-  unfolding pushed
-  pushed-other k d = state-put-other (s .bits) (s .levels) k 0 (omega arith) d
-
-  pub popped-clears : stateAt (popped s .bits) (s .levels - 1) ≡ 0
-  unfolding popped
-  popped-clears = state-put-same (s .bits) (s .levels - 1) 0 (omega arith)
-
-  pub popped-other : (k : ℕ) → k ≢ s .levels - 1 → stateAt (popped s .bits) k ≡ stateAt (s .bits) k
-  unfolding popped
-  popped-other k d = state-put-other (s .bits) (s .levels - 1) k 0 (omega arith) d

@@ -3,7 +3,7 @@ use mathlib.Core.Bool.{Bool, false, cond, _&&_}
 use Prim.Native.Nat.{ℕ, _+_, _%_}
 use lib.Dec.{eqb, ltb, leb}
 use Rattle.words.specs.Refusals.{refusalNumber}
-use Rattle.stack.specs.States.{top, marked, pushed, popped}
+use Rattle.stack.specs.States.{entered, returned, wasRight, top, marked, pushed, popped}
 use Rattle.stack.specs.declared.ActionStack.{ActionStack}
 use Rattle.stack.specs.declared.Answer.{Answer}
 use Rattle.stack.specs.declared.Answer.the-variants.{Done, Refused}
@@ -40,7 +40,7 @@ markRule gives s = cond (some s) (done false (marked (gives (top s)) s)) (badBit
 
 -- `can_go_left`: neither bit is set. `can_match`: the first is not. `can_go_right`: the last is not.
 abbrev pub justEntered : ℕ → Bool
-justEntered v = eqb v 0
+justEntered v = eqb v entered
 
 abbrev pub notReturned : ℕ → Bool
 notReturned v = eqb (v % 2) 0
@@ -48,9 +48,27 @@ notReturned v = eqb (v % 2) 0
 abbrev pub notRight : ℕ → Bool
 notRight v = ltb v 2
 
+abbrev pub canGoLeftRule : ActionStack → Told
+canGoLeftRule = testRule justEntered
+
+abbrev pub canMatchRule : ActionStack → Told
+canMatchRule = testRule notReturned
+
+abbrev pub canGoRightRule : ActionStack → Told
+canGoRightRule = testRule notRight
+
 -- `go_left` sets the last bit and keeps the first; `make_match` gives 10 and `go_right` 11 from every state
 abbrev pub wentLeft : ℕ → ℕ
 wentLeft v = v % 2 + 2
+
+abbrev pub goLeftRule : ActionStack → Told
+goLeftRule = markRule wentLeft
+
+abbrev pub makeMatchRule : ActionStack → Told
+makeMatchRule = markRule (λ _. returned)
+
+abbrev pub goRightRule : ActionStack → Told
+goRightRule = markRule (λ _. wasRight)
 
 -- "push .. on a stack of 32 levels"
 unfoldable pub pushRule : ActionStack → Told

@@ -1,7 +1,20 @@
--- "Level j (from 0) uses bits 2j and 2j + 1". The first of a level's two bits is bit 2j, so that as numbers the states are
--- 0 for 00, entered; 1 for 10, returned; 2 for 01, was left; 3 for 11, was right.
+-- The states of the levels. "Level j (from 0) uses bits 2j and 2j + 1".
 use Prim.Native.Nat.{ℕ, _+_, _-_, _*_, _/_, _%_, _^_}
 use Rattle.stack.specs.declared.ActionStack.{ActionStack}
+
+-- "Stack states, first bit then last: 00 entered, 01 was left, 10 returned, 11 was right". The first of a level's two bits is bit 2j: it counts 1, and
+-- the last one 2.
+abbrev pub entered : ℕ
+entered = 0
+
+abbrev pub wasLeft : ℕ
+wasLeft = 2
+
+abbrev pub returned : ℕ
+returned = 1
+
+abbrev pub wasRight : ℕ
+wasRight = 3
 
 -- the state of level j, and the bits with the state v there
 unfoldable pub stateAt : ℕ → ℕ → ℕ
@@ -24,7 +37,7 @@ marked v s = record { levels = s .levels; bits = putState (s .bits) (s .levels -
 
 -- "the stack's push writes 00 and its pop clears its two"
 unfoldable pub pushed : ActionStack → ActionStack
-pushed s = record { levels = s .levels + 1; bits = putState (s .bits) (s .levels) 0 }
+pushed s = record { levels = s .levels + 1; bits = putState (s .bits) (s .levels) entered }
 
 unfoldable pub popped : ActionStack → ActionStack
 popped s = record { levels = s .levels - 1; bits = putState (s .bits) (s .levels - 1) 0 }

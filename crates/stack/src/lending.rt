@@ -1,9 +1,10 @@
-// For a caller that holds a stack by value: the stack is lent to the call on the record, and handed back as that call left it.
+// For a caller that holds a stack by value: the stack is lent to the call on the record, and handed back as that call left it. The library makes
+// none of these calls. The program `drive` runs the calls on the record through them.
 use crate::ActionStack;
 use crate::lent;
 use crate::lent::Outcome;
 ghost use mathlib.Core.Path.{_≡_};
-ghost use Rattle.stack.specs.Calls.{lent, markRule, pushRule, popRule, wentLeft};
+ghost use Rattle.stack.specs.Calls.{lent, pushRule, goLeftRule, makeMatchRule, goRightRule, popRule};
 
 // What the call answered, and the record after it.
 pub struct After {
@@ -12,7 +13,7 @@ pub struct After {
 }
 
 // The two in one record.
-pub fn both(outcome: Outcome, stack: ActionStack) -> After
+pub(crate) fn both(outcome: Outcome, stack: ActionStack) -> After
     ensures { λ r. ⌜ (r .outcome ≡ outcome) × (r .stack ≡ stack) ⌝ }
 {
     After { outcome, stack }
@@ -27,7 +28,7 @@ pub fn push(s: ActionStack) -> After
 }
 
 pub fn go_left(s: ActionStack) -> After
-    ensures { λ r. ⌜ lent (r .outcome) (r .stack) ≡ markRule wentLeft s ⌝ }
+    ensures { λ r. ⌜ lent (r .outcome) (r .stack) ≡ goLeftRule s ⌝ }
 {
     let mut t = s;
     let r = lent::go_left(&mut t);
@@ -35,7 +36,7 @@ pub fn go_left(s: ActionStack) -> After
 }
 
 pub fn make_match(s: ActionStack) -> After
-    ensures { λ r. ⌜ lent (r .outcome) (r .stack) ≡ markRule (λ _. 1) s ⌝ }
+    ensures { λ r. ⌜ lent (r .outcome) (r .stack) ≡ makeMatchRule s ⌝ }
 {
     let mut t = s;
     let r = lent::make_match(&mut t);
@@ -43,7 +44,7 @@ pub fn make_match(s: ActionStack) -> After
 }
 
 pub fn go_right(s: ActionStack) -> After
-    ensures { λ r. ⌜ lent (r .outcome) (r .stack) ≡ markRule (λ _. 3) s ⌝ }
+    ensures { λ r. ⌜ lent (r .outcome) (r .stack) ≡ goRightRule s ⌝ }
 {
     let mut t = s;
     let r = lent::go_right(&mut t);

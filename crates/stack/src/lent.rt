@@ -4,7 +4,7 @@ use crate::ActionStack;
 use crate::Answer;
 use words::refusal::Refusal;
 ghost use mathlib.Core.Path.{_≡_};
-ghost use Rattle.stack.specs.Calls.{paper, lent, outcomeOf, markRule, pushRule, popRule, wentLeft};
+ghost use Rattle.stack.specs.Calls.{paper, lent, outcomeOf, pushRule, goLeftRule, makeMatchRule, goRightRule, popRule};
 
 // What such a call answers; the stack after it is the record.
 pub enum Outcome {
@@ -13,7 +13,7 @@ pub enum Outcome {
 }
 
 // The stack after a call by value on a given one.
-pub fn stack_after(a: Answer, given: ActionStack) -> ActionStack
+pub(crate) fn stack_after(a: Answer, given: ActionStack) -> ActionStack
     ensures { λ r. ⌜ r ≡ paper given a .stack ⌝ }
 {
     match a {
@@ -23,7 +23,7 @@ pub fn stack_after(a: Answer, given: ActionStack) -> ActionStack
 }
 
 // An answer without its stack, and without what was tested: the calls here test nothing.
-pub fn without_stack(a: Answer) -> Outcome
+pub(crate) fn without_stack(a: Answer) -> Outcome
     ensures { λ r. ⌜ r ≡ outcomeOf a ⌝ }
 {
     match a {
@@ -41,7 +41,7 @@ pub fn push(s: &mut ActionStack) -> Outcome
 }
 
 pub fn go_left(s: &mut ActionStack) -> Outcome
-    ensures { λ r. ⌜ lent r (now (s .exit)) ≡ markRule wentLeft (now (s .entry)) ⌝ }
+    ensures { λ r. ⌜ lent r (now (s .exit)) ≡ goLeftRule (now (s .entry)) ⌝ }
 {
     let a = ActionStack::go_left(*s);
     *s = stack_after(a, *s);
@@ -49,7 +49,7 @@ pub fn go_left(s: &mut ActionStack) -> Outcome
 }
 
 pub fn make_match(s: &mut ActionStack) -> Outcome
-    ensures { λ r. ⌜ lent r (now (s .exit)) ≡ markRule (λ _. 1) (now (s .entry)) ⌝ }
+    ensures { λ r. ⌜ lent r (now (s .exit)) ≡ makeMatchRule (now (s .entry)) ⌝ }
 {
     let a = ActionStack::make_match(*s);
     *s = stack_after(a, *s);
@@ -57,7 +57,7 @@ pub fn make_match(s: &mut ActionStack) -> Outcome
 }
 
 pub fn go_right(s: &mut ActionStack) -> Outcome
-    ensures { λ r. ⌜ lent r (now (s .exit)) ≡ markRule (λ _. 3) (now (s .entry)) ⌝ }
+    ensures { λ r. ⌜ lent r (now (s .exit)) ≡ goRightRule (now (s .entry)) ⌝ }
 {
     let a = ActionStack::go_right(*s);
     *s = stack_after(a, *s);

@@ -9,7 +9,16 @@ use words::refusal::Refusal;
 ghost use mathlib.Core.Path.{_≡_};
 ghost use Prim.Native.Nat.{_*_, _^_, _≤_, _<_};
 ghost use Rattle.stack.specs.States.{stateAt, putState, start, top, marked, pushed, popped};
-ghost use Rattle.stack.specs.Calls.{some, paper, testRule, markRule, pushRule, popRule, isEmptyRule, justEntered, notReturned, notRight, wentLeft};
+ghost use Rattle.stack.specs.Calls.{some, paper, pushRule, canGoLeftRule, goLeftRule, canMatchRule, makeMatchRule, canGoRightRule, goRightRule, popRule, isEmptyRule};
+
+// The states of a level, first bit then last: 00 entered, 01 was left, 10 returned, 11 was right. The first bit counts 1, the last one 2.
+pub const ENTERED: u64 = 0;
+
+pub const WAS_LEFT: u64 = 2;
+
+pub const RETURNED: u64 = 1;
+
+pub const WAS_RIGHT: u64 = 3;
 
 pub struct ActionStack {
     pub levels: u64,
@@ -96,7 +105,7 @@ impl ActionStack {
         let levels = self.levels;
         ActionStack {
             levels: levels + 1,
-            bits: put_state(self.bits, levels, 0),
+            bits: put_state(self.bits, levels, ENTERED),
         }
     }
 
@@ -123,10 +132,10 @@ impl ActionStack {
     }
 
     pub fn can_go_left(self) -> Answer
-        ensures { λ r. ⌜ paper self r ≡ testRule justEntered self ⌝ }
+        ensures { λ r. ⌜ paper self r ≡ canGoLeftRule self ⌝ }
     {
         if self.has_top() {
-            Answer::Done(self.top() == 0, self)
+            Answer::Done(self.top() == ENTERED, self)
         } else {
             Answer::Refused(Refusal::BadBit)
         }
@@ -134,7 +143,7 @@ impl ActionStack {
 
     // Sets the last bit and keeps the first.
     pub fn go_left(self) -> Answer
-        ensures { λ r. ⌜ paper self r ≡ markRule wentLeft self ⌝ }
+        ensures { λ r. ⌜ paper self r ≡ goLeftRule self ⌝ }
     {
         if self.has_top() {
             let state = self.top() % 2 + 2;
@@ -145,7 +154,7 @@ impl ActionStack {
     }
 
     pub fn can_match(self) -> Answer
-        ensures { λ r. ⌜ paper self r ≡ testRule notReturned self ⌝ }
+        ensures { λ r. ⌜ paper self r ≡ canMatchRule self ⌝ }
     {
         if self.has_top() {
             Answer::Done(self.top() % 2 == 0, self)
@@ -155,17 +164,17 @@ impl ActionStack {
     }
 
     pub fn make_match(self) -> Answer
-        ensures { λ r. ⌜ paper self r ≡ markRule (λ _. 1) self ⌝ }
+        ensures { λ r. ⌜ paper self r ≡ makeMatchRule self ⌝ }
     {
         if self.has_top() {
-            Answer::Done(false, self.mark(1))
+            Answer::Done(false, self.mark(RETURNED))
         } else {
             Answer::Refused(Refusal::BadBit)
         }
     }
 
     pub fn can_go_right(self) -> Answer
-        ensures { λ r. ⌜ paper self r ≡ testRule notRight self ⌝ }
+        ensures { λ r. ⌜ paper self r ≡ canGoRightRule self ⌝ }
     {
         if self.has_top() {
             Answer::Done(self.top() < 2, self)
@@ -175,10 +184,10 @@ impl ActionStack {
     }
 
     pub fn go_right(self) -> Answer
-        ensures { λ r. ⌜ paper self r ≡ markRule (λ _. 3) self ⌝ }
+        ensures { λ r. ⌜ paper self r ≡ goRightRule self ⌝ }
     {
         if self.has_top() {
-            Answer::Done(false, self.mark(3))
+            Answer::Done(false, self.mark(WAS_RIGHT))
         } else {
             Answer::Refused(Refusal::BadBit)
         }

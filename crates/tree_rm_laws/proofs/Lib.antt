@@ -23,6 +23,7 @@ pub mod Cut
 pub mod Landing
 pub mod PairLaws
 pub mod Removal
+pub mod SwapRemove
 pub mod Enough
 pub mod Doubled
 pub mod Unique

@@ -1,4 +1,4 @@
-use Rattle.stack.specs.Calls.{markRule}
+use Rattle.stack.specs.Calls.{makeMatchRule}
 use Rattle.stack.proofs.Laws.{mark-quiet}
 use Rattle.stack.proofs.Stores.{stores-back}
 use Rattle.stack.proofs.ActionStack.make_match.Symbol as by-value
@@ -10,5 +10,5 @@ use Rattle.stack.proofs.lent.make_match.Statement.{statement}
 pub make-match-spec : {M : Type 1} → statement M
 unfolding code.routine
 make-match-spec 𝓤 H 𝓜 𝓖 𝓡 =
-    stores-back (markRule (λ _. 1)) (mark-quiet (λ _. 1)) name by-value.name by-value.routine code.env code.calls-stack·ActionStack·make-match code.calls-stack·lent·stack-after
+    stores-back makeMatchRule (mark-quiet _) name by-value.name by-value.routine code.env code.calls-stack·ActionStack·make-match code.calls-stack·lent·stack-after
     code.calls-stack·lent·without-stack 𝓤 H 𝓜 𝓖 𝓡 (code.unfolded 𝓤 H 𝓜 𝓡) (by-value-met.met 𝓤 H 𝓜 𝓖 𝓡)
