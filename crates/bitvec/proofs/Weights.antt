@@ -2,49 +2,35 @@
 use mathlib.Core.Path.{_≡_, refl, sym, ap, _∙_}
 use mathlib.Core.Bool.{Bool, true, false, not}
 use mathlib.Core.List.{List, [], _∷_}
-use Prim.Native.Nat.{ℕ, zero, suc, _+_, _-_, _*_, _/_, _%_, _^_, _<_, _≤_, zero-le}
+use Prim.Native.Nat.{ℕ, zero, suc, _+_, _-_, _*_, _/_, _%_, _^_, _<_, _≤_}
 use native.Mathlib.Omega.{arith}
-use native.Mathlib.Nat.{pow-suc, add-mul, div-add-mod', le-antisymm, le-of-suc-le-suc, one-mul, zero-mul}
-use lib.ListN.{getD}
-use lib.Dec.{eqb, ltb}
+use native.Mathlib.Nat.{add-zero, zero-add, add-mul, div-add-mod', one-mul, zero-mul}
+use lib.ListN.{length, getD}
+use lib.Dec.{eqb}
 use lib.Pow.{pow-pos, high-ones}
 use lib.Bits.{bitAnd, and-high}
-use borrow.Author.Tests.{eqb-true, eqb-false, ne-eqb, ltb-true}
+use borrow.Author.Tests.{eqb-true, eqb-false, ne-eqb}
 use Rattle.bitvec.specs.Bits.{bit, put}
 use Rattle.bitvec.proofs.Numbers.{num, bit-weight, put-weight}
 
--- n numbers, from x on, each twice the one before
-abbrev doubles : ℕ → ℕ → List ℕ
-doubles x zero = []
-doubles x (suc n) = x ∷ doubles (x * 2) n
+-- n powers of two, from 2 ^ i on
+abbrev powers : ℕ → ℕ → List ℕ
+powers i zero = []
+powers i (suc n) = 2 ^ i ∷ powers (suc i) n
 
-doubles-at : (x n k : ℕ) → k < n → getD (doubles x n) k 0 ≡ x * 2 ^ k
-doubles-at x zero k h = absurd (omega arith)
-doubles-at x (suc n) zero h = omega arith
-doubles-at x (suc n) (suc k) h = doubles-at (x * 2) n k (omega arith) ∙ rw (pow-suc 2 k) (omega arith)
+powers-at : (i n k : ℕ) → k < n → getD (powers i n) k 0 ≡ 2 ^ (i + k)
+powers-at i zero k h = absurd (omega arith)
+powers-at i (suc n) zero h = rw add-zero
+powers-at i (suc n) (suc k) h = powers-at (suc i) n k (omega arith) ∙ ap (λ (m : ℕ). 2 ^ m) (omega arith)
 
--- the table of `weight`
-abbrev weights : List ℕ
-weights = 1 ∷ 2 ∷ 4 ∷ 8 ∷ 16 ∷ 32 ∷ 64 ∷ 128 ∷ []
+-- the test of a table t, computed over the whole of it: its entries are 2 ^ 0, 2 ^ 1, ..
+unfoldable pub Weighs : List ℕ → Type 0
+Weighs t = t ≡ powers 0 (length t)
 
--- its rule: a test over the whole table, which is computed, and the law of doubles
-tested : weights ≡ doubles 1 8
-tested = refl
-
-weights-are : (k : ℕ) → k < 8 → getD weights k 0 ≡ 2 ^ k
-weights-are k h = ap (λ (t : List ℕ). getD t k 0) tested ∙ doubles-at 1 8 k h ∙ omega arith
-
--- so what is handed out for bit j, where it is the entry k of the table, and k is j
-pub entry-is : (j k w : ℕ) → j ≡ k → ltb k 8 ≡ true → w ≡ getD weights k 0 → w ≡ 2 ^ j
-entry-is j k w e h t = t ∙ weights-are k (ltb-true k 8 h) ∙ ap (λ (i : ℕ). 2 ^ i) (sym e)
-
--- the last bit of a byte is the one that is none of the others
-past : (k j : ℕ) → k ≤ j → (j ≡ k → ⊥) → suc k ≤ j
-past k j h d = omega arith
-
-pub last-bit : (j : ℕ) → j < 8 → (j ≡ 0 → ⊥) → (j ≡ 1 → ⊥) → (j ≡ 2 → ⊥) → (j ≡ 3 → ⊥) → (j ≡ 4 → ⊥) → (j ≡ 5 → ⊥) → (j ≡ 6 → ⊥) → j ≡ 7
-last-bit j h a b c d e f g =
-    le-antisymm (le-of-suc-le-suc h) (past 6 j (past 5 j (past 4 j (past 3 j (past 2 j (past 1 j (past 0 j zero-le a) b) c) d) e) f) g)
+-- a table that passes has 2 ^ k at each place k
+pub weight-at : (t : List ℕ) (k : ℕ) → Weighs t → k < length t → getD t k 0 ≡ 2 ^ k
+unfolding Weighs
+weight-at t k e h = ap (λ (l : List ℕ). getD l k 0) e ∙ powers-at 0 (length t) k h ∙ ap (λ (m : ℕ). 2 ^ m) (zero-add k)
 
 -- a number's digit at a weight, taken away, and with another one in its place: to the base c, so that it may be a bit or two of them
 module _ (x w c : ℕ) where

@@ -21,21 +21,15 @@ pub enum Answer {
     Refused(Refusal),
 }
 
-// The weights of the bits of a byte, a table of eight constants: bit j weighs 2 to the j.
+// The weights of the bits of a byte: bit j weighs 2 to the j.
+const WEIGHTS: [u8; 8] = [1, 2, 4, 8, 16, 32, 64, 128];
+
+// The weight of bit j.
 pub fn weight(j: usize) -> u8
     requires { ⌜ j < 8 ⌝ }
     ensures { λ r. ⌜ r ≡ 2 ^ j ⌝ }
 {
-    match j {
-        0 => 1,
-        1 => 2,
-        2 => 4,
-        3 => 8,
-        4 => 16,
-        5 => 32,
-        6 => 64,
-        _ => 128,
-    }
+    WEIGHTS[j]
 }
 
 // Bit j of a byte: whether its weight is in the byte.
