@@ -2,17 +2,30 @@
 -- and when a call is refused.
 use mathlib.Core.Path.{_≡_, refl, sym, _∙_}
 use mathlib.Core.Bool.{Bool, true, false, cond, _&&_}
-use Prim.Native.Nat.{ℕ, zero, suc, _+_, _-_, _/_, _^_, _<_, _≤_}
+use Prim.Native.Nat.{ℕ, zero, suc, _+_, _-_, _*_, _/_, _^_, _<_, _≤_}
 use native.Mathlib.Omega.{arith}
+use native.Mathlib.Numerals.{add-one}
 use native.Mathlib.Nat.{div-eq-of-lt}
 use lib.Dec.{eqb, leb}
 use borrow.Author.Tests.{le-leb, lt-leb, leb-true, ne-eqb}
+use Rattle.bitvec.specs.Bits.{bit}
+use Rattle.bitvec.proofs.Numbers.{num}
 use Rattle.stack.specs.States.{entered, wasLeft, returned, wasRight, stateAt, putState, start, top, marked, pushed, popped}
 use Rattle.stack.specs.Calls.{Told, done, some, testRule, markRule, pushRule, popRule, isEmptyRule}
 use Rattle.stack.specs.Calls.{justEntered, notReturned, notRight, wentLeft, canGoLeftRule, canMatchRule, canGoRightRule, goLeftRule, makeMatchRule, goRightRule}
-use Rattle.stack.specs.Written.{byState, Writes, refusedBy}
+use Rattle.stack.specs.Written.{state, byState, Writes, refusedBy}
 use Rattle.stack.specs.declared.ActionStack.{ActionStack}
-use Rattle.stack.proofs.Levels.{four, state-low, state-put-same, state-put-other}
+use Rattle.stack.proofs.Levels.{four, state-low, state-bits, state-put-same, state-put-other}
+
+-- "Level j (from 0) uses bits 2j and 2j + 1"
+pub state-says : (x j : ℕ) → stateAt x j ≡ state (bit x (2 * j)) (bit x (2 * j + 1))
+state-says x j = rw add-one (state-bits x j ∙ go (bit x (2 * j)) (bit x (suc (2 * j))))
+  where
+    go : (a b : Bool) → num a + 2 * num b ≡ state a b
+    go true true = refl
+    go true false = refl
+    go false true = refl
+    go false false = refl
 
 -- what a function says of a state, by the four states
 by-state : {A : Type 0} (f : ℕ → A) (v : ℕ) → v < 4 → f v ≡ byState (f entered) (f wasLeft) (f returned) (f wasRight) v

@@ -1,12 +1,19 @@
 -- What a call did to a stack, and a choice by the state of a level: the words of the table in proofs/Table.
 use mathlib.Core.Path.{_≡_}
 use mathlib.Core.Logic.{_≢_}
-use mathlib.Core.Bool.{false, cond}
+use mathlib.Core.Bool.{Bool, true, false, cond}
 use Prim.Native.Nat.{ℕ}
 use lib.Dec.{eqb}
-use Rattle.stack.specs.States.{entered, wasLeft, returned, stateAt}
+use Rattle.stack.specs.States.{entered, wasLeft, returned, wasRight, stateAt}
 use Rattle.stack.specs.Calls.{Told}
 use Rattle.stack.specs.declared.ActionStack.{ActionStack}
+
+-- "Stack states, first bit then last: 00 entered, 01 was left, 10 returned, 11 was right"
+abbrev pub state : Bool → Bool → ℕ
+state false false = entered
+state false true = wasLeft
+state true false = returned
+state true true = wasRight
 
 -- by the state v: the first for 00 entered, the second for 01 was left, the third for 10 returned, the fourth for 11 was right
 abbrev pub byState : {A : Type 0} → A → A → A → A → ℕ → A
