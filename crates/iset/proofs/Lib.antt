@@ -8,6 +8,7 @@ pub mod Found
 pub mod Runs
 pub mod Refusals
 pub mod BitRefusals
+pub mod Answers
 pub mod Below
 pub mod Laws
 pub mod Determined

@@ -161,7 +161,7 @@ module _ (W C S : List ℕ) where
       let (k, a, b, f) = every-fails (inOrder S) (count S - 1) 0 e in
       (k, omega arith, λ h. true≢false (sym (le-complete (intervalOf S k) (intervalOf S (k + 1)) (rw (add-one k) h)) ∙ f))
 
-  build-no : buildRule W C S .no ≡ buildNumber (length W) (length C) S
+  pub build-no : buildRule W C S .no ≡ buildNumber (length W) (length C) S
   unfolding buildRule
   build-no = number-is (λ (a : BuildAnswer). a .no) (buildNumber (length W) (length C) S) _ _ refl refl
 
@@ -205,7 +205,7 @@ module _ (W C S : List ℕ) where
 
 -- A removal.
 module _ (m : Map) (W C : List ℕ) (s : ℕ) where
-  remove-no : removeCall m W C s .no ≡ removeNumber m W C s
+  pub remove-no : removeCall m W C s .no ≡ removeNumber m W C s
   unfolding removeCall
   remove-no = number-is (λ (a : RemoveAnswer). a .no) (removeNumber m W C s) _ _ refl refl
 
@@ -239,7 +239,7 @@ module _ (m : Map) (W C : List ℕ) (e : Entry) where
   abbrev held : ℕ
   held = room (length W) (length C)
 
-  insert-no : insertCall m W C e .no ≡ insertNumber m W C e
+  pub insert-no : insertCall m W C e .no ≡ insertNumber m W C e
   unfolding insertCall
   insert-no = number-is (λ (a : InsertAnswer). a .no) (insertNumber m W C e) _ _ refl refl
 
@@ -312,7 +312,7 @@ module _ (m : Map) (W C : List ℕ) where
       apart (Exact x) = omega arith
 
   -- the fresh cursor of an exact lookup
-  start-no : (x : Interval) → startCall m W C x .no ≡ startNumber m W C (Exact x)
+  pub start-no : (x : Interval) → startCall m W C x .no ≡ startNumber m W C (Exact x)
   unfolding startCall
   start-no x = number-is (λ (a : StartAnswer). a .no) (startNumber m W C (Exact x)) _ _ refl refl
 
