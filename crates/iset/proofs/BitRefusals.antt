@@ -16,16 +16,16 @@ use Rattle.stack.specs.declared.ActionStack.{ActionStack}
 use Rattle.iset.specs.Refusals.{Rows, accept, refuse, Exactly, TooLong, PastLength, NoByteLeft, NoNextLength, Nothing, Full, TooDeep, bitRows, pushRows, popRows, fromElemRows, stackPushRows, topRows, isEmptyRows}
 
 -- a test fails exactly if P
-abbrev Fails : Bool → Type 0 → Type 0
+abbrev pub Fails : Bool → Type 0 → Type 0
 Fails t P = (t ≡ true → P → ⊥) × (t ≡ false → P)
 
 lt-fails : (a b : ℕ) → Fails (ltb a b) (b ≤ a)
 lt-fails a b = (λ t p. omega (arith, ltb-true a b t), ltb-false a b)
 
-le-fails : (a b : ℕ) → Fails (leb a b) (b < a)
+pub le-fails : (a b : ℕ) → Fails (leb a b) (b < a)
 le-fails a b = (λ t p. omega (arith, leb-true a b t), leb-false a b)
 
-and-fails : (a b : Bool) (P Q : Type 0) → Fails a P → Fails b Q → Fails (a && b) (P ⊎ Q)
+pub and-fails : (a b : Bool) (P Q : Type 0) → Fails a P → Fails b Q → Fails (a && b) (P ⊎ Q)
 and-fails true b P Q f g = (λ t. ⊎-elim (f .0 refl) (g .0 t), λ t. inr (g .1 t))
 and-fails false b P Q f g = (λ t. absurd (true≢false (sym t)), λ t. inl (f .1 refl))
 

@@ -70,7 +70,7 @@ followed accept T = T
 followed (refuse a P R) T = refuse a P (followed R T)
 
 -- a number that no row of a table has
-abbrev Lacks : ℕ → Rows → Type 0
+abbrev pub Lacks : ℕ → Rows → Type 0
 Lacks a accept = a ≡ 0 → ⊥
 Lacks a (refuse b P R) = (a ≡ b → ⊥) × Lacks a R
 
@@ -95,12 +95,12 @@ first-then (refuse c P R) T a b d e f = (
     go (suc k) i j = let y : suc k ≡ c = rw (ne-eqb (suc k) 0 (λ z. omega arith)) at j in e .0 .0 (i ∙ y)
 
 -- a row before a table, by a test that is passed, or by one that is not
-passed-row : (a : ℕ) (P : Type 0) (R : Rows) (k : ℕ) (t : Bool) → Lacks a R → (t ≡ true → P → ⊥) → (t ≡ false → P) → (t ≡ true → Exactly R k)
+pub passed-row : (a : ℕ) (P : Type 0) (R : Rows) (k : ℕ) (t : Bool) → Lacks a R → (t ≡ true → P → ⊥) → (t ≡ false → P) → (t ≡ true → Exactly R k)
     → Exactly (refuse a P R) (cond t k a)
 passed-row a P R k true l f g h = ((λ i. absurd (never a R k l (h refl) i), λ p. absurd (f refl p)), λ z. h refl)
 passed-row a P R k false l f g h = ((λ i. g refl, λ p. refl), λ z. absurd (z (g refl)))
 
-failed-row : (a : ℕ) (P : Type 0) (R : Rows) (k : ℕ) (t : Bool) → Lacks a R → (t ≡ true → P) → (t ≡ false → P → ⊥) → (t ≡ false → Exactly R k)
+pub failed-row : (a : ℕ) (P : Type 0) (R : Rows) (k : ℕ) (t : Bool) → Lacks a R → (t ≡ true → P) → (t ≡ false → P → ⊥) → (t ≡ false → Exactly R k)
     → Exactly (refuse a P R) (cond t a k)
 failed-row a P R k false l f g h = ((λ i. absurd (never a R k l (h refl) i), λ p. absurd (g refl p)), λ z. h refl)
 failed-row a P R k true l f g h = ((λ i. f refl, λ p. refl), λ z. absurd (z (f refl)))
