@@ -115,8 +115,145 @@ pub build-told : (κs : Lfts 4) (a : K.Dens κs build-kinds.ps) (r : K.resT buil
     let S : List ℕ = now (a .1 .1 .0) in
     let b : BuildAnswer = buildRule W C S in
     Told (buildRows W C S) (b .count ∷ b .root ∷ []) (now (a .1 .1 .1 .0)) (now (s .1 .1 .1 .0)) r
-build-told κs a r s p =
-    let W : List ℕ = now (a .0) in
-    let C : List ℕ = now (a .1 .0) in
-    let S : List ℕ = now (a .1 .1 .0) in
-    told (buildRows W C S) _ (now (a .1 .1 .1 .0)) (now (s .1 .1 .1 .0)) r (omega arith) (build-refusals W C S) (p .0) (p .1)
+build-told κs a r s p = told _ _ _ _ r (omega arith) (build-refusals _ _ _) (p .0) (p .1)
+
+-- `iset_remove`: value, count, root, then three pairs, old slot, new slot
+pub remove-told : (κs : Lfts 3) (a : K.Dens κs remove-kinds.ps) (r : K.resT remove-kinds.r κs .Denot) (s : AtExit (K.endedOf 3 remove-kinds.ps remove-kinds.r) κs)
+    → remove-reads.Post κs a r s
+    → let m : Map = record { count = a .0; root = a .1 .0 } in
+    let W : List ℕ = now (a .1 .1 .0) in
+    let C : List ℕ = now (a .1 .1 .1 .0) in
+    let slot : ℕ = a .1 .1 .1 .1 .0 in
+    let b : RemoveAnswer = removeCall m W C slot in
+    Told (removeRows m W C slot)
+    (b .value ∷ b .count ∷ b .root
+    ∷ b .pairs .first .old ∷ b .pairs .first .new ∷ b .pairs .second .old ∷ b .pairs .second .new ∷ b .pairs .third .old ∷ b .pairs .third .new ∷ [])
+    (now (a .1 .1 .1 .1 .1 .0)) (now (s .1 .1 .1 .1 .1 .0)) r
+remove-told κs a r s p = told _ _ _ _ r (omega arith) (remove-refusals _ _ _ _) (p .0) (p .1)
+
+-- `iset_insert`: count, root, the new entry's slot
+pub insert-told : (κs : Lfts 3) (a : K.Dens κs insert-kinds.ps) (r : K.resT insert-kinds.r κs .Denot) (s : AtExit (K.endedOf 3 insert-kinds.ps insert-kinds.r) κs)
+    → insert-reads.Post κs a r s
+    → let m : Map = record { count = a .0; root = a .1 .0 } in
+    let W : List ℕ = now (a .1 .1 .0) in
+    let C : List ℕ = now (a .1 .1 .1 .0) in
+    let e : Entry = record { start = a .1 .1 .1 .1 .0; end = a .1 .1 .1 .1 .1 .0; value = a .1 .1 .1 .1 .1 .1 .0 } in
+    let b : InsertAnswer = insertCall m W C e in
+    Told (insertRows m W C e) (b .count ∷ b .root ∷ b .slot ∷ []) (now (a .1 .1 .1 .1 .1 .1 .1 .0)) (now (s .1 .1 .1 .1 .1 .1 .1 .0)) r
+insert-told κs a r s p = told _ _ _ _ r (omega arith) (insert-refusals _ _ _ _) (p .0) (p .1)
+
+-- `iset_fresh`: slot, levels, bits: the root, one level, 00. It has no refusal but 101.
+pub fresh-told : (κs : Lfts 1) (a : K.Dens κs fresh-kinds.ps) (r : K.resT fresh-kinds.r κs .Denot) (s : AtExit (K.endedOf 1 fresh-kinds.ps fresh-kinds.r) κs)
+    → fresh-reads.Post κs a r s → Told accept (a .1 .0 ∷ 1 ∷ 0 ∷ []) (now (a .1 .1 .0)) (now (s .1 .1 .0)) r
+fresh-told κs a r s p = told accept _ _ _ r (omega arith) refl (p .0) (p .1)
+
+-- `iset_fresh_exact`: slot, levels, bits
+pub fresh-exact-told : (κs : Lfts 3) (a : K.Dens κs fresh-exact-kinds.ps) (r : K.resT fresh-exact-kinds.r κs .Denot) (s : AtExit (K.endedOf 3 fresh-exact-kinds.ps fresh-exact-kinds.r) κs)
+    → fresh-exact-reads.Post κs a r s
+    → let m : Map = record { count = a .0; root = a .1 .0 } in
+    let W : List ℕ = now (a .1 .1 .0) in
+    let C : List ℕ = now (a .1 .1 .1 .0) in
+    let x : Interval = record { start = a .1 .1 .1 .1 .0; end = a .1 .1 .1 .1 .1 .0 } in
+    let c : Cursor = startCall m W C x .cursor in
+    Told (startRows m W C x) (c .slot ∷ c .levels ∷ c .bits ∷ []) (now (a .1 .1 .1 .1 .1 .1 .0)) (now (s .1 .1 .1 .1 .1 .1 .0)) r
+fresh-exact-told κs a r s p = told _ _ _ _ r (omega arith) (start-refusals _ _ _ _) (p .0) (p .1)
+
+-- the places of a step: its slot, the next cursor's slot, levels, bits, the nodes entered; of a drain: the hits, the nodes entered, the next cursor
+abbrev stepPlaces : StepAnswer → List ℕ
+stepPlaces b = b .slot ∷ b .next .slot ∷ b .next .levels ∷ b .next .bits ∷ b .entered ∷ []
+
+abbrev drainPlaces : DrainAnswer → List ℕ
+drainPlaces b = b .hits ∷ b .entered ∷ b .next .slot ∷ b .next .levels ∷ b .next .bits ∷ []
+
+-- `iset_step`
+pub step-told : (κs : Lfts 3) (a : K.Dens κs step-kinds.ps) (r : K.resT step-kinds.r κs .Denot) (s : AtExit (K.endedOf 3 step-kinds.ps step-kinds.r) κs)
+    → step-reads.Post κs a r s
+    → let m : Map = record { count = a .0; root = a .1 .0 } in
+    let W : List ℕ = now (a .1 .1 .0) in
+    let C : List ℕ = now (a .1 .1 .1 .0) in
+    let b = a .1 .1 .1 .1 in
+    let q : Query = rangeOf (b .0) (b .1 .0) (b .1 .1 .0) (b .1 .1 .1 .0) in
+    let c : Cursor = record { slot = b .1 .1 .1 .1 .0; levels = b .1 .1 .1 .1 .1 .0; bits = b .1 .1 .1 .1 .1 .1 .0 } in
+    Told (refuse 102 (BadBound (b .0) (b .1 .1 .0)) (stepRows m W C q c)) (stepPlaces (stepCall m W C q c))
+    (now (b .1 .1 .1 .1 .1 .1 .1 .0)) (now (s .1 .1 .1 .1 .1 .1 .1 .1 .1 .1 .1 .0)) r
+step-told κs a r s p =
+    let m : Map = record { count = a .0; root = a .1 .0 } in
+    let W : List ℕ = now (a .1 .1 .0) in
+    let C : List ℕ = now (a .1 .1 .1 .0) in
+    let b = a .1 .1 .1 .1 in
+    let q : Query = rangeOf (b .0) (b .1 .0) (b .1 .1 .0) (b .1 .1 .1 .0) in
+    let c : Cursor = record { slot = b .1 .1 .1 .1 .0; levels = b .1 .1 .1 .1 .1 .0; bits = b .1 .1 .1 .1 .1 .1 .0 } in
+    told-ranged (stepRows m W C q c) (stepTold m W C q c) (now (b .1 .1 .1 .1 .1 .1 .1 .0)) (now (s .1 .1 .1 .1 .1 .1 .1 .1 .1 .1 .1 .0)) r
+    (b .0) (b .1 .1 .0) (omega arith) (omega arith) (step-refusals m W C c q) (p .0) (p .1)
+
+-- `iset_step_exact`
+pub step-exact-told : (κs : Lfts 3) (a : K.Dens κs step-exact-kinds.ps) (r : K.resT step-exact-kinds.r κs .Denot) (s : AtExit (K.endedOf 3 step-exact-kinds.ps step-exact-kinds.r) κs)
+    → step-exact-reads.Post κs a r s
+    → let m : Map = record { count = a .0; root = a .1 .0 } in
+    let W : List ℕ = now (a .1 .1 .0) in
+    let C : List ℕ = now (a .1 .1 .1 .0) in
+    let b = a .1 .1 .1 .1 in
+    let q : Query = Exact (record { start = b .0; end = b .1 .0 }) in
+    let c : Cursor = record { slot = b .1 .1 .0; levels = b .1 .1 .1 .0; bits = b .1 .1 .1 .1 .0 } in
+    Told (stepRows m W C q c) (stepPlaces (stepCall m W C q c)) (now (b .1 .1 .1 .1 .1 .0)) (now (s .1 .1 .1 .1 .1 .1 .1 .1 .1 .0)) r
+step-exact-told κs a r s p =
+    let m : Map = record { count = a .0; root = a .1 .0 } in
+    let W : List ℕ = now (a .1 .1 .0) in
+    let C : List ℕ = now (a .1 .1 .1 .0) in
+    let b = a .1 .1 .1 .1 in
+    let q : Query = Exact (record { start = b .0; end = b .1 .0 }) in
+    let c : Cursor = record { slot = b .1 .1 .0; levels = b .1 .1 .1 .0; bits = b .1 .1 .1 .1 .0 } in
+    told (stepRows m W C q c) (stepTold m W C q c) (now (b .1 .1 .1 .1 .1 .0)) (now (s .1 .1 .1 .1 .1 .1 .1 .1 .1 .0)) r
+    (omega arith) (step-refusals m W C c q) (p .0) (p .1)
+
+-- `iset_drain`
+pub drain-told : (κs : Lfts 4) (a : K.Dens κs drain-kinds.ps) (r : K.resT drain-kinds.r κs .Denot) (s : AtExit (K.endedOf 4 drain-kinds.ps drain-kinds.r) κs)
+    → drain-reads.Post κs a r s
+    → let m : Map = record { count = a .0; root = a .1 .0 } in
+    let W : List ℕ = now (a .1 .1 .0) in
+    let C : List ℕ = now (a .1 .1 .1 .0) in
+    let b = a .1 .1 .1 .1 in
+    let q : Query = rangeOf (b .0) (b .1 .0) (b .1 .1 .0) (b .1 .1 .1 .0) in
+    let c : Cursor = record { slot = b .1 .1 .1 .1 .0; levels = b .1 .1 .1 .1 .1 .0; bits = b .1 .1 .1 .1 .1 .1 .0 } in
+    let limit : ℕ = b .1 .1 .1 .1 .1 .1 .1 .0 in
+    let out : List ℕ = now (b .1 .1 .1 .1 .1 .1 .1 .1 .0) in
+    Told (refuse 102 (BadBound (b .0) (b .1 .1 .0)) (drainRows m W C q c limit (length out))) (drainPlaces (drainCall m W C q c limit (length out)))
+    (now (b .1 .1 .1 .1 .1 .1 .1 .1 .1 .0)) (now (s .1 .1 .1 .1 .1 .1 .1 .1 .1 .1 .1 .1 .1 .0)) r
+drain-told κs a r s p =
+    let m : Map = record { count = a .0; root = a .1 .0 } in
+    let W : List ℕ = now (a .1 .1 .0) in
+    let C : List ℕ = now (a .1 .1 .1 .0) in
+    let b = a .1 .1 .1 .1 in
+    let q : Query = rangeOf (b .0) (b .1 .0) (b .1 .1 .0) (b .1 .1 .1 .0) in
+    let c : Cursor = record { slot = b .1 .1 .1 .1 .0; levels = b .1 .1 .1 .1 .1 .0; bits = b .1 .1 .1 .1 .1 .1 .0 } in
+    let limit : ℕ = b .1 .1 .1 .1 .1 .1 .1 .0 in
+    let out : List ℕ = now (b .1 .1 .1 .1 .1 .1 .1 .1 .0) in
+    told-ranged (drainRows m W C q c limit (length out)) (drainTold m W C q c limit out)
+    (now (b .1 .1 .1 .1 .1 .1 .1 .1 .1 .0)) (now (s .1 .1 .1 .1 .1 .1 .1 .1 .1 .1 .1 .1 .1 .0)) r
+    (b .0) (b .1 .1 .0) (omega arith) (omega arith) (drain-refusals m W C c limit q (length out)) (p .0) (p .1)
+
+-- `iset_drain_exact`
+pub drain-exact-told : (κs : Lfts 4) (a : K.Dens κs drain-exact-kinds.ps) (r : K.resT drain-exact-kinds.r κs .Denot) (s : AtExit (K.endedOf 4 drain-exact-kinds.ps drain-exact-kinds.r) κs)
+    → drain-exact-reads.Post κs a r s
+    → let m : Map = record { count = a .0; root = a .1 .0 } in
+    let W : List ℕ = now (a .1 .1 .0) in
+    let C : List ℕ = now (a .1 .1 .1 .0) in
+    let b = a .1 .1 .1 .1 in
+    let q : Query = Exact (record { start = b .0; end = b .1 .0 }) in
+    let c : Cursor = record { slot = b .1 .1 .0; levels = b .1 .1 .1 .0; bits = b .1 .1 .1 .1 .0 } in
+    let limit : ℕ = b .1 .1 .1 .1 .1 .0 in
+    let out : List ℕ = now (b .1 .1 .1 .1 .1 .1 .0) in
+    Told (drainRows m W C q c limit (length out)) (drainPlaces (drainCall m W C q c limit (length out)))
+    (now (b .1 .1 .1 .1 .1 .1 .1 .0)) (now (s .1 .1 .1 .1 .1 .1 .1 .1 .1 .1 .1 .0)) r
+drain-exact-told κs a r s p =
+    let m : Map = record { count = a .0; root = a .1 .0 } in
+    let W : List ℕ = now (a .1 .1 .0) in
+    let C : List ℕ = now (a .1 .1 .1 .0) in
+    let b = a .1 .1 .1 .1 in
+    let q : Query = Exact (record { start = b .0; end = b .1 .0 }) in
+    let c : Cursor = record { slot = b .1 .1 .0; levels = b .1 .1 .1 .0; bits = b .1 .1 .1 .1 .0 } in
+    let limit : ℕ = b .1 .1 .1 .1 .1 .0 in
+    let out : List ℕ = now (b .1 .1 .1 .1 .1 .1 .0) in
+    told (drainRows m W C q c limit (length out)) (drainTold m W C q c limit out)
+    (now (b .1 .1 .1 .1 .1 .1 .1 .0)) (now (s .1 .1 .1 .1 .1 .1 .1 .1 .1 .1 .1 .0)) r
+    (omega arith) (drain-refusals m W C c limit q (length out)) (p .0) (p .1)
