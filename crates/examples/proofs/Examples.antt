@@ -28,7 +28,7 @@ use Rattle.iset.specs.Insert.{properNumber, insertNumber, insertCall, insertNod
 use Rattle.iset.specs.Lookup.{startNumber, stepNumber, drainNumber, startCall, stepCall, drainCall, drainOutput}
 use Rattle.examples.specs.Stores.{buildIn, _minus_, _plus_, treeAt, treeOf, touched, boundOf}
 use Rattle.examples.specs.Rows.{Each, outcome, stepsFrom, foundFrom, leftIn, tell}
-use Rattle.examples.specs.Table.{storeA, storeA′, storeB, table}
+use Rattle.examples.specs.Table.{storeA, storeA′, storeB, storeC, table}
 
 -- What the rows compute with, layer by layer: to unfold one of these names is to unfold all that its line names.
 reading : Unit {0}
@@ -72,10 +72,10 @@ unfolding buildNumber buildRule buildNodes buildColour removeNumber removeCall r
 changing = record {}
 
 telling : Unit {0}
-unfolding buildIn _minus_ _plus_ treeAt treeOf touched boundOf outcome stepsFrom foundFrom leftIn tell storeA storeA′ storeB
+unfolding buildIn _minus_ _plus_ treeAt treeOf touched boundOf outcome stepsFrom foundFrom leftIn tell storeA storeA′ storeB storeC
 telling = record {}
 
 -- one `refl` a row, in the table's order
 pub examples : Each table
 unfolding reading checking building repairing naming removing inserting walking looking changing telling
-examples = (refl, (refl, (refl, (refl, (refl, (refl, (refl, (refl, (refl, (refl, (refl, (refl, (refl, (refl, (refl, (refl, (refl, (refl, (refl, (refl, (refl, (refl, (refl, (refl, (refl, (refl, (refl, (refl, (refl, record {})))))))))))))))))))))))))))))
+examples = (refl, (refl, (refl, (refl, (refl, (refl, (refl, (refl, (refl, (refl, (refl, (refl, (refl, (refl, (refl, (refl, (refl, (refl, (refl, (refl, (refl, (refl, (refl, (refl, (refl, (refl, (refl, (refl, (refl, (refl, (refl, (refl, (refl, record {})))))))))))))))))))))))))))))))))

@@ -1,8 +1,9 @@
 -- "Examples to hold it against": every case that is marked (*), in the document's order and beside its words, and what document 02 adds; and after
--- them cases of our own, worked out by hand from the documents' words, for what those leave open.
+-- them cases of our own for what those leave open, worked out from the documents' words by tests/model.py.
 use mathlib.Core.Bool.{false}
-use mathlib.Core.List.{List, [], _∷_}
-use Prim.Native.Nat.{ℕ}
+use mathlib.Core.List.{List, [], _∷_, _++_}
+use Prim.Native.Nat.{ℕ, zero, suc}
+use lib.ListN.{replicate}
 use Rattle.words.specs.Ix.{U}
 use Rattle.words.specs.Refusals.{refusalNumber}
 use Rattle.words.specs.declared.interval.Bound.the-variants.{Included, Excluded, Unbounded}
@@ -32,6 +33,19 @@ listB = 5 ∷ 9 ∷ 1 ∷ 5 ∷ 9 ∷ 2 ∷ 5 ∷ 9 ∷ 3 ∷ []
 
 unfoldable pub storeB : Store
 storeB = buildIn 24 1 listB
+
+-- Store C, built from the 65 entries [0,1) 0, [1,2) 1, .. [64,65) 64
+abbrev pub units : ℕ → ℕ → List ℕ
+units a zero = []
+units a (suc k) = a ∷ suc a ∷ a ∷ units (suc a) k
+
+unfoldable pub storeC : Store
+storeC = buildIn 520 9 (units 0 65)
+
+-- the slots from a on, k of them
+abbrev pub from : ℕ → ℕ → List ℕ
+from a zero = []
+from a (suc k) = a ∷ from (suc a) k
 
 -- a node without children
 abbrev pub only : ℕ → Tree
@@ -168,4 +182,14 @@ table =
     }) ∷
     -- "Its colour bit keeps what the repair left in it": the emptied slot 5 was red, and its bit stays 1
     remove (storeA′ plus entry 25 30 6) 5 gives removed (record { no = 0; value = 6; count = 5; root = 2; pairs = moved [] }) (colours 41) ∷
+    -- "limit 0 means 64, for refusal 9 too": an output of 63 places is too short
+    drain storeA Unbounded Unbounded (fresh 2) 0 (replicate 63 7) gives
+    drained (record { no = refusalNumber ShortOutput; hits = 0; entered = 0; next = fresh 2 }) (replicate 63 7) ∷
+    -- of 63 hits it comes to the end; of 64, and of 65, it stops at the 64th, in slot 63
+    drain storeC Unbounded (Excluded 63) (fresh 32) 0 (replicate 66 7) gives
+    drained (record { no = 0; hits = 63; entered = 64; next = ended }) (from 0 63 ++ (7 ∷ 7 ∷ 7 ∷ [])) ∷
+    drain storeC Unbounded (Excluded 64) (fresh 32) 0 (replicate 66 7) gives
+    drained (record { no = 0; hits = 64; entered = 64; next = held 63 5 511 }) (from 0 64 ++ (7 ∷ 7 ∷ [])) ∷
+    drain storeC Unbounded Unbounded (fresh 32) 0 (replicate 66 7) gives
+    drained (record { no = 0; hits = 64; entered = 64; next = held 63 5 511 }) (from 0 64 ++ (7 ∷ 7 ∷ [])) ∷
     []
