@@ -24,14 +24,14 @@ use Rattle.iter.specs.declared.rules.Query.the-variants.{Exact}
 use Rattle.iset.specs.Build.{BuildAnswer, buildRule}
 use Rattle.iset.specs.Remove.{RemoveAnswer, removeCall}
 use Rattle.iset.specs.Insert.{InsertAnswer, insertCall}
-use Rattle.iset.specs.Lookup.{StepAnswer, DrainAnswer, startCall, stepCall, drainCall}
+use Rattle.iset.specs.Lookup.{startCall, stepCall, drainCall}
 use Rattle.iset.specs.Refusals.{Rows, accept, refuse, Exactly, checkRows, buildRows, removeRows, insertRows, startRows, stepRows, drainRows}
 use Rattle.iset.specs.declared.Map.{Map}
 use Rattle.iset.proofs.Refusals.{Lacks, passed-row, failed-row, check-refusals, build-refusals, remove-refusals, insert-refusals, start-refusals, step-refusals, drain-refusals}
 use Rattle.iset.proofs.BitRefusals.{Fails, le-fails, and-fails}
 use Rattle.capi.specs.Replies.{Reply, number, handed, stepTold, drainTold}
 use Rattle.capi.specs.Ranges.{boundOf, rangeOf, kinds, ranged}
-use Rattle.capi.specs.Places.{Told, BadBound}
+use Rattle.capi.specs.Places.{Told, BadBound, stepPlaces, drainPlaces}
 use Rattle.capi.proofs.iset_check.Reads as check-reads
 use Rattle.capi.proofs.iset_check.Kinds as check-kinds
 use Rattle.capi.proofs.iset_build.Reads as build-reads
@@ -157,13 +157,6 @@ pub fresh-exact-told : (κs : Lfts 3) (a : K.Dens κs fresh-exact-kinds.ps) (r :
     let c : Cursor = startCall m W C x .cursor in
     Told (startRows m W C x) (c .slot ∷ c .levels ∷ c .bits ∷ []) (now (a .1 .1 .1 .1 .1 .1 .0)) (now (s .1 .1 .1 .1 .1 .1 .0)) r
 fresh-exact-told κs a r s p = told _ _ _ _ r (omega arith) (start-refusals _ _ _ _) (p .0) (p .1)
-
--- the places of a step: its slot, the next cursor's slot, levels, bits, the nodes entered; of a drain: the hits, the nodes entered, the next cursor
-abbrev stepPlaces : StepAnswer → List ℕ
-stepPlaces b = b .slot ∷ b .next .slot ∷ b .next .levels ∷ b .next .bits ∷ b .entered ∷ []
-
-abbrev drainPlaces : DrainAnswer → List ℕ
-drainPlaces b = b .hits ∷ b .entered ∷ b .next .slot ∷ b .next .levels ∷ b .next .bits ∷ []
 
 -- `iset_step`
 pub step-told : (κs : Lfts 3) (a : K.Dens κs step-kinds.ps) (r : K.resT step-kinds.r κs .Denot) (s : AtExit (K.endedOf 3 step-kinds.ps step-kinds.r) κs)
