@@ -10,6 +10,9 @@ use Rattle.tree_rm_laws.specs.Links.{adopt, setChild, redirected, removeChild, 
 use Rattle.tree_rm_laws.specs.Repair.{turn, turn-2, turn-4, dyeAt, choose, turnOf, turnAt, step, repair}
 use Rattle.tree_rm_laws.specs.Pairs.{instead, emptied, home, named, lower, upper, sorted, moved}
 use Rattle.tree_rm_laws.specs.Remove.{leftmost, vacated, exchanged, child, restructure, handed, above, cutWords, cutRoot, copied, relinked, cleared, swapRemove, finish, removeFrom, removeRule}
+use Rattle.tree_in_laws.specs.Descent.{goesLeft, descend, under}
+use Rattle.tree_in_laws.specs.Mend.{rotated, outer, inner, recoloured, mendAt, mendBelow, mendStep, mend}
+use Rattle.tree_in_laws.specs.Insert.{hungNode, hungWords, hungRoot, hung, mended, insertRule}
 use Rattle.stack.specs.States.{stateAt, putState, top, marked, pushed, popped}
 use Rattle.iter.specs.Cursors.{upTo}
 use Rattle.iter.specs.Walk.{deeper, mark, down, move, enters, hits, seek, step as stepOf}
@@ -21,10 +24,11 @@ use Rattle.iter.specs.Queries.{rules}
 use Rattle.iset.specs.Check.{checkRule}
 use Rattle.iset.specs.Build.{buildNumber, buildRule, buildNodes, buildColour}
 use Rattle.iset.specs.Remove.{removeNumber, removeCall, removeNodes, removeColours}
+use Rattle.iset.specs.Insert.{properNumber, insertNumber, insertCall, insertNodes, insertColours}
 use Rattle.iset.specs.Lookup.{startNumber, stepNumber, drainNumber, startCall, stepCall, drainCall, drainOutput}
-use Rattle.examples.specs.Stores.{buildIn, _minus_, treeAt, treeOf, touched, boundOf}
-use Rattle.examples.specs.Rows.{Each, outcome, stepsFrom, foundFrom, tell}
-use Rattle.examples.specs.Table.{storeA, storeB, table}
+use Rattle.examples.specs.Stores.{buildIn, _minus_, _plus_, treeAt, treeOf, touched, boundOf}
+use Rattle.examples.specs.Rows.{Each, outcome, stepsFrom, foundFrom, leftIn, tell}
+use Rattle.examples.specs.Table.{storeA, storeA′, storeB, storeC, table}
 
 -- What the rows compute with, layer by layer: to unfold one of these names is to unfold all that its line names.
 reading : Unit {0}
@@ -51,6 +55,10 @@ removing : Unit {0}
 unfolding leftmost vacated exchanged child restructure handed above cutWords cutRoot copied relinked cleared swapRemove finish removeFrom removeRule
 removing = record {}
 
+inserting : Unit {0}
+unfolding goesLeft descend under rotated outer inner recoloured mendAt mendBelow mendStep mend hungNode hungWords hungRoot hung mended insertRule
+inserting = record {}
+
 walking : Unit {0}
 unfolding stateAt putState top marked pushed popped upTo deeper mark down move enters hits seek stepOf drain filled onSide formed heldForm formOf
 walking = record {}
@@ -60,14 +68,14 @@ unfolding meets shouldGo equals sortedBy shouldGoExact find rules startNumber st
 looking = record {}
 
 changing : Unit {0}
-unfolding buildNumber buildRule buildNodes buildColour removeNumber removeCall removeNodes removeColours
+unfolding buildNumber buildRule buildNodes buildColour removeNumber removeCall removeNodes removeColours properNumber insertNumber insertCall insertNodes insertColours
 changing = record {}
 
 telling : Unit {0}
-unfolding buildIn _minus_ treeAt treeOf touched boundOf outcome stepsFrom foundFrom tell storeA storeB
+unfolding buildIn _minus_ _plus_ treeAt treeOf touched boundOf outcome stepsFrom foundFrom leftIn tell storeA storeA′ storeB storeC
 telling = record {}
 
 -- one `refl` a row, in the table's order
 pub examples : Each table
-unfolding reading checking building repairing naming removing walking looking changing telling
-examples = (refl, (refl, (refl, (refl, (refl, (refl, (refl, (refl, (refl, (refl, (refl, (refl, (refl, (refl, (refl, (refl, (refl, (refl, (refl, (refl, (refl, record {})))))))))))))))))))))
+unfolding reading checking building repairing naming removing inserting walking looking changing telling
+examples = (refl, (refl, (refl, (refl, (refl, (refl, (refl, (refl, (refl, (refl, (refl, (refl, (refl, (refl, (refl, (refl, (refl, (refl, (refl, (refl, (refl, (refl, (refl, (refl, (refl, (refl, (refl, (refl, (refl, (refl, (refl, (refl, (refl, record {})))))))))))))))))))))))))))))))))

@@ -4,11 +4,12 @@ use mathlib.Core.Bool.{false, cond}
 use mathlib.Core.List.{List, [], _∷_}
 use Prim.Native.Nat.{ℕ, zero, suc, _*_}
 use lib.Dec.{eqb}
-use lib.ListN.{replicate, take, drop}
+use lib.ListN.{length, replicate, take, drop}
 use Rattle.words.specs.Nodes.{kid}
 use Rattle.words.specs.declared.interval.Bound.{Bound}
 use Rattle.words.specs.declared.interval.Interval.{Interval}
 use Rattle.words.specs.declared.interval.Span.{Span}
+use Rattle.words.specs.declared.node.Entry.{Entry}
 use Rattle.tree.specs.Tree.{Tree, height}
 use Rattle.tree_rm_laws.specs.Pairs.{none}
 use Rattle.tree_rm_laws.specs.declared.pairs.Pair.{Pair}
@@ -19,8 +20,9 @@ use Rattle.iter.specs.declared.rules.Query.{Query}
 use Rattle.iter.specs.declared.rules.Query.the-variants.{Overlap, Exact}
 use Rattle.iset.specs.Build.{BuildAnswer, buildRule}
 use Rattle.iset.specs.Remove.{RemoveAnswer, removeCall, removeColours}
+use Rattle.iset.specs.Insert.{InsertAnswer, insertCall}
 use Rattle.iset.specs.Lookup.{StartAnswer, StepAnswer, DrainAnswer, startCall, stepCall, drainCall, drainOutput}
-use Rattle.examples.specs.Stores.{Store, buildIn, treeOf, touched, boundOf}
+use Rattle.examples.specs.Stores.{Store, buildIn, _plus_, treeOf, touched, boundOf}
 
 -- a pair (old slot, new slot)
 infix 70 _to_
@@ -49,18 +51,21 @@ pub data Step : Type 0 where
   _entering_ : Outcome → ℕ → Step
 
 -- What is asked. A build has so many words and so many bytes, all of them 0. `rootRight` asks for the root's right link, `slot` for the eight
--- words of a slot. A lookup runs from its fresh cursor to the end; a step is its first step.
+-- words of a slot. A lookup runs from its fresh cursor to the end; a step is its first step; a drain is one call, from a cursor, with a limit and
+-- an output.
 pub data Call : Type 0 where
   build : ℕ → ℕ → List ℕ → Call
   remove : Store → ℕ → Call
+  insert : Store → Entry → Call
   rootRight : Store → Call
   slot : Store → ℕ → Call
   overlap : Store → Bound → Bound → Call
   step : Store → Bound → Bound → Call
+  drain : Store → Bound → Bound → Cursor → ℕ → List ℕ → Call
   exact : Store → Interval → Call
 
--- what a build leaves; the tree says which node has which children
-pub record BuiltStore : Type 0 where
+-- what a build or an insertion leaves; the tree says which node has which children
+pub record Left : Type 0 where
   pub tree : Tree
   pub bytes : List ℕ
   pub h : ℕ
@@ -77,15 +82,18 @@ pub record Limits : Type 0 where
   pub t : ℕ
   pub bound : ℕ
 
--- What is told. Of a build and a removal: the answer, and what it leaves, of a removal the colour bytes. Of an overlap lookup: what is found, t and
--- the bound; of its first step: the whole answer. Of an exact lookup: the answer of `fresh_exact`, and what is found from its cursor on.
+-- What is told. Of a build, a removal and an insertion: the answer, and what it leaves, of a removal the colour bytes. Of an overlap lookup: what is
+-- found, t and the bound; of its first step: the whole answer; of a drain: the answer and the output. Of an exact lookup: the answer of
+-- `fresh_exact`, and what is found from its cursor on.
 pub data Told : Type 0 where
-  built : BuildAnswer → BuiltStore → Told
+  built : BuildAnswer → Left → Told
   removed : RemoveAnswer → List ℕ → Told
+  inserted : InsertAnswer → Left → Told
   link : ℕ → Told
   holds : List ℕ → Told
   found : Found → Limits → Told
   stepped : StepAnswer → Told
+  drained : DrainAnswer → List ℕ → Told
   started : StartAnswer → Found → Told
 
 infix 68 _gives_
@@ -117,14 +125,14 @@ foundFrom t q c =
 abbrev pub span : Bound → Bound → Span
 span lo hi = record { lo = lo; hi = hi }
 
+unfoldable pub leftIn : Store → Left
+leftIn t = record { tree = treeOf t; bytes = t .colours; h = height (treeOf t); words = t .words }
+
 -- what the rules of the public calls tell
 unfoldable pub tell : Call → Told
-tell (build words bytes S) =
-    let t : Store = buildIn words bytes S in
-    built
-    (buildRule (replicate words 0) (replicate bytes 0) S)
-    (record { tree = treeOf t; bytes = t .colours; h = height (treeOf t); words = t .words })
+tell (build words bytes S) = built (buildRule (replicate words 0) (replicate bytes 0) S) (leftIn (buildIn words bytes S))
 tell (remove t s) = removed (removeCall (t .map) (t .words) (t .colours) s) (removeColours (t .map) (t .words) (t .colours) s)
+tell (insert t e) = inserted (insertCall (t .map) (t .words) (t .colours) e) (leftIn (t plus e))
 tell (rootRight t) = link (kid (t .words) false (t .map .root))
 tell (slot t k) = holds (take 8 (drop (8 * k) (t .words)))
 tell (overlap t lo hi) =
@@ -132,6 +140,10 @@ tell (overlap t lo hi) =
     (foundFrom t (Overlap (span lo hi)) (fresh (t .map .root)))
     (record { t = touched t (span lo hi); bound = boundOf t (span lo hi) })
 tell (step t lo hi) = stepped (stepCall (t .map) (t .words) (t .colours) (Overlap (span lo hi)) (fresh (t .map .root)))
+tell (drain t lo hi c limit out) =
+    drained
+    (drainCall (t .map) (t .words) (t .colours) (Overlap (span lo hi)) c limit (length out))
+    (drainOutput (t .map) (t .words) (t .colours) (Overlap (span lo hi)) c limit out)
 tell (exact t x) =
     let a : StartAnswer = startCall (t .map) (t .words) (t .colours) x in
     started a (foundFrom t (Exact x) (a .cursor))

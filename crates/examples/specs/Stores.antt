@@ -1,4 +1,4 @@
--- A map with what is lent with it; how a build and a removal leave it; and the tree that its links make.
+-- A map with what is lent with it; how a build, a removal and an insertion leave it; and the tree that its links make.
 use mathlib.Core.Bool.{true, false, cond}
 use mathlib.Core.List.{List}
 use Prim.Native.Nat.{ℕ, zero, suc, _+_, _-_, _*_, _/_}
@@ -7,10 +7,12 @@ use lib.ListN.{replicate}
 use Rattle.words.specs.Ix.{U}
 use Rattle.words.specs.Nodes.{kid}
 use Rattle.words.specs.declared.interval.Span.{Span}
+use Rattle.words.specs.declared.node.Entry.{Entry}
 use Rattle.tree.specs.Tree.{Tree, leaf, node, height}
 use Rattle.iter_laws.specs.Entered.{touching}
 use Rattle.iset.specs.Build.{buildRule, buildNodes, buildColour}
 use Rattle.iset.specs.Remove.{removeCall, removeNodes, removeColours}
+use Rattle.iset.specs.Insert.{insertCall, insertNodes, insertColours}
 use Rattle.iset.specs.declared.Map.{Map}
 
 -- "A map is a count and a root by value, with two lent slices."
@@ -39,6 +41,17 @@ _minus_ t s =
       map = record { count = removeCall m (t .words) (t .colours) s .count; root = removeCall m (t .words) (t .colours) s .root };
       words = removeNodes m (t .words) (t .colours) s;
       colours = removeColours m (t .words) (t .colours) s;
+    }
+
+-- the store after the insertion of the entry e
+infixl 75 _plus_
+unfoldable pub _plus_ : Store → Entry → Store
+_plus_ t e =
+    let m : Map = t .map in
+    record {
+      map = record { count = insertCall m (t .words) (t .colours) e .count; root = insertCall m (t .words) (t .colours) e .root };
+      words = insertNodes m (t .words) (t .colours) e;
+      colours = insertColours m (t .words) (t .colours) e;
     }
 
 -- the tree at the link k, down to so many levels

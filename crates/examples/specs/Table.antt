@@ -1,16 +1,20 @@
--- "Examples to hold it against": every case that is marked (*), in the document's order and beside its words, and what document 02 adds.
+-- "Examples to hold it against": every case that is marked (*), in the document's order and beside its words, and what document 02 adds; and after
+-- them cases of our own for what those leave open, worked out from the documents' words by tests/model.py.
 use mathlib.Core.Bool.{false}
-use mathlib.Core.List.{List, [], _∷_}
-use Prim.Native.Nat.{ℕ}
+use mathlib.Core.List.{List, [], _∷_, _++_}
+use Prim.Native.Nat.{ℕ, zero, suc}
+use lib.ListN.{replicate}
 use Rattle.words.specs.Ix.{U}
 use Rattle.words.specs.Refusals.{refusalNumber}
 use Rattle.words.specs.declared.interval.Bound.the-variants.{Included, Excluded, Unbounded}
 use Rattle.words.specs.declared.interval.Interval.{Interval}
-use Rattle.words.specs.declared.refusal.Refusal.the-variants.{NoSuch, BadRange}
+use Rattle.words.specs.declared.node.Entry.{Entry}
+use Rattle.words.specs.declared.refusal.Refusal.the-variants.{NoSuch, BadRange, BadInterval, ShortOutput}
 use Rattle.tree.specs.Tree.{Tree, leaf, node}
 use Rattle.iter.specs.Cursors.{fresh, ended}
-use Rattle.examples.specs.Stores.{Store, buildIn, _minus_}
-use Rattle.examples.specs.Rows.{Row, _gives_, _to_, moved, colours, _entering_, hit, end, build, remove, rootRight, slot, overlap, step, exact, built, removed, link, holds, found, stepped, started}
+use Rattle.iter.specs.declared.Cursor.{Cursor}
+use Rattle.examples.specs.Stores.{Store, buildIn, _minus_, _plus_}
+use Rattle.examples.specs.Rows.{Row, _gives_, _to_, moved, colours, _entering_, hit, end, build, remove, insert, rootRight, slot, overlap, step, drain, exact, built, removed, inserted, link, holds, found, stepped, drained, started}
 
 -- "Store A, built from [10,20) 1, [10,30) 2, [25,40) 3, [40,50) 4, [45,60) 5", in 40 words and a byte
 abbrev pub listA : List ℕ
@@ -19,12 +23,29 @@ listA = 10 ∷ 20 ∷ 1 ∷ 10 ∷ 30 ∷ 2 ∷ 25 ∷ 40 ∷ 3 ∷ 40 ∷ 50 �
 unfoldable pub storeA : Store
 storeA = buildIn 40 1 listA
 
+-- the same with room for one entry more
+unfoldable pub storeA′ : Store
+storeA′ = buildIn 48 1 listA
+
 -- "Store B, three times [5,9) with values 1, 2, 3", in 24 words and a byte
 abbrev pub listB : List ℕ
 listB = 5 ∷ 9 ∷ 1 ∷ 5 ∷ 9 ∷ 2 ∷ 5 ∷ 9 ∷ 3 ∷ []
 
 unfoldable pub storeB : Store
 storeB = buildIn 24 1 listB
+
+-- Store C, built from the 65 entries [0,1) 0, [1,2) 1, .. [64,65) 64
+abbrev pub units : ℕ → ℕ → List ℕ
+units a zero = []
+units a (suc k) = a ∷ suc a ∷ a ∷ units (suc a) k
+
+unfoldable pub storeC : Store
+storeC = buildIn 520 9 (units 0 65)
+
+-- the slots from a on, k of them
+abbrev pub from : ℕ → ℕ → List ℕ
+from a zero = []
+from a (suc k) = a ∷ from (suc a) k
 
 -- a node without children
 abbrev pub only : ℕ → Tree
@@ -34,6 +55,13 @@ only s = node leaf s leaf
 infix 70 _until_
 abbrev pub _until_ : ℕ → ℕ → Interval
 _until_ a b = record { start = a; end = b }
+
+-- the entry [a, b) v
+abbrev pub entry : ℕ → ℕ → ℕ → Entry
+entry a b v = record { start = a; end = b; value = v }
+
+abbrev pub held : ℕ → ℕ → ℕ → Cursor
+held s levels bits = record { slot = s; levels = levels; bits = bits }
 
 abbrev pub table : List Row
 table =
@@ -109,4 +137,59 @@ table =
     remove (storeB minus 0) 1 gives removed (record { no = 0; value = 2; count = 1; root = 0; pairs = moved [] }) (colours 4) ∷
     -- "Then remove 0: value 3, root U."
     remove (storeB minus 0 minus 1) 0 gives removed (record { no = 0; value = 3; count = 0; root = U; pairs = moved [] }) (colours 4) ∷
+    -- Excluded to Excluded of one number: BadRange, as "lo = hi unless both are Included"
+    step storeA (Excluded 7) (Excluded 7) gives stepped (record { no = refusalNumber BadRange; hit = false; slot = U; next = fresh 2; entered = 0 }) ∷
+    -- [20,30) 1, [10,10) 2 falls and has a bad interval: "build 8, 1, 5, 6", so BadInterval
+    build 16 1 (20 ∷ 30 ∷ 1 ∷ 10 ∷ 10 ∷ 2 ∷ []) gives built (record { no = refusalNumber BadInterval; count = 0; root = U }) (record {
+      tree = leaf;
+      bytes = colours 0;
+      h = 0;
+      words = 0 ∷ 0 ∷ 0 ∷ 0 ∷ 0 ∷ 0 ∷ 0 ∷ 0 ∷ 0 ∷ 0 ∷ 0 ∷ 0 ∷ 0 ∷ 0 ∷ 0 ∷ 0 ∷ [];
+    }) ∷
+    -- a drain of 2 into 3 places, and the next one: from [10,30) 2, which is held, was left, then returned
+    drain storeA Unbounded Unbounded (fresh 2) 2 (7 ∷ 7 ∷ 7 ∷ []) gives
+    drained (record { no = 0; hits = 2; entered = 3; next = held 1 2 6 }) (0 ∷ 1 ∷ 7 ∷ []) ∷
+    drain storeA Unbounded Unbounded (held 1 2 6) 4 (7 ∷ 7 ∷ 7 ∷ 7 ∷ []) gives
+    drained (record { no = 0; hits = 3; entered = 2; next = ended }) (2 ∷ 3 ∷ 4 ∷ 7 ∷ []) ∷
+    -- a limit above the output's length: ShortOutput
+    drain storeA Unbounded Unbounded (fresh 2) 2 (7 ∷ []) gives
+    drained (record { no = refusalNumber ShortOutput; hits = 0; entered = 0; next = fresh 2 }) (7 ∷ []) ∷
+    -- an insertion under a black node, in slot 5
+    insert storeA′ (entry 25 30 6) gives inserted (record { no = 0; slot = 5; count = 6; root = 2 }) (record {
+      tree = node (node (only 0) 1 (only 5)) 2 (node (only 3) 4 leaf);
+      bytes = colours 41;
+      h = 3;
+      words =
+          10 ∷ 20 ∷ 1 ∷ 10 ∷ 20 ∷ U ∷ U ∷ 1 ∷
+          10 ∷ 30 ∷ 2 ∷ 10 ∷ 30 ∷ 0 ∷ 5 ∷ 2 ∷
+          25 ∷ 40 ∷ 3 ∷ 10 ∷ 60 ∷ 1 ∷ 4 ∷ U ∷
+          40 ∷ 50 ∷ 4 ∷ 40 ∷ 50 ∷ U ∷ U ∷ 4 ∷
+          45 ∷ 60 ∷ 5 ∷ 40 ∷ 60 ∷ 3 ∷ U ∷ 2 ∷
+          25 ∷ 30 ∷ 6 ∷ 25 ∷ 30 ∷ U ∷ U ∷ 1 ∷ [];
+    }) ∷
+    -- and one under a red node without an uncle: its parent comes up over the grandparent
+    insert storeA′ (entry 5 6 6) gives inserted (record { no = 0; slot = 5; count = 6; root = 2 }) (record {
+      tree = node (node (only 5) 0 (only 1)) 2 (node (only 3) 4 leaf);
+      bytes = colours 42;
+      h = 3;
+      words =
+          10 ∷ 20 ∷ 1 ∷ 5 ∷ 30 ∷ 5 ∷ 1 ∷ 2 ∷
+          10 ∷ 30 ∷ 2 ∷ 10 ∷ 30 ∷ U ∷ U ∷ 0 ∷
+          25 ∷ 40 ∷ 3 ∷ 5 ∷ 60 ∷ 0 ∷ 4 ∷ U ∷
+          40 ∷ 50 ∷ 4 ∷ 40 ∷ 50 ∷ U ∷ U ∷ 4 ∷
+          45 ∷ 60 ∷ 5 ∷ 40 ∷ 60 ∷ 3 ∷ U ∷ 2 ∷
+          5 ∷ 6 ∷ 6 ∷ 5 ∷ 6 ∷ U ∷ U ∷ 0 ∷ [];
+    }) ∷
+    -- "Its colour bit keeps what the repair left in it": the emptied slot 5 was red, and its bit stays 1
+    remove (storeA′ plus entry 25 30 6) 5 gives removed (record { no = 0; value = 6; count = 5; root = 2; pairs = moved [] }) (colours 41) ∷
+    -- "limit 0 means 64, for refusal 9 too": an output of 63 places is too short
+    drain storeA Unbounded Unbounded (fresh 2) 0 (replicate 63 7) gives
+    drained (record { no = refusalNumber ShortOutput; hits = 0; entered = 0; next = fresh 2 }) (replicate 63 7) ∷
+    -- of 63 hits it comes to the end; of 64, and of 65, it stops at the 64th, in slot 63
+    drain storeC Unbounded (Excluded 63) (fresh 32) 0 (replicate 66 7) gives
+    drained (record { no = 0; hits = 63; entered = 64; next = ended }) (from 0 63 ++ (7 ∷ 7 ∷ 7 ∷ [])) ∷
+    drain storeC Unbounded (Excluded 64) (fresh 32) 0 (replicate 66 7) gives
+    drained (record { no = 0; hits = 64; entered = 64; next = held 63 5 511 }) (from 0 64 ++ (7 ∷ 7 ∷ [])) ∷
+    drain storeC Unbounded Unbounded (fresh 32) 0 (replicate 66 7) gives
+    drained (record { no = 0; hits = 64; entered = 64; next = held 63 5 511 }) (from 0 64 ++ (7 ∷ 7 ∷ [])) ∷
     []

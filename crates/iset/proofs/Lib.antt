@@ -7,6 +7,8 @@ pub mod Lookups
 pub mod Found
 pub mod Runs
 pub mod Refusals
+pub mod BitRefusals
+pub mod Answers
 pub mod Below
 pub mod Laws
 pub mod Determined

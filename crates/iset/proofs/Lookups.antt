@@ -163,12 +163,12 @@ module _ (lo hi : Bound) (r : Bool) (a : ℕ) where
   from-excluded e q = rw e q
 
 -- and one from an Excluded bound by its upper bound
-module _ (hi : Bound) (a b : ℕ) (r : Bool) (q : r ≡ ltb a b) where
-  pub to-included : hi ≡ Included b → r ≡ ordered (Excluded a) hi
-  to-included e = rw e q
+module _ (hi : Bound) (a b : ℕ) (r : Bool) where
+  pub to-included : r ≡ ltb a b → hi ≡ Included b → r ≡ ordered (Excluded a) hi
+  to-included q e = rw e q
 
-  pub to-excluded : hi ≡ Excluded b → r ≡ ordered (Excluded a) hi
-  to-excluded e = rw e q
+  pub to-excluded : r ≡ ltb a b → hi ≡ Excluded b → r ≡ ordered (Excluded a) hi
+  to-excluded q e = rw e q
 
 pub begin-exact : (m : Map) (W : List ℕ) (q : Query) (x : Interval) (r : ℕ) → q ≡ Exact x → r ≡ findFrom W (m .count) x (m .root) → r ≡ beginning m W q
 begin-exact m W q x r e h = rw e h

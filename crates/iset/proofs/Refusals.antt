@@ -2,6 +2,7 @@
 -- call leaves all that was lent, and answers the map or the cursor as given.
 use mathlib.Core.Path.{_≡_, refl, sym, ap, _∙_}
 use mathlib.Core.Bool.{Bool, true, false, cond, true≢false}
+use mathlib.Core.Logic.{_↔_}
 use mathlib.Core.List.{List}
 use Prim.Native.Nat.{ℕ, zero, suc, _+_, _-_, _/_, _%_, _<_, _≤_}
 use native.Mathlib.Omega.{arith}
@@ -23,6 +24,7 @@ use Rattle.tree.specs.Tree.{leaf}
 use Rattle.tree.specs.Order.{NotAfter}
 use Rattle.tree.specs.Passes.{Passes}
 use Rattle.tree.proofs.Orders.{le-sound, le-complete}
+use Rattle.tree_rm_laws.specs.Pairs.{none}
 use Rattle.builder.specs.Input.{startOf, endOf, intervalOf, count, every, properAt, inOrder, allProper, sorted}
 use Rattle.builder_laws.proofs.Tests.{every-sound}
 use Rattle.iter.specs.Cursors.{ended}
@@ -39,9 +41,9 @@ use Rattle.iter_laws.proofs.ExactRuns.{exact-start, exact-fresh-form, exact-end
 use Rattle.iter_laws.proofs.Forms.{fresh-form, ended-form, bad-form}
 use Rattle.iset.specs.Build.{buildNumber, BuildAnswer, buildPaper, buildRule, buildNodes, buildColour}
 use Rattle.iset.specs.Check.{checkRule}
-use Rattle.iset.specs.Remove.{removeNumber, RemoveAnswer, refusedRemoval, removePaper, removeCall, removeNodes, removeColours}
-use Rattle.iset.specs.Insert.{entryOf, properNumber, insertNumber, InsertAnswer, refusedInsertion, insertPaper, insertCall, insertNodes, insertColours}
-use Rattle.iset.specs.Lookup.{ordered, queryNumber, beginning, formNumber, startNumber, stepNumber, drainNumber, StartAnswer, startCall, StepAnswer, refusedStep, stepCall, DrainAnswer, refusedDrain, drainPaper, drainCall, drainOutput}
+use Rattle.iset.specs.Remove.{removeNumber, RemoveAnswer, removePaper, removeCall, removeNodes, removeColours}
+use Rattle.iset.specs.Insert.{entryOf, properNumber, insertNumber, InsertAnswer, insertPaper, insertCall, insertNodes, insertColours}
+use Rattle.iset.specs.Lookup.{ordered, queryNumber, beginning, formNumber, startNumber, stepNumber, drainNumber, StartAnswer, startCall, StepAnswer, stepCall, DrainAnswer, drainPaper, drainCall, drainOutput}
 use Rattle.iset.specs.Refusals.{Rows, accept, refuse, Exactly, NoSuch, BadRange, BadInterval, BadCursor, ShortOutput, checkRows, buildRows, removeRows, insertRows, startRows, stepRows, drainRows}
 use Rattle.iset.specs.declared.Map.{Map}
 use Rattle.words.specs.Refusals.{refusalNumber}
@@ -68,7 +70,7 @@ followed accept T = T
 followed (refuse a P R) T = refuse a P (followed R T)
 
 -- a number that no row of a table has
-abbrev Lacks : ℕ → Rows → Type 0
+abbrev pub Lacks : ℕ → Rows → Type 0
 Lacks a accept = a ≡ 0 → ⊥
 Lacks a (refuse b P R) = (a ≡ b → ⊥) × Lacks a R
 
@@ -93,12 +95,12 @@ first-then (refuse c P R) T a b d e f = (
     go (suc k) i j = let y : suc k ≡ c = rw (ne-eqb (suc k) 0 (λ z. omega arith)) at j in e .0 .0 (i ∙ y)
 
 -- a row before a table, by a test that is passed, or by one that is not
-passed-row : (a : ℕ) (P : Type 0) (R : Rows) (k : ℕ) (t : Bool) → Lacks a R → (t ≡ true → P → ⊥) → (t ≡ false → P) → (t ≡ true → Exactly R k)
+pub passed-row : (a : ℕ) (P : Type 0) (R : Rows) (k : ℕ) (t : Bool) → Lacks a R → (t ≡ true → P → ⊥) → (t ≡ false → P) → (t ≡ true → Exactly R k)
     → Exactly (refuse a P R) (cond t k a)
 passed-row a P R k true l f g h = ((λ i. absurd (never a R k l (h refl) i), λ p. absurd (f refl p)), λ z. h refl)
 passed-row a P R k false l f g h = ((λ i. g refl, λ p. refl), λ z. absurd (z (g refl)))
 
-failed-row : (a : ℕ) (P : Type 0) (R : Rows) (k : ℕ) (t : Bool) → Lacks a R → (t ≡ true → P) → (t ≡ false → P → ⊥) → (t ≡ false → Exactly R k)
+pub failed-row : (a : ℕ) (P : Type 0) (R : Rows) (k : ℕ) (t : Bool) → Lacks a R → (t ≡ true → P) → (t ≡ false → P → ⊥) → (t ≡ false → Exactly R k)
     → Exactly (refuse a P R) (cond t a k)
 failed-row a P R k false l f g h = ((λ i. absurd (never a R k l (h refl) i), λ p. absurd (g refl p)), λ z. h refl)
 failed-row a P R k true l f g h = ((λ i. f refl, λ p. refl), λ z. absurd (z (f refl)))
@@ -216,8 +218,17 @@ module _ (m : Map) (W C : List ℕ) (s : ℕ) where
       (λ e. passed-row 3 (NoSuch m s) accept 0 (ltb s (m .count)) (omega arith)
       (λ t p. omega (arith, ltb-true s (m .count) t)) (ltb-false s (m .count)) (λ t. refl)))
 
+  -- "the map .. as given .., value and counts 0, .. pairs U"
   pub remove-leaves : (removeCall m W C s .no ≡ 0 → ⊥)
-      → (removeCall m W C s ≡ refusedRemoval m (removeCall m W C s .no)) × (removeNodes m W C s ≡ W) × (removeColours m W C s ≡ C)
+      → (removeCall m W C s
+      ≡ record {
+        no = removeCall m W C s .no;
+        value = 0;
+        count = m .count;
+        root = m .root;
+        pairs = record { first = none; second = none; third = none };
+      })
+      × (removeNodes m W C s ≡ W) × (removeColours m W C s ≡ C)
   unfolding removeCall removeNodes removeColours
   remove-leaves d =
       let f : removeNumber m W C s ≡ 0 → ⊥ = λ e. d (remove-no ∙ e) in
@@ -250,8 +261,10 @@ module _ (m : Map) (W C : List ℕ) (e : Entry) where
           ((λ z. absurd (omega (arith, proper-row .0 .0 z)), λ p. absurd (omega arith)), λ z. proper-row .1 (λ p. omega arith))
       go false i = ((λ z. ltb-false (m .count) held i, λ p. refl), λ z. absurd (z (ltb-false (m .count) held i)))
 
+  -- "the map .. as given .., slot .. U"
   pub insert-leaves : (insertCall m W C e .no ≡ 0 → ⊥)
-      → (insertCall m W C e ≡ refusedInsertion m (insertCall m W C e .no)) × (insertNodes m W C e ≡ W) × (insertColours m W C e ≡ C)
+      → (insertCall m W C e ≡ record { no = insertCall m W C e .no; slot = U; count = m .count; root = m .root })
+      × (insertNodes m W C e ≡ W) × (insertColours m W C e ≡ C)
   unfolding insertCall insertNodes insertColours
   insert-leaves d =
       let f : insertNumber m W C e ≡ 0 → ⊥ = λ z. d (insert-no ∙ z) in
@@ -300,7 +313,7 @@ module _ (m : Map) (W C : List ℕ) where
       apart (Exact x) = omega arith
 
   -- the fresh cursor of an exact lookup
-  start-no : (x : Interval) → startCall m W C x .no ≡ startNumber m W C (Exact x)
+  pub start-no : (x : Interval) → startCall m W C x .no ≡ startNumber m W C (Exact x)
   unfolding startCall
   start-no x = number-is (λ (a : StartAnswer). a .no) (startNumber m W C (Exact x)) _ _ refl refl
 
@@ -366,15 +379,22 @@ module _ (m : Map) (W C : List ℕ) where
     pub step-refusals : (q : Query) → Exactly (stepRows m W C q c) (stepCall m W C q c .no)
     step-refusals q = rw (step-no q) (step-row q)
 
-    pub step-leaves : (q : Query) → (stepCall m W C q c .no ≡ 0 → ⊥) → stepCall m W C q c ≡ refusedStep c (stepCall m W C q c .no)
+    -- "the .. cursor as given, .. counts 0, slot .. U"
+    pub step-leaves : (q : Query) → (stepCall m W C q c .no ≡ 0 → ⊥)
+        → stepCall m W C q c ≡ record { no = stepCall m W C q c .no; hit = false; slot = U; next = c; entered = 0 }
     unfolding stepCall
     step-leaves q d = rw (step-no q) (kept (stepNumber m W C q c) _ _ (λ e. d (step-no q ∙ e)))
 
     module _ (limit : ℕ) where
+      short-is : (l places : ℕ) → ShortOutput l places ↔ (places < limitOf l)
+      short-is zero places = (λ p. p, λ p. p)
+      short-is (suc k) places = rw (ne-eqb (suc k) 0 (λ z. omega arith)) (λ p. p, λ p. p)
+
       room-row : (places : ℕ) → Exactly (refuse 9 (ShortOutput limit places) accept) (cond (ltb places (limitOf limit)) 9 0)
       room-row places =
           failed-row 9 (ShortOutput limit places) accept 0 (ltb places (limitOf limit)) (omega arith)
-          (ltb-true places (limitOf limit)) (λ t p. omega (arith, ltb-false places (limitOf limit) t)) (λ t. refl)
+          (λ t. short-is limit places .1 (ltb-true places (limitOf limit) t))
+          (λ t p. omega (arith, ltb-false places (limitOf limit) t, short-is limit places .0 p)) (λ t. refl)
 
       drain-row : (q : Query) (places : ℕ) → Exactly (drainRows m W C q c limit places) (drainNumber m W C q c limit places)
       unfolding drainNumber
@@ -393,7 +413,8 @@ module _ (m : Map) (W C : List ℕ) where
       drain-refusals q places = rw (drain-no q places) (drain-row q places)
 
       pub drain-leaves : (q : Query) (out : List ℕ) → (drainCall m W C q c limit (length out) .no ≡ 0 → ⊥)
-          → (drainCall m W C q c limit (length out) ≡ refusedDrain c (drainCall m W C q c limit (length out) .no))
+          → (drainCall m W C q c limit (length out)
+          ≡ record { no = drainCall m W C q c limit (length out) .no; hits = 0; entered = 0; next = c })
           × (drainOutput m W C q c limit out ≡ out)
       unfolding drainCall drainOutput
       drain-leaves q out d =

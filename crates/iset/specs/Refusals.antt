@@ -1,9 +1,9 @@
 -- Document 01's table of refusals, and document 02's item 1: for each public call its rows, a refusal's number and when it is given, in the order in
 -- which the first is given.
 use mathlib.Core.Path.{_≡_}
-use mathlib.Core.Logic.{_↔_}
+use mathlib.Core.Logic.{_↔_, _⊎_}
 use mathlib.Core.List.{List}
-use Prim.Native.Nat.{ℕ, suc, _/_, _%_, _<_, _≤_}
+use Prim.Native.Nat.{ℕ, zero, suc, _*_, _/_, _%_, _<_, _≤_}
 use lib.ListN.{length}
 use Rattle.words.specs.Nodes.{room}
 use Rattle.words.specs.declared.interval.Bound.{Bound}
@@ -14,8 +14,8 @@ use Rattle.tree.specs.Tree.{node}
 use Rattle.tree.specs.Order.{NotAfter}
 use Rattle.tree.specs.Passes.{Passes}
 use Rattle.builder.specs.Input.{startOf, endOf, intervalOf}
+use Rattle.stack.specs.declared.ActionStack.{ActionStack}
 use Rattle.iter.specs.Cursors.{fresh, ended}
-use Rattle.iter.specs.Drains.{limitOf}
 use Rattle.iter.specs.declared.Cursor.{Cursor}
 use Rattle.iter.specs.declared.rules.Query.{Query}
 use Rattle.iter.specs.declared.rules.Query.the-variants.{Overlap, Exact}
@@ -70,9 +70,10 @@ BadCursor m W C (Exact x) c =
     × ((P : Passes W C (m .count) (m .root)) (h : Highest W x (P .tree) (beginning m W (Exact x)))
     → Held (node (h .left) (beginning m W (Exact x)) (h .right)) c → ⊥)
 
--- 9: "drain limit above the output's length", and "limit 0 means 64, for refusal 9 too"
+-- 9: "drain limit above the output's length"; "limit 0 means 64, for refusal 9 too"
 abbrev pub ShortOutput : ℕ → ℕ → Type 0
-ShortOutput limit places = places < limitOf limit
+ShortOutput zero places = places < 64
+ShortOutput (suc k) places = places < suc k
 
 -- "the check by itself 1, 2"
 abbrev pub checkRows : Map → List ℕ → List ℕ → Rows
@@ -114,3 +115,53 @@ drainRows m W C (Overlap q) c limit places =
 drainRows m W C (Exact x) c limit places =
     refuse 1 (NoRoom m W C) (refuse 2 (Broken m W C) (refuse 5 (BadInterval (x .start) (x .end)) (refuse 7 (BadCursor m W C (Exact x) c)
     (refuse 9 (ShortOutput limit places) accept))))
+
+-- 10, BadBit, one by one. "length (or `from_elem` length) above bytes × 8"
+abbrev pub TooLong : List ℕ → ℕ → Type 0
+TooLong bytes len = length bytes * 8 < len
+
+-- "bit at or past the length"
+abbrev pub PastLength : ℕ → ℕ → Type 0
+PastLength len i = len ≤ i
+
+-- "push with no byte left"; and a length of 2^64 - 1 has no next one that is a 64-bit number (docs/DECISIONS.md, Bits)
+abbrev pub NoByteLeft : List ℕ → ℕ → Type 0
+NoByteLeft bytes len = length bytes * 8 ≤ len
+
+abbrev pub NoNextLength : ℕ → Type 0
+NoNextLength len = 18446744073709551615 ≤ len
+
+-- "pop or state mark of nothing; .. a state test of nothing", by the length or the levels
+abbrev pub Nothing : ℕ → Type 0
+Nothing k = k ≡ 0
+
+-- "push .. on a stack of 32 levels"; "any stack call on more than 32 levels"
+abbrev pub Full : ActionStack → Type 0
+Full s = s .levels ≡ 32
+
+abbrev pub TooDeep : ActionStack → Type 0
+TooDeep s = 32 < s .levels
+
+-- a bit vector's `get`, `set` and `swap_remove` of bit i; its `push`; its `pop`; `from_elem`
+abbrev pub bitRows : List ℕ → ℕ → ℕ → Rows
+bitRows bytes len i = refuse 10 (TooLong bytes len ⊎ PastLength len i) accept
+
+abbrev pub pushRows : List ℕ → ℕ → Rows
+pushRows bytes len = refuse 10 (TooLong bytes len ⊎ (NoByteLeft bytes len ⊎ NoNextLength len)) accept
+
+abbrev pub popRows : List ℕ → ℕ → Rows
+popRows bytes len = refuse 10 (TooLong bytes len ⊎ Nothing len) accept
+
+abbrev pub fromElemRows : List ℕ → ℕ → Rows
+fromElemRows bytes len = refuse 10 (TooLong bytes len) accept
+
+-- a stack's `push`; its `pop`, its marks (`go_left`, `make_match`, `go_right`) and its tests (`can_go_left`, `can_match`, `can_go_right`);
+-- `is_empty`. The calls on the record have the same rules.
+abbrev pub stackPushRows : ActionStack → Rows
+stackPushRows s = refuse 10 (Full s ⊎ TooDeep s) accept
+
+abbrev pub topRows : ActionStack → Rows
+topRows s = refuse 10 (Nothing (s .levels) ⊎ TooDeep s) accept
+
+abbrev pub isEmptyRows : ActionStack → Rows
+isEmptyRows s = refuse 10 (TooDeep s) accept

@@ -7,13 +7,20 @@ use native.Mathlib.Omega.{arith}
 use native.Mathlib.Nat.{add-zero, zero-add, suc-add, add-assoc}
 use lib.ListN.{length, take, length-append}
 use lib.Dec.{ltb}
-use borrow.Author.Tests.{lt-ltb}
+use borrow.Author.Tests.{lt-ltb, ne-eqb}
 use Rattle.iter.specs.Cursors.{ended}
 use Rattle.iter.specs.Walk.{Rules, Answer, enters, hits, counts, fuel, step}
-use Rattle.iter.specs.Drains.{more, joined, drain, calls}
+use Rattle.iter.specs.Drains.{more, joined, drain, calls, limitOf}
 use Rattle.iter.specs.declared.Cursor.{Cursor}
 use Rattle.iter.proofs.Events.{Event, hitSlots, nodes}
 use Rattle.iter.proofs.Steps.{cases, hits-not, hits-live, Plays, first-hits, plays-on, step-is, call-is, step-count, no-slot, step-end, step-stops}
+
+-- "limit 0 means 64"; any other limit means itself
+pub limit-zero : limitOf 0 ≡ 64
+limit-zero = refl
+
+pub limit-own : (k : ℕ) → limitOf (suc k) ≡ suc k
+limit-own k = rw (ne-eqb (suc k) 0 (λ z. omega arith))
 
 module _ (W : List ℕ) (n : ℕ) (Q : Rules) where
   -- no more hits than the limit

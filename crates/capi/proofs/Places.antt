@@ -1,0 +1,252 @@
+-- Each export, in the words of include/iset.h: which number it returns, exactly when, and what each place of its answer holds. Said of whatever
+-- number r and slices at exit s its promise allows from its arguments a.
+use mathlib.Core.Path.{_≡_, refl, sym, ap, _∙_}
+use mathlib.Core.Bool.{Bool, true, false, cond}
+use mathlib.Core.List.{List, [], _∷_}
+use Prim.Native.Nat.{ℕ, _<_}
+use native.Mathlib.Omega.{arith}
+use lib.ListN.{length, take, drop}
+use lib.Seq.{take-at, drop-at}
+use lib.Dec.{ltb, leb}
+use borrow.Author.Tests.{ltb-true, ltb-false, eq-eqb}
+use contract.Lifetimes.{Lfts}
+use borrow.Fn.Kinds as K
+use denote.Triple.Clauses.{AtExit}
+use denote.Ref.{now}
+use Rattle.words.specs.declared.interval.Bound.{Bound}
+use Rattle.words.specs.declared.interval.Bound.the-variants.{Included, Excluded, Unbounded}
+use Rattle.words.specs.declared.interval.Interval.{Interval}
+use Rattle.words.specs.declared.node.Entry.{Entry}
+use Rattle.iter.specs.Drains.{filled}
+use Rattle.iter.specs.declared.Cursor.{Cursor}
+use Rattle.iter.specs.declared.rules.Query.{Query}
+use Rattle.iter.specs.declared.rules.Query.the-variants.{Exact}
+use Rattle.iset.specs.Build.{BuildAnswer, buildRule}
+use Rattle.iset.specs.Remove.{RemoveAnswer, removeCall}
+use Rattle.iset.specs.Insert.{InsertAnswer, insertCall}
+use Rattle.iset.specs.Lookup.{startCall, stepCall, drainCall}
+use Rattle.iset.specs.Refusals.{Rows, accept, refuse, Exactly, checkRows, buildRows, removeRows, insertRows, startRows, stepRows, drainRows}
+use Rattle.iset.specs.declared.Map.{Map}
+use Rattle.iset.proofs.Refusals.{Lacks, passed-row, failed-row, check-refusals, build-refusals, remove-refusals, insert-refusals, start-refusals, step-refusals, drain-refusals}
+use Rattle.iset.proofs.BitRefusals.{Fails, le-fails, and-fails}
+use Rattle.capi.specs.Replies.{Reply, number, handed, stepTold, drainTold}
+use Rattle.capi.specs.Ranges.{boundOf, rangeOf, kinds, ranged}
+use Rattle.capi.specs.Places.{Told, BadBound, stepPlaces, drainPlaces}
+use Rattle.capi.proofs.iset_check.Reads as check-reads
+use Rattle.capi.proofs.iset_check.Kinds as check-kinds
+use Rattle.capi.proofs.iset_build.Reads as build-reads
+use Rattle.capi.proofs.iset_build.Kinds as build-kinds
+use Rattle.capi.proofs.iset_remove.Reads as remove-reads
+use Rattle.capi.proofs.iset_remove.Kinds as remove-kinds
+use Rattle.capi.proofs.iset_insert.Reads as insert-reads
+use Rattle.capi.proofs.iset_insert.Kinds as insert-kinds
+use Rattle.capi.proofs.lookup.iset_fresh.Reads as fresh-reads
+use Rattle.capi.proofs.lookup.iset_fresh.Kinds as fresh-kinds
+use Rattle.capi.proofs.lookup.iset_fresh_exact.Reads as fresh-exact-reads
+use Rattle.capi.proofs.lookup.iset_fresh_exact.Kinds as fresh-exact-kinds
+use Rattle.capi.proofs.lookup.iset_step.Reads as step-reads
+use Rattle.capi.proofs.lookup.iset_step.Kinds as step-kinds
+use Rattle.capi.proofs.lookup.iset_step_exact.Reads as step-exact-reads
+use Rattle.capi.proofs.lookup.iset_step_exact.Kinds as step-exact-kinds
+use Rattle.capi.proofs.lookup.iset_drain.Reads as drain-reads
+use Rattle.capi.proofs.lookup.iset_drain.Kinds as drain-kinds
+use Rattle.capi.proofs.lookup.iset_drain_exact.Reads as drain-exact-reads
+use Rattle.capi.proofs.lookup.iset_drain_exact.Kinds as drain-exact-kinds
+
+-- the kinds of a bound: 0 Included, 1 Excluded, 2 Unbounded
+pub bounds-are : (x : ℕ) → (boundOf 0 x ≡ Included x) × (boundOf 1 x ≡ Excluded x) × (boundOf 2 x ≡ Unbounded)
+bounds-are x = (refl, refl, refl)
+
+-- the reply of a call whose number the rows say
+module _ (rows : Rows) (R : Reply) (A X : List ℕ) (r : ℕ) where
+  places-of : r ≡ number A R → X ≡ handed A R → r ≡ 0
+      → (take (length (R .numbers)) X ≡ R .numbers) × (drop (length (R .numbers)) X ≡ drop (length (R .numbers)) A)
+  unfolding handed filled
+  places-of p q z =
+      let X-is : X ≡ filled (R .numbers) A = q ∙ rw (eq-eqb (number A R) 0 (sym p ∙ z)) in
+      rw X-is (take-at (R .numbers) (drop (length (R .numbers)) A) _ refl, drop-at (R .numbers) (drop (length (R .numbers)) A) _ refl)
+
+  told : Lacks 101 rows → Exactly rows (R .no) → r ≡ number A R → X ≡ handed A R → Told rows (R .numbers) A X r
+  unfolding number
+  told l e p q =
+      record {
+        number =
+            rw p
+            (failed-row 101 (length A < length (R .numbers)) rows (R .no) (ltb (length A) (length (R .numbers))) l
+            (ltb-true (length A) (length (R .numbers))) (λ t h. omega (arith, ltb-false (length A) (length (R .numbers)) t)) (λ t. e));
+        places = places-of p q;
+      }
+
+-- and of one with a range
+module _ (rows : Rows) (R : Reply) (A X : List ℕ) (r lo-kind hi-kind : ℕ) where
+  kinds-fail : Fails (kinds lo-kind hi-kind) (BadBound lo-kind hi-kind)
+  unfolding kinds
+  kinds-fail = and-fails (leb lo-kind 2) (leb hi-kind 2) (2 < lo-kind) (2 < hi-kind) (le-fails lo-kind 2) (le-fails hi-kind 2)
+
+  ranged-row : Lacks 102 rows → Exactly rows (R .no) → (b : Bool) → Fails b (BadBound lo-kind hi-kind)
+      → Exactly (refuse 102 (BadBound lo-kind hi-kind) rows) (ranged b R .no)
+  unfolding ranged
+  ranged-row l e true f = passed-row 102 (BadBound lo-kind hi-kind) rows (R .no) true l (f .0) (f .1) (λ t. e)
+  ranged-row l e false f = passed-row 102 (BadBound lo-kind hi-kind) rows (R .no) false l (f .0) (f .1) (λ t. e)
+
+  same-numbers : (b : Bool) → ranged b R .numbers ≡ R .numbers
+  unfolding ranged
+  same-numbers true = refl
+  same-numbers false = refl
+
+  told-ranged : Lacks 101 (refuse 102 (BadBound lo-kind hi-kind) rows) → Lacks 102 rows → Exactly rows (R .no)
+      → r ≡ number A (ranged (kinds lo-kind hi-kind) R) → X ≡ handed A (ranged (kinds lo-kind hi-kind) R)
+      → Told (refuse 102 (BadBound lo-kind hi-kind) rows) (R .numbers) A X r
+  told-ranged k l e p q =
+      rw (same-numbers (kinds lo-kind hi-kind)) at
+      (told (refuse 102 (BadBound lo-kind hi-kind) rows) (ranged (kinds lo-kind hi-kind) R) A X r k (ranged-row l e (kinds lo-kind hi-kind) kinds-fail) p q)
+
+-- `iset_check`: its number is all
+pub check-told : (κs : Lfts 2) (a : K.Dens κs check-kinds.ps) (r : K.resT check-kinds.r κs .Denot) (s : AtExit (K.endedOf 2 check-kinds.ps check-kinds.r) κs)
+    → check-reads.Post κs a r s
+    → Exactly (checkRows (record { count = a .0; root = a .1 .0 }) (now (a .1 .1 .0)) (now (a .1 .1 .1 .0))) r
+check-told κs a r s p = rw p (check-refusals (record { count = a .0; root = a .1 .0 }) (now (a .1 .1 .0)) (now (a .1 .1 .1 .0)))
+
+-- `iset_build`: count, root
+pub build-told : (κs : Lfts 4) (a : K.Dens κs build-kinds.ps) (r : K.resT build-kinds.r κs .Denot) (s : AtExit (K.endedOf 4 build-kinds.ps build-kinds.r) κs)
+    → build-reads.Post κs a r s
+    → let W : List ℕ = now (a .0) in
+    let C : List ℕ = now (a .1 .0) in
+    let S : List ℕ = now (a .1 .1 .0) in
+    let b : BuildAnswer = buildRule W C S in
+    Told (buildRows W C S) (b .count ∷ b .root ∷ []) (now (a .1 .1 .1 .0)) (now (s .1 .1 .1 .0)) r
+build-told κs a r s p = told _ _ _ _ r (omega arith) (build-refusals _ _ _) (p .0) (p .1)
+
+-- `iset_remove`: value, count, root, then three pairs, old slot, new slot
+pub remove-told : (κs : Lfts 3) (a : K.Dens κs remove-kinds.ps) (r : K.resT remove-kinds.r κs .Denot) (s : AtExit (K.endedOf 3 remove-kinds.ps remove-kinds.r) κs)
+    → remove-reads.Post κs a r s
+    → let m : Map = record { count = a .0; root = a .1 .0 } in
+    let W : List ℕ = now (a .1 .1 .0) in
+    let C : List ℕ = now (a .1 .1 .1 .0) in
+    let slot : ℕ = a .1 .1 .1 .1 .0 in
+    let b : RemoveAnswer = removeCall m W C slot in
+    Told (removeRows m W C slot)
+    (b .value ∷ b .count ∷ b .root
+    ∷ b .pairs .first .old ∷ b .pairs .first .new ∷ b .pairs .second .old ∷ b .pairs .second .new ∷ b .pairs .third .old ∷ b .pairs .third .new ∷ [])
+    (now (a .1 .1 .1 .1 .1 .0)) (now (s .1 .1 .1 .1 .1 .0)) r
+remove-told κs a r s p = told _ _ _ _ r (omega arith) (remove-refusals _ _ _ _) (p .0) (p .1)
+
+-- `iset_insert`: count, root, the new entry's slot
+pub insert-told : (κs : Lfts 3) (a : K.Dens κs insert-kinds.ps) (r : K.resT insert-kinds.r κs .Denot) (s : AtExit (K.endedOf 3 insert-kinds.ps insert-kinds.r) κs)
+    → insert-reads.Post κs a r s
+    → let m : Map = record { count = a .0; root = a .1 .0 } in
+    let W : List ℕ = now (a .1 .1 .0) in
+    let C : List ℕ = now (a .1 .1 .1 .0) in
+    let e : Entry = record { start = a .1 .1 .1 .1 .0; end = a .1 .1 .1 .1 .1 .0; value = a .1 .1 .1 .1 .1 .1 .0 } in
+    let b : InsertAnswer = insertCall m W C e in
+    Told (insertRows m W C e) (b .count ∷ b .root ∷ b .slot ∷ []) (now (a .1 .1 .1 .1 .1 .1 .1 .0)) (now (s .1 .1 .1 .1 .1 .1 .1 .0)) r
+insert-told κs a r s p = told _ _ _ _ r (omega arith) (insert-refusals _ _ _ _) (p .0) (p .1)
+
+-- `iset_fresh`: slot, levels, bits: the root, one level, 00. It has no refusal but 101.
+pub fresh-told : (κs : Lfts 1) (a : K.Dens κs fresh-kinds.ps) (r : K.resT fresh-kinds.r κs .Denot) (s : AtExit (K.endedOf 1 fresh-kinds.ps fresh-kinds.r) κs)
+    → fresh-reads.Post κs a r s → Told accept (a .1 .0 ∷ 1 ∷ 0 ∷ []) (now (a .1 .1 .0)) (now (s .1 .1 .0)) r
+fresh-told κs a r s p = told accept _ _ _ r (omega arith) refl (p .0) (p .1)
+
+-- `iset_fresh_exact`: slot, levels, bits
+pub fresh-exact-told : (κs : Lfts 3) (a : K.Dens κs fresh-exact-kinds.ps) (r : K.resT fresh-exact-kinds.r κs .Denot) (s : AtExit (K.endedOf 3 fresh-exact-kinds.ps fresh-exact-kinds.r) κs)
+    → fresh-exact-reads.Post κs a r s
+    → let m : Map = record { count = a .0; root = a .1 .0 } in
+    let W : List ℕ = now (a .1 .1 .0) in
+    let C : List ℕ = now (a .1 .1 .1 .0) in
+    let x : Interval = record { start = a .1 .1 .1 .1 .0; end = a .1 .1 .1 .1 .1 .0 } in
+    let c : Cursor = startCall m W C x .cursor in
+    Told (startRows m W C x) (c .slot ∷ c .levels ∷ c .bits ∷ []) (now (a .1 .1 .1 .1 .1 .1 .0)) (now (s .1 .1 .1 .1 .1 .1 .0)) r
+fresh-exact-told κs a r s p = told _ _ _ _ r (omega arith) (start-refusals _ _ _ _) (p .0) (p .1)
+
+-- `iset_step`
+pub step-told : (κs : Lfts 3) (a : K.Dens κs step-kinds.ps) (r : K.resT step-kinds.r κs .Denot) (s : AtExit (K.endedOf 3 step-kinds.ps step-kinds.r) κs)
+    → step-reads.Post κs a r s
+    → let m : Map = record { count = a .0; root = a .1 .0 } in
+    let W : List ℕ = now (a .1 .1 .0) in
+    let C : List ℕ = now (a .1 .1 .1 .0) in
+    let b = a .1 .1 .1 .1 in
+    let q : Query = rangeOf (b .0) (b .1 .0) (b .1 .1 .0) (b .1 .1 .1 .0) in
+    let c : Cursor = record { slot = b .1 .1 .1 .1 .0; levels = b .1 .1 .1 .1 .1 .0; bits = b .1 .1 .1 .1 .1 .1 .0 } in
+    Told (refuse 102 (BadBound (b .0) (b .1 .1 .0)) (stepRows m W C q c)) (stepPlaces (stepCall m W C q c))
+    (now (b .1 .1 .1 .1 .1 .1 .1 .0)) (now (s .1 .1 .1 .1 .1 .1 .1 .1 .1 .1 .1 .0)) r
+step-told κs a r s p =
+    let m : Map = record { count = a .0; root = a .1 .0 } in
+    let W : List ℕ = now (a .1 .1 .0) in
+    let C : List ℕ = now (a .1 .1 .1 .0) in
+    let b = a .1 .1 .1 .1 in
+    let q : Query = rangeOf (b .0) (b .1 .0) (b .1 .1 .0) (b .1 .1 .1 .0) in
+    let c : Cursor = record { slot = b .1 .1 .1 .1 .0; levels = b .1 .1 .1 .1 .1 .0; bits = b .1 .1 .1 .1 .1 .1 .0 } in
+    told-ranged (stepRows m W C q c) (stepTold m W C q c) (now (b .1 .1 .1 .1 .1 .1 .1 .0)) (now (s .1 .1 .1 .1 .1 .1 .1 .1 .1 .1 .1 .0)) r
+    (b .0) (b .1 .1 .0) (omega arith) (omega arith) (step-refusals m W C c q) (p .0) (p .1)
+
+-- `iset_step_exact`
+pub step-exact-told : (κs : Lfts 3) (a : K.Dens κs step-exact-kinds.ps) (r : K.resT step-exact-kinds.r κs .Denot) (s : AtExit (K.endedOf 3 step-exact-kinds.ps step-exact-kinds.r) κs)
+    → step-exact-reads.Post κs a r s
+    → let m : Map = record { count = a .0; root = a .1 .0 } in
+    let W : List ℕ = now (a .1 .1 .0) in
+    let C : List ℕ = now (a .1 .1 .1 .0) in
+    let b = a .1 .1 .1 .1 in
+    let q : Query = Exact (record { start = b .0; end = b .1 .0 }) in
+    let c : Cursor = record { slot = b .1 .1 .0; levels = b .1 .1 .1 .0; bits = b .1 .1 .1 .1 .0 } in
+    Told (stepRows m W C q c) (stepPlaces (stepCall m W C q c)) (now (b .1 .1 .1 .1 .1 .0)) (now (s .1 .1 .1 .1 .1 .1 .1 .1 .1 .0)) r
+step-exact-told κs a r s p =
+    let m : Map = record { count = a .0; root = a .1 .0 } in
+    let W : List ℕ = now (a .1 .1 .0) in
+    let C : List ℕ = now (a .1 .1 .1 .0) in
+    let b = a .1 .1 .1 .1 in
+    let q : Query = Exact (record { start = b .0; end = b .1 .0 }) in
+    let c : Cursor = record { slot = b .1 .1 .0; levels = b .1 .1 .1 .0; bits = b .1 .1 .1 .1 .0 } in
+    told (stepRows m W C q c) (stepTold m W C q c) (now (b .1 .1 .1 .1 .1 .0)) (now (s .1 .1 .1 .1 .1 .1 .1 .1 .1 .0)) r
+    (omega arith) (step-refusals m W C c q) (p .0) (p .1)
+
+-- `iset_drain`
+pub drain-told : (κs : Lfts 4) (a : K.Dens κs drain-kinds.ps) (r : K.resT drain-kinds.r κs .Denot) (s : AtExit (K.endedOf 4 drain-kinds.ps drain-kinds.r) κs)
+    → drain-reads.Post κs a r s
+    → let m : Map = record { count = a .0; root = a .1 .0 } in
+    let W : List ℕ = now (a .1 .1 .0) in
+    let C : List ℕ = now (a .1 .1 .1 .0) in
+    let b = a .1 .1 .1 .1 in
+    let q : Query = rangeOf (b .0) (b .1 .0) (b .1 .1 .0) (b .1 .1 .1 .0) in
+    let c : Cursor = record { slot = b .1 .1 .1 .1 .0; levels = b .1 .1 .1 .1 .1 .0; bits = b .1 .1 .1 .1 .1 .1 .0 } in
+    let limit : ℕ = b .1 .1 .1 .1 .1 .1 .1 .0 in
+    let out : List ℕ = now (b .1 .1 .1 .1 .1 .1 .1 .1 .0) in
+    Told (refuse 102 (BadBound (b .0) (b .1 .1 .0)) (drainRows m W C q c limit (length out))) (drainPlaces (drainCall m W C q c limit (length out)))
+    (now (b .1 .1 .1 .1 .1 .1 .1 .1 .1 .0)) (now (s .1 .1 .1 .1 .1 .1 .1 .1 .1 .1 .1 .1 .1 .0)) r
+drain-told κs a r s p =
+    let m : Map = record { count = a .0; root = a .1 .0 } in
+    let W : List ℕ = now (a .1 .1 .0) in
+    let C : List ℕ = now (a .1 .1 .1 .0) in
+    let b = a .1 .1 .1 .1 in
+    let q : Query = rangeOf (b .0) (b .1 .0) (b .1 .1 .0) (b .1 .1 .1 .0) in
+    let c : Cursor = record { slot = b .1 .1 .1 .1 .0; levels = b .1 .1 .1 .1 .1 .0; bits = b .1 .1 .1 .1 .1 .1 .0 } in
+    let limit : ℕ = b .1 .1 .1 .1 .1 .1 .1 .0 in
+    let out : List ℕ = now (b .1 .1 .1 .1 .1 .1 .1 .1 .0) in
+    told-ranged (drainRows m W C q c limit (length out)) (drainTold m W C q c limit out)
+    (now (b .1 .1 .1 .1 .1 .1 .1 .1 .1 .0)) (now (s .1 .1 .1 .1 .1 .1 .1 .1 .1 .1 .1 .1 .1 .0)) r
+    (b .0) (b .1 .1 .0) (omega arith) (omega arith) (drain-refusals m W C c limit q (length out)) (p .0) (p .1)
+
+-- `iset_drain_exact`
+pub drain-exact-told : (κs : Lfts 4) (a : K.Dens κs drain-exact-kinds.ps) (r : K.resT drain-exact-kinds.r κs .Denot) (s : AtExit (K.endedOf 4 drain-exact-kinds.ps drain-exact-kinds.r) κs)
+    → drain-exact-reads.Post κs a r s
+    → let m : Map = record { count = a .0; root = a .1 .0 } in
+    let W : List ℕ = now (a .1 .1 .0) in
+    let C : List ℕ = now (a .1 .1 .1 .0) in
+    let b = a .1 .1 .1 .1 in
+    let q : Query = Exact (record { start = b .0; end = b .1 .0 }) in
+    let c : Cursor = record { slot = b .1 .1 .0; levels = b .1 .1 .1 .0; bits = b .1 .1 .1 .1 .0 } in
+    let limit : ℕ = b .1 .1 .1 .1 .1 .0 in
+    let out : List ℕ = now (b .1 .1 .1 .1 .1 .1 .0) in
+    Told (drainRows m W C q c limit (length out)) (drainPlaces (drainCall m W C q c limit (length out)))
+    (now (b .1 .1 .1 .1 .1 .1 .1 .0)) (now (s .1 .1 .1 .1 .1 .1 .1 .1 .1 .1 .1 .0)) r
+drain-exact-told κs a r s p =
+    let m : Map = record { count = a .0; root = a .1 .0 } in
+    let W : List ℕ = now (a .1 .1 .0) in
+    let C : List ℕ = now (a .1 .1 .1 .0) in
+    let b = a .1 .1 .1 .1 in
+    let q : Query = Exact (record { start = b .0; end = b .1 .0 }) in
+    let c : Cursor = record { slot = b .1 .1 .0; levels = b .1 .1 .1 .0; bits = b .1 .1 .1 .1 .0 } in
+    let limit : ℕ = b .1 .1 .1 .1 .1 .0 in
+    let out : List ℕ = now (b .1 .1 .1 .1 .1 .1 .0) in
+    told (drainRows m W C q c limit (length out)) (drainTold m W C q c limit out)
+    (now (b .1 .1 .1 .1 .1 .1 .1 .0)) (now (s .1 .1 .1 .1 .1 .1 .1 .1 .1 .1 .1 .0)) r
+    (omega arith) (drain-refusals m W C c limit q (length out)) (p .0) (p .1)

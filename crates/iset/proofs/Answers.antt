@@ -1,0 +1,179 @@
+-- What each public call answers where it is not refused, in the documents' words: said of the calls' own answers and of what they leave.
+-- `Map::check` has nothing but its number (Refusals), steps and drains are in Runs.
+use mathlib.Core.Path.{_≡_, refl, sym, ap, _∙_}
+use mathlib.Core.Logic.{_⊎_, inl, inr}
+use mathlib.Core.Bool.{true, false}
+use mathlib.Core.List.{List, []}
+use Prim.Native.Nat.{ℕ, _+_, _-_, _/_, _<_, _≤_}
+use native.Mathlib.Omega.{arith}
+use lib.ListN.{length}
+use borrow.Author.Tests.{eq-eqb}
+use contract.Lifetimes.{Lfts}
+use borrow.Fn.Kinds as K
+use denote.Triple.Clauses.{AtExit}
+use denote.Ref.{now}
+use Rattle.words.specs.Ix.{U}
+use Rattle.words.specs.Nodes.{room, entry}
+use Rattle.words.specs.declared.interval.Interval.{Interval}
+use Rattle.words.specs.declared.node.Entry.{Entry}
+use Rattle.tree.specs.Tree.{slots}
+use Rattle.tree.specs.Passes.{Passes}
+use Rattle.builder_laws.specs.Built.{Built}
+use Rattle.tree_rm_laws.specs.Remove.{store}
+use Rattle.tree_rm_laws.specs.Removed.{Removed}
+use Rattle.tree_rm_laws.proofs.Removal.{removed}
+use Rattle.tree_in_laws.specs.Inserted.{Inserted}
+use Rattle.tree_in_laws.proofs.Insertion.{inserted}
+use Rattle.iter.specs.Lists.{those}
+use Rattle.iter.specs.Exact.{equals}
+use Rattle.iter.specs.declared.Cursor.{Cursor}
+use Rattle.iter.specs.declared.drain.Drained.{Drained}
+use Rattle.iter.specs.declared.seek.Step.the-variants.{Hit, End}
+use Rattle.iter.specs.declared.rules.Query.{Query}
+use Rattle.iter.specs.declared.rules.Query.the-variants.{Exact}
+use Rattle.iter_laws.specs.Highest.{Highest}
+use Rattle.iter_laws.proofs.ExactRuns.{exact-start}
+use Rattle.iset.specs.Check.{checkRule}
+use Rattle.iset.specs.Build.{buildNumber, buildPaper, buildRule, buildNodes, buildColour}
+use Rattle.iset.specs.Remove.{removeNumber, removePaper, removeCall, removeNodes, removeColours}
+use Rattle.iset.specs.Insert.{insertNumber, insertPaper, insertCall, insertNodes, insertColours}
+use Rattle.iset.specs.Lookup.{startNumber, startPaper, startCall, stepPaper, stepCall, drainNumber, drainPaper, drainCall, drainOutput}
+use Rattle.iset.specs.declared.Map.{Map}
+use Rattle.iset.specs.declared.build.Built.the-variants as built
+use Rattle.iset.specs.declared.remove.Gone.{Gone}
+use Rattle.iset.specs.declared.remove.Removal.the-variants as removal
+use Rattle.iset.specs.declared.insert.Added.{Added}
+use Rattle.iset.specs.declared.insert.Insertion.the-variants as insertion
+use Rattle.iset.specs.declared.lookup.Started.the-variants as started
+use Rattle.iset.specs.declared.lookup.Stepped.the-variants as stepped
+use Rattle.iset.specs.declared.lookup.Emptied.the-variants as emptied
+use Rattle.iset.proofs.Map.build.Reads as build-reads
+use Rattle.iset.proofs.Map.build.Kinds as build-kinds
+use Rattle.iset.proofs.Map.remove.Reads as remove-reads
+use Rattle.iset.proofs.Map.remove.Kinds as remove-kinds
+use Rattle.iset.proofs.Map.insert.Reads as insert-reads
+use Rattle.iset.proofs.Map.insert.Kinds as insert-kinds
+use Rattle.iset.proofs.Map.fresh_exact.Reads as exact-reads
+use Rattle.iset.proofs.Map.fresh_exact.Kinds as exact-kinds
+use Rattle.iset.proofs.Map.step.Reads as step-reads
+use Rattle.iset.proofs.Map.step.Kinds as step-kinds
+use Rattle.iset.proofs.Map.drain.Reads as drain-reads
+use Rattle.iset.proofs.Map.drain.Kinds as drain-kinds
+use Rattle.iset.proofs.Map.new.Reads as new-reads
+use Rattle.iset.proofs.Map.new.Kinds as new-kinds
+use Rattle.iset.proofs.Map.fresh.Reads as fresh-reads
+use Rattle.iset.proofs.Map.fresh.Kinds as fresh-kinds
+use Rattle.iset.proofs.Checks.{check-zero}
+use Rattle.iset.proofs.Builds.{builds}
+use Rattle.iset.proofs.Removals as removals
+use Rattle.iset.proofs.Insertions as insertions
+use Rattle.iset.proofs.Sequence.{empty-passes}
+use Rattle.iset.proofs.Found.{few}
+use Rattle.iset.proofs.Refusals.{build-no, remove-no, insert-no, start-no}
+
+-- `Map::new`: whatever its promise allows passes the check in any memory.
+pub new-answers : (κs : Lfts 0) (a : K.Dens κs new-kinds.ps) (r : K.resT new-kinds.r κs .Denot) (s : AtExit (K.endedOf 0 new-kinds.ps new-kinds.r) κs)
+    → new-reads.Post κs a r s → (W C : List ℕ) → checkRule r W C ≡ 0
+new-answers κs a r s p W C = rw p (empty-passes W C)
+
+-- `Map::fresh`: "slot root, one level, state 00"
+pub fresh-answers : (κs : Lfts 0) (a : K.Dens κs fresh-kinds.ps) (r : K.resT fresh-kinds.r κs .Denot) (s : AtExit (K.endedOf 0 fresh-kinds.ps fresh-kinds.r) κs)
+    → fresh-reads.Post κs a r s → r ≡ record { slot = a .0 .root; levels = 1; bits = 0 }
+fresh-answers κs a r s p = p
+
+-- A build: as many entries as triples, in a store that passes and holds the list in its order.
+pub build-answers : (W C S : List ℕ) → buildRule W C S .no ≡ 0
+    → (buildRule W C S .count ≡ length S / 3) × Built S W C (length S / 3) (buildNodes W C S) (buildColour W C S) (buildRule W C S .root)
+unfolding buildRule
+build-answers W C S e =
+    let z : buildNumber (length W) (length C) S ≡ 0 = sym (build-no W C S) ∙ e in
+    (rw (eq-eqb (buildNumber (length W) (length C) S) 0 z), builds W C S z)
+
+-- A removal: the count is one less; value, pairs, root and what is left are those of a removal of slot s.
+pub remove-answers : (m : Map) (W C : List ℕ) (s : ℕ) → removeCall m W C s .no ≡ 0 → (P : Passes W C (m .count) (m .root))
+    → (removeCall m W C s .count ≡ m .count - 1)
+    × Removed W C (m .count) (m .root) s P (record {
+      store = store (removeNodes m W C s) (removeColours m W C s) (removeCall m W C s .root);
+      value = removeCall m W C s .value;
+      pairs = removeCall m W C s .pairs;
+    })
+unfolding removeCall removeNodes removeColours
+remove-answers m W C s e P =
+    let z : removeNumber m W C s ≡ 0 = sym (remove-no m W C s) ∙ e in
+    let h : m .count ≤ room (length W) (length C) = check-zero m W C (removals.accepts m W C s z .0) .0 in
+    rw (eq-eqb (removeNumber m W C s) 0 z)
+    (refl, removed W C (m .count) (m .root) s (omega arith) (omega arith) (omega arith) (removals.accepts m W C s z .1) P)
+
+-- An insertion: the count is one more; the slot it names is the old count, "slot count is always the next one", and there the new entry stands.
+pub insert-answers : (m : Map) (W C : List ℕ) (e : Entry) → insertCall m W C e .no ≡ 0 → (P : Passes W C (m .count) (m .root))
+    → (insertCall m W C e .slot ≡ m .count)
+    × (entry (insertNodes m W C e) (insertCall m W C e .slot) ≡ e)
+    × (insertCall m W C e .count ≡ m .count + 1)
+    × Inserted W C (m .count) (m .root) e P (store (insertNodes m W C e) (insertColours m W C e) (insertCall m W C e .root))
+unfolding insertCall insertNodes insertColours
+insert-answers m W C e i P =
+    let z : insertNumber m W C e ≡ 0 = sym (insert-no m W C e) ∙ i in
+    let a = insertions.accepts m W C e z in
+    let h : m .count < room (length W) (length C) = a .0 in
+    let d = inserted W C (m .count) (m .root) e (omega arith) (omega arith) (omega arith) (a .2) P in
+    rw (eq-eqb (insertNumber m W C e) 0 z) (refl, d .entry-new, refl, d)
+
+-- `fresh_exact`: one level, state 00; "starts at the highest equal node, U if none"
+module _ (m : Map) (W C : List ℕ) (x : Interval) (e : startCall m W C x .no ≡ 0) (P : Passes W C (m .count) (m .root)) where
+  abbrev First : Cursor → Type 0
+  First c = ((c .slot ≡ U) × (those (equals W x) (slots (P .tree)) ≡ [])) ⊎ Highest W x (P .tree) (c .slot)
+
+  pub start-answers : (startCall m W C x .cursor ≡ record { slot = startCall m W C x .cursor .slot; levels = 1; bits = 0 }) × First (startCall m W C x .cursor)
+  unfolding startCall
+  start-answers =
+      let z : startNumber m W C (Exact x) ≡ 0 = sym (start-no m W C x) ∙ e in
+      rw (eq-eqb (startNumber m W C (Exact x)) 0 z)
+      (refl, exact-start W C (m .count) (m .root) x (few m W C (Exact x) z) P (λ u a. inl (u, a)) inr)
+
+-- "limit 0 means 64, for refusal 9 too"
+module _ (m : Map) (W C : List ℕ) (q : Query) (c : Cursor) where
+  pub drain-zero : (places : ℕ) → drainCall m W C q c 0 places ≡ drainCall m W C q c 64 places
+  unfolding drainCall drainNumber
+  drain-zero places = refl
+
+  pub drain-zero-output : (out : List ℕ) → drainOutput m W C q c 0 out ≡ drainOutput m W C q c 64 out
+  unfolding drainOutput drainNumber
+  drain-zero-output out = refl
+
+-- Said of the code: where an answer r that a call's promise allows from its arguments a is no refusal, its parts are those above.
+pub build-done : (κs : Lfts 3) (a : K.Dens κs build-kinds.ps) (r : K.resT build-kinds.r κs .Denot) (s : AtExit (K.endedOf 3 build-kinds.ps build-kinds.r) κs)
+    → build-reads.Post κs a r s → (m : Map) → r ≡ built.Done m
+    → buildRule (now (a .0)) (now (a .1 .0)) (now (a .1 .1 .0)) ≡ record { no = 0; count = m .count; root = m .root }
+build-done κs a r s p m e = sym (p .0) ∙ ap buildPaper e
+
+pub remove-done : (κs : Lfts 2) (a : K.Dens κs remove-kinds.ps) (r : K.resT remove-kinds.r κs .Denot) (s : AtExit (K.endedOf 2 remove-kinds.ps remove-kinds.r) κs)
+    → remove-reads.Post κs a r s → (g : Gone) → r ≡ removal.Done g
+    → removeCall (a .0) (now (a .1 .0)) (now (a .1 .1 .0)) (a .1 .1 .1 .0)
+    ≡ record { no = 0; value = g .value; count = g .map .count; root = g .map .root; pairs = g .pairs }
+remove-done κs a r s p g e = sym (p .0) ∙ ap (removePaper (a .0)) e
+
+pub insert-done : (κs : Lfts 2) (a : K.Dens κs insert-kinds.ps) (r : K.resT insert-kinds.r κs .Denot) (s : AtExit (K.endedOf 2 insert-kinds.ps insert-kinds.r) κs)
+    → insert-reads.Post κs a r s → (g : Added) → r ≡ insertion.Done g
+    → insertCall (a .0) (now (a .1 .0)) (now (a .1 .1 .0)) (record { start = a .1 .1 .1 .0; end = a .1 .1 .1 .1 .0; value = a .1 .1 .1 .1 .1 .0 })
+    ≡ record { no = 0; slot = g .slot; count = g .map .count; root = g .map .root }
+insert-done κs a r s p g e = sym (p .0) ∙ ap (insertPaper (a .0)) e
+
+pub fresh-exact-done : (κs : Lfts 2) (a : K.Dens κs exact-kinds.ps) (r : K.resT exact-kinds.r κs .Denot) (s : AtExit (K.endedOf 2 exact-kinds.ps exact-kinds.r) κs)
+    → exact-reads.Post κs a r s → (c : Cursor) → r ≡ started.Done c
+    → startCall (a .0) (now (a .1 .0)) (now (a .1 .1 .0)) (a .1 .1 .1 .0) ≡ record { no = 0; cursor = c }
+fresh-exact-done κs a r s p c e = sym p ∙ ap startPaper e
+
+-- a hit's slot is its cursor's; at the end the slot is U and the cursor (U, no levels)
+pub step-done : (κs : Lfts 2) (a : K.Dens κs step-kinds.ps) (r : K.resT step-kinds.r κs .Denot) (s : AtExit (K.endedOf 2 step-kinds.ps step-kinds.r) κs)
+    → step-reads.Post κs a r s → (c : Cursor) (n : ℕ)
+    → (r ≡ stepped.Done (Hit c n) → stepCall (a .0) (now (a .1 .0)) (now (a .1 .1 .0)) (a .1 .1 .1 .0) (a .1 .1 .1 .1 .0)
+    ≡ record { no = 0; hit = true; slot = c .slot; next = c; entered = n })
+    × (r ≡ stepped.Done (End n) → stepCall (a .0) (now (a .1 .0)) (now (a .1 .1 .0)) (a .1 .1 .1 .0) (a .1 .1 .1 .1 .0)
+    ≡ record { no = 0; hit = false; slot = U; next = record { slot = U; levels = 0; bits = 0 }; entered = n })
+step-done κs a r s p c n = (λ e. sym p ∙ ap (stepPaper (a .1 .1 .1 .1 .0)) e, λ e. sym p ∙ ap (stepPaper (a .1 .1 .1 .1 .0)) e)
+
+pub drain-done : (κs : Lfts 3) (a : K.Dens κs drain-kinds.ps) (r : K.resT drain-kinds.r κs .Denot) (s : AtExit (K.endedOf 3 drain-kinds.ps drain-kinds.r) κs)
+    → drain-reads.Post κs a r s → (d : Drained) → r ≡ emptied.Done d
+    → drainCall (a .0) (now (a .1 .0)) (now (a .1 .1 .0)) (a .1 .1 .1 .0) (a .1 .1 .1 .1 .0) (a .1 .1 .1 .1 .1 .0) (length (now (a .1 .1 .1 .1 .1 .1 .0)))
+    ≡ record { no = 0; hits = d .hits; entered = d .entered; next = d .next }
+drain-done κs a r s p d e = sym (p .0) ∙ ap (drainPaper (a .1 .1 .1 .1 .0)) e
