@@ -19,7 +19,6 @@ use Rattle.words.specs.declared.node.Entry.{Entry}
 use Rattle.tree.specs.Tree.{slots}
 use Rattle.tree.specs.Passes.{Passes}
 use Rattle.builder_laws.specs.Built.{Built}
-use Rattle.tree_rm_laws.specs.Remove.{store}
 use Rattle.tree_rm_laws.specs.Removed.{Removed}
 use Rattle.tree_rm_laws.proofs.Removal.{removed}
 use Rattle.tree_in_laws.specs.Inserted.{Inserted}
@@ -38,12 +37,13 @@ use Rattle.iset.specs.Build.{buildNumber, buildPaper, buildRule, buildNo
 use Rattle.iset.specs.Remove.{removeNumber, removePaper, removeCall, removeNodes, removeColours}
 use Rattle.iset.specs.Insert.{insertNumber, insertPaper, insertCall, insertNodes, insertColours}
 use Rattle.iset.specs.Lookup.{startNumber, startPaper, startCall, stepPaper, stepCall, drainNumber, drainPaper, drainCall, drainOutput}
+use Rattle.iset.specs.Demands.{removal, insertion}
 use Rattle.iset.specs.declared.Map.{Map}
 use Rattle.iset.specs.declared.build.Built.the-variants as built
 use Rattle.iset.specs.declared.remove.Gone.{Gone}
-use Rattle.iset.specs.declared.remove.Removal.the-variants as removal
+use Rattle.iset.specs.declared.remove.Removal.the-variants as removed-as
 use Rattle.iset.specs.declared.insert.Added.{Added}
-use Rattle.iset.specs.declared.insert.Insertion.the-variants as insertion
+use Rattle.iset.specs.declared.insert.Insertion.the-variants as inserted-as
 use Rattle.iset.specs.declared.lookup.Started.the-variants as started
 use Rattle.iset.specs.declared.lookup.Stepped.the-variants as stepped
 use Rattle.iset.specs.declared.lookup.Emptied.the-variants as emptied
@@ -92,11 +92,7 @@ build-answers W C S e =
 -- A removal: the count is one less; value, pairs, root and what is left are those of a removal of slot s.
 pub remove-answers : (m : Map) (W C : List ℕ) (s : ℕ) → removeCall m W C s .no ≡ 0 → (P : Passes W C (m .count) (m .root))
     → (removeCall m W C s .count ≡ m .count - 1)
-    × Removed W C (m .count) (m .root) s P (record {
-      store = store (removeNodes m W C s) (removeColours m W C s) (removeCall m W C s .root);
-      value = removeCall m W C s .value;
-      pairs = removeCall m W C s .pairs;
-    })
+    × Removed W C (m .count) (m .root) s P (removal m W C s)
 unfolding removeCall removeNodes removeColours
 remove-answers m W C s e P =
     let z : removeNumber m W C s ≡ 0 = sym (remove-no m W C s) ∙ e in
@@ -109,7 +105,7 @@ pub insert-answers : (m : Map) (W C : List ℕ) (e : Entry) → insertCall m W C
     → (insertCall m W C e .slot ≡ m .count)
     × (entry (insertNodes m W C e) (insertCall m W C e .slot) ≡ e)
     × (insertCall m W C e .count ≡ m .count + 1)
-    × Inserted W C (m .count) (m .root) e P (store (insertNodes m W C e) (insertColours m W C e) (insertCall m W C e .root))
+    × Inserted W C (m .count) (m .root) e P (insertion m W C e)
 unfolding insertCall insertNodes insertColours
 insert-answers m W C e i P =
     let z : insertNumber m W C e ≡ 0 = sym (insert-no m W C e) ∙ i in
@@ -147,13 +143,13 @@ pub build-done : (κs : Lfts 3) (a : K.Dens κs build-kinds.ps) (r : K.resT buil
 build-done κs a r s p m e = sym (p .0) ∙ ap buildPaper e
 
 pub remove-done : (κs : Lfts 2) (a : K.Dens κs remove-kinds.ps) (r : K.resT remove-kinds.r κs .Denot) (s : AtExit (K.endedOf 2 remove-kinds.ps remove-kinds.r) κs)
-    → remove-reads.Post κs a r s → (g : Gone) → r ≡ removal.Done g
+    → remove-reads.Post κs a r s → (g : Gone) → r ≡ removed-as.Done g
     → removeCall (a .0) (now (a .1 .0)) (now (a .1 .1 .0)) (a .1 .1 .1 .0)
     ≡ record { no = 0; value = g .value; count = g .map .count; root = g .map .root; pairs = g .pairs }
 remove-done κs a r s p g e = sym (p .0) ∙ ap (removePaper (a .0)) e
 
 pub insert-done : (κs : Lfts 2) (a : K.Dens κs insert-kinds.ps) (r : K.resT insert-kinds.r κs .Denot) (s : AtExit (K.endedOf 2 insert-kinds.ps insert-kinds.r) κs)
-    → insert-reads.Post κs a r s → (g : Added) → r ≡ insertion.Done g
+    → insert-reads.Post κs a r s → (g : Added) → r ≡ inserted-as.Done g
     → insertCall (a .0) (now (a .1 .0)) (now (a .1 .1 .0)) (record { start = a .1 .1 .1 .0; end = a .1 .1 .1 .1 .0; value = a .1 .1 .1 .1 .1 .0 })
     ≡ record { no = 0; slot = g .slot; count = g .map .count; root = g .map .root }
 insert-done κs a r s p g e = sym (p .0) ∙ ap (insertPaper (a .0)) e

@@ -13,7 +13,7 @@ use Rattle.bitvec.specs.Calls.{Bits, allowed, getRule, setRule, setBytes, roomy
 use Rattle.stack.specs.Calls.{Told, some, testRule, markRule, isEmptyRule}
 use Rattle.stack.specs.Calls as stack
 use Rattle.stack.specs.declared.ActionStack.{ActionStack}
-use Rattle.iset.specs.Refusals.{Rows, accept, refuse, Exactly, TooLong, PastLength, NoByteLeft, NoNextLength, Nothing, Full, TooDeep, bitRows, pushRows, popRows, fromElemRows, stackPushRows, topRows, isEmptyRows}
+use Rattle.iset.specs.Refusals.{accept, refuse, Exactly, TooLong, PastLength, NoByteLeft, NoNextLength, Nothing, Full, TooDeep, bitRows, pushRows, popRows, fromElemRows, stackPushRows, topRows, isEmptyRows}
 
 -- a test fails exactly if P
 abbrev pub Fails : Bool → Type 0 → Type 0

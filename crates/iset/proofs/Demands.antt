@@ -1,24 +1,18 @@
 -- The three demands, of the public calls.
 use mathlib.Core.Path.{_≡_, sym, _∙_}
 use mathlib.Core.List.{List}
-use Prim.Native.Nat.{ℕ, _-_, _+_, _/_, _<_, _≤_}
+use Prim.Native.Nat.{ℕ, _-_, _<_, _≤_}
 use native.Mathlib.Omega.{arith}
 use lib.ListN.{length}
 use borrow.Author.Tests.{eq-eqb}
 use Rattle.words.specs.Nodes.{room}
 use Rattle.words.specs.declared.node.Entry.{Entry}
-use Rattle.tree.specs.Passes.{Passes}
-use Rattle.builder_laws.specs.Built.{Built}
 use Rattle.tree_rm_laws.specs.Remove.{removeRule}
-use Rattle.tree_rm_laws.specs.Removed.{Removed}
 use Rattle.tree_rm_laws.specs.With.{removeWith}
-use Rattle.tree_rm_laws.proofs.Removal.{removed}
 use Rattle.tree_rm_laws.proofs.Enough as removal-numbers
 use Rattle.tree_in_laws.specs.Insert.{insertRule}
-use Rattle.tree_in_laws.specs.Inserted.{Inserted, insertWith}
-use Rattle.tree_in_laws.proofs.Insertion.{inserted}
+use Rattle.tree_in_laws.specs.Inserted.{insertWith}
 use Rattle.tree_in_laws.proofs.Insertion as insertion-numbers
-use Rattle.iset.specs.Build.{buildNumber, buildRule, buildNodes, buildColour}
 use Rattle.iset.specs.Remove.{removeNumber, removeCall, removeNodes, removeColours}
 use Rattle.iset.specs.Insert.{insertNumber, insertCall, insertNodes, insertColours}
 use Rattle.iset.specs.Demands.{Demand1, removal, insertion, Demand2, Demand3}
@@ -27,7 +21,8 @@ use Rattle.iset.proofs.Checks.{check-zero}
 use Rattle.iset.proofs.Builds as builds
 use Rattle.iset.proofs.Removals as removals
 use Rattle.iset.proofs.Insertions as insertions
-use Rattle.iset.proofs.Refusals.{check-refusals, build-refusals, build-no, build-leaves, remove-refusals, remove-no, remove-leaves, insert-refusals, insert-no, insert-leaves, start-refusals, start-leaves, step-refusals, step-leaves, drain-refusals, drain-leaves}
+use Rattle.iset.proofs.Refusals.{check-refusals, build-refusals, build-leaves, remove-refusals, remove-no, remove-leaves, insert-refusals, insert-no, insert-leaves, start-refusals, start-leaves, step-refusals, step-leaves, drain-refusals, drain-leaves}
+use Rattle.iset.proofs.Answers.{build-answers, remove-answers, insert-answers}
 use Rattle.iset.proofs.Runs.{overlap-runs, exact-runs}
 
 pub demand-1 : (m : Map) (W C : List ℕ) → Demand1 m W C
@@ -48,12 +43,6 @@ demand-1 m W C =
       drain-leaves = λ q c limit out. drain-leaves m W C c limit q out;
     }
 
--- a build
-built : (W C S : List ℕ) → buildNumber (length W) (length C) S ≡ 0
-    → (buildRule W C S .count ≡ length S / 3) × Built S W C (length S / 3) (buildNodes W C S) (buildColour W C S) (buildRule W C S .root)
-unfolding buildRule
-built W C S e = (rw (eq-eqb (buildNumber (length W) (length C) S) 0 e), builds.builds W C S e)
-
 -- a removal: what the call answers and leaves is what the rule does
 module _ (m : Map) (W C : List ℕ) (s : ℕ) (e : removeNumber m W C s ≡ 0) where
   fits : m .count ≤ room (length W) (length C)
@@ -62,15 +51,6 @@ module _ (m : Map) (W C : List ℕ) (s : ℕ) (e : removeNumber m W C s ≡ 0) w
   removal-is : removal m W C s ≡ removeRule W C (m .count) (m .root) s
   unfolding removeCall removeNodes removeColours
   removal-is = rw (eq-eqb (removeNumber m W C s) 0 e)
-
-  pub removes : (P : Passes W C (m .count) (m .root))
-      → (removeCall m W C s .count ≡ m .count - 1) × Removed W C (m .count) (m .root) s P (removal m W C s)
-  unfolding removeCall
-  removes P = (
-    rw (eq-eqb (removeNumber m W C s) 0 e),
-    rw removal-is
-        (removed W C (m .count) (m .root) s (omega (arith, fits)) (omega (arith, fits)) (omega (arith, fits)) (removals.accepts m W C s e .1) P),
-  )
 
   pub remove-enough : (turns links hulls : ℕ) → 36 ≤ turns → 32 ≤ links → 32 ≤ hulls
       → removal m W C s ≡ removeWith turns links hulls W C (m .count) (m .root) s
@@ -88,17 +68,6 @@ module _ (m : Map) (W C : List ℕ) (x : Entry) (e : insertNumber m W C x ≡ 0)
   unfolding insertCall insertNodes insertColours
   insertion-is = rw (eq-eqb (insertNumber m W C x) 0 e)
 
-  pub inserts : (P : Passes W C (m .count) (m .root))
-      → (insertCall m W C x .count ≡ m .count + 1) × (insertCall m W C x .slot ≡ m .count)
-      × Inserted W C (m .count) (m .root) x P (insertion m W C x)
-  unfolding insertCall
-  inserts P = (
-    rw (eq-eqb (insertNumber m W C x) 0 e),
-    rw (eq-eqb (insertNumber m W C x) 0 e),
-    rw insertion-is
-        (inserted W C (m .count) (m .root) x (omega (arith, roomy)) (omega (arith, roomy)) (omega (arith, roomy)) (insertions.accepts m W C x e .2) P),
-  )
-
   pub insert-enough : (levels turns hulls : ℕ) → 32 ≤ levels → 32 ≤ turns → 32 ≤ hulls
       → insertion m W C x ≡ insertWith levels turns hulls W C (m .count) (m .root) x
   insert-enough levels turns hulls i j k =
@@ -109,9 +78,9 @@ module _ (m : Map) (W C : List ℕ) (x : Entry) (e : insertNumber m W C x ≡ 0)
 pub demand-2 : (m : Map) (W C : List ℕ) → Demand2 m W C
 demand-2 m W C =
     record {
-      builds = λ S e. built W C S (sym (build-no W C S) ∙ e);
-      removes = λ s e. removes m W C s (sym (remove-no m W C s) ∙ e);
-      inserts = λ x e. inserts m W C x (sym (insert-no m W C x) ∙ e);
+      builds = λ S e. build-answers W C S e;
+      removes = λ s e P. remove-answers m W C s e P;
+      inserts = λ x e P. insert-answers m W C x e P;
       remove-enough = λ s e. remove-enough m W C s (sym (remove-no m W C s) ∙ e);
       insert-enough = λ x e. insert-enough m W C x (sym (insert-no m W C x) ∙ e);
     }

@@ -5,6 +5,7 @@ use mathlib.Core.List.{List}
 use Prim.Native.Nat.{ℕ, _-_, _+_, _/_, _≤_}
 use lib.ListN.{length}
 use Rattle.words.specs.Ix.{U}
+use Rattle.words.specs.Nodes.{entry}
 use Rattle.words.specs.declared.interval.Interval.{Interval}
 use Rattle.words.specs.declared.interval.Span.{Span}
 use Rattle.words.specs.declared.node.Entry.{Entry}
@@ -70,9 +71,11 @@ pub record Demand2 (m : Map) (W C : List ℕ) : Type 0 where
   -- a removal's store passes, with the other entries in their order; value and pairs are those of the removed and of the moved entries
   pub removes : (s : ℕ) → removeCall m W C s .no ≡ 0 → (P : Passes W C (m .count) (m .root))
       → (removeCall m W C s .count ≡ m .count - 1) × Removed W C (m .count) (m .root) s P (removal m W C s)
-  -- an insertion's store passes, with every old entry in its slot and the new one in slot count, after its equals
+  -- an insertion's store passes, with every old entry in its slot and the new one, after its equals, in the slot that is named: the old count
   pub inserts : (e : Entry) → insertCall m W C e .no ≡ 0 → (P : Passes W C (m .count) (m .root))
-      → (insertCall m W C e .count ≡ m .count + 1) × (insertCall m W C e .slot ≡ m .count)
+      → (insertCall m W C e .slot ≡ m .count)
+      × (entry (insertNodes m W C e) (insertCall m W C e .slot) ≡ e)
+      × (insertCall m W C e .count ≡ m .count + 1)
       × Inserted W C (m .count) (m .root) e P (insertion m W C e)
   -- the numbers at which the rules stop counting never decide: any greater ones come to the same
   pub remove-enough : (s : ℕ) → removeCall m W C s .no ≡ 0 → (turns links hulls : ℕ) → 36 ≤ turns → 32 ≤ links → 32 ≤ hulls
