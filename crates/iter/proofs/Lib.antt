@@ -7,3 +7,4 @@ pub mod Moves
 pub mod Ways
 pub mod Fills
 pub mod Totals
+pub mod Determined

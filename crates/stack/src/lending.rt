@@ -12,7 +12,7 @@ pub struct After {
 }
 
 // The two in one record.
-pub fn both(outcome: Outcome, stack: ActionStack) -> After
+pub(crate) fn both(outcome: Outcome, stack: ActionStack) -> After
     ensures { λ r. ⌜ (r .outcome ≡ outcome) × (r .stack ≡ stack) ⌝ }
 {
     After { outcome, stack }

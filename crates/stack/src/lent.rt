@@ -13,7 +13,7 @@ pub enum Outcome {
 }
 
 // The stack after a call by value on a given one.
-pub fn stack_after(a: Answer, given: ActionStack) -> ActionStack
+pub(crate) fn stack_after(a: Answer, given: ActionStack) -> ActionStack
     ensures { λ r. ⌜ r ≡ paper given a .stack ⌝ }
 {
     match a {
@@ -23,7 +23,7 @@ pub fn stack_after(a: Answer, given: ActionStack) -> ActionStack
 }
 
 // An answer without its stack, and without what was tested: the calls here test nothing.
-pub fn without_stack(a: Answer) -> Outcome
+pub(crate) fn without_stack(a: Answer) -> Outcome
     ensures { λ r. ⌜ r ≡ outcomeOf a ⌝ }
 {
     match a {

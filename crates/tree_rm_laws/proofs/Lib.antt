@@ -31,3 +31,4 @@ pub mod Mended
 pub mod Inside
 pub mod Sequence
 pub mod Below
+pub mod Told
