@@ -1,8 +1,8 @@
-// For bench/ alone: the inner functions of the library, which run no store check, and beside them the public drain, which does. Each tests
-// the room of its slices, as the inner functions ask for no more; a call without room answers 0.
+// A part of the measuring program bench/, and no part of the library: no crate stands on it, and no header declares it. The inner functions, which
+// run no store check, and beside them the public drain, which does. Each tests the room of its slices, as the inner functions ask for no more; a call
+// without room answers 0. What they return is compared with the crate's by bench/, and no promise says it (docs/DECISIONS.md).
 use iset::Map;
 use iset::lookup::Emptied;
-use iset::lookup::Started;
 use iter::Cursor;
 use iter::rules::Query;
 use iter::rules::find_index;

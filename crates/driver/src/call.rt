@@ -1,12 +1,12 @@
 // What a line asks for.
+use crate::arena;
+use crate::bits;
+use crate::given;
+use crate::lookups;
+use crate::lookups::query::Kind;
+use crate::map;
 use crate::settings;
-use driver_calls::bits;
-use driver_calls::stacks;
-use driver_lookups::query::Kind;
-use driver_lookups::request as lookups;
-use driver_map::request as map;
-use driver_state::arena;
-use driver_state::given;
+use crate::stacks;
 use lines::input::Line;
 
 // Nothing: a comment or an empty line. Unknown: a line that fits nothing.
@@ -106,7 +106,7 @@ fn is_empty(line: Line) -> bool {
     }
 }
 
-pub fn call_of(line: Line, name: &[u8], numbers: &[u64]) -> Call {
+pub(crate) fn call_of(line: Line, name: &[u8], numbers: &[u64]) -> Call {
     if is_comment(line, name) | is_empty(line) {
         Call::Nothing
     } else if line.is_wrong() {

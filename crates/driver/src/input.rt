@@ -1,7 +1,7 @@
 // Standard input, line by line.
+use crate::arena;
 use crate::call;
 use crate::call::Call;
-use driver_state::arena;
 use libc::STDIN_FILENO;
 use lines::input::Line;
 ghost use mathlib.Core.Path.{_≡_};
@@ -99,7 +99,7 @@ fn line(input: &mut [u8], p: Place, name: &mut [u8], numbers: &mut [u64]) -> Ask
     complete(line, b, name, numbers)
 }
 
-pub fn read(input: &mut [u8], p: Place, numbers: &mut [u64]) -> Asked {
+pub(crate) fn read(input: &mut [u8], p: Place, numbers: &mut [u64]) -> Asked {
     let mut name = name_space();
     line(input, p, &mut name, numbers)
 }

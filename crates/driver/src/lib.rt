@@ -1,21 +1,25 @@
 // Every public call by its numbers: one line in, one line out. docs/DRIVE.md says what it reads and writes.
+mod answer;
+mod arena;
+mod bits;
 mod call;
+mod copy;
+mod given;
 mod input;
+mod lookups;
+mod map;
 mod settings;
+mod stacks;
+mod state;
 
 use crate::call::Call;
 use crate::input::Place;
-use driver_calls::bits;
-use driver_calls::stacks;
-use driver_lookups::request as lookups;
-use driver_map::request as map;
-use driver_state::answer;
-use driver_state::state::State;
+use crate::state::State;
 use lines::output;
 ghost use mathlib.Core.Path.{_≡_};
 ghost use lib.ListN.{length};
 
-// Room for all that the requests work on (driver_state::arena).
+// Room for all that the requests work on (crate::arena).
 fn words_space() -> [u64; 67072]
     ensures { λ r. ⌜ 67072 ≡ length r ⌝ }
 {

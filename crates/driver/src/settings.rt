@@ -1,14 +1,14 @@
 // The settings: the store, the bytes of the bit calls, and taking over what the last request left.
-use driver_state::arena;
-use driver_state::arena::BYTES;
-use driver_state::arena::COLOURS;
-use driver_state::arena::MOST_BYTES;
-use driver_state::arena::MOST_WORDS;
-use driver_state::arena::NEW_BYTES;
-use driver_state::arena::WORDS;
-use driver_state::given;
-use driver_state::state::Left;
-use driver_state::state::State;
+use crate::arena;
+use crate::arena::BYTES;
+use crate::arena::COLOURS;
+use crate::arena::MOST_BYTES;
+use crate::arena::MOST_WORDS;
+use crate::arena::NEW_BYTES;
+use crate::arena::WORDS;
+use crate::given;
+use crate::state::Left;
+use crate::state::State;
 
 pub enum Call {
     Store,
@@ -30,7 +30,7 @@ fn is_bytes(numbers: &[u64]) -> bool {
 }
 
 // Whether the numbers are those of the setting.
-pub fn fits(call: Call, numbers: &[u64]) -> bool {
+pub(crate) fn fits(call: Call, numbers: &[u64]) -> bool {
     match call {
         Call::Store => is_store(numbers),
         Call::Bytes => is_bytes(numbers),
@@ -68,7 +68,7 @@ fn commit(s: State, words: &mut [u64]) -> State {
     }
 }
 
-pub fn set(s: State, call: Call, numbers: &[u64], words: &mut [u64]) -> State {
+pub(crate) fn set(s: State, call: Call, numbers: &[u64], words: &mut [u64]) -> State {
     match call {
         Call::Store => store(s, numbers, words),
         Call::Bytes => bytes(s, numbers, words),

@@ -8,3 +8,4 @@ pub mod Calls
 pub mod Ways
 pub mod Fills
 pub mod Totals
+pub mod Determined

@@ -1,6 +1,6 @@
 -- The code of the walk against its rule: one move, and the moves of a step.
 use mathlib.Core.Path.{_≡_, refl, sym, ap, _∙_}
-use mathlib.Core.Bool.{Bool, true, false, cond, _&&_, false≢true}
+use mathlib.Core.Bool.{Bool, true, false, cond, _&&_}
 use mathlib.Core.List.{List, []}
 use Prim.Native.Nat.{ℕ, zero, suc, _+_, _-_, _<_, _≤_}
 use native.Mathlib.Omega.{arith}
@@ -12,10 +12,10 @@ use Rattle.stack.specs.States.{wasLeft, returned, top, marked, pushed, popped}
 use Rattle.iter.specs.Cursors.{stackOf, upTo}
 use Rattle.iter.specs.Walk.{Rules, deeper, mark, down, move, hits, counts, Answer, ending, hitting, seek, fuel, step}
 use Rattle.iter.specs.Places.{Placed}
-use Rattle.iter.specs.Answers.{answer, isHit}
+use Rattle.iter.specs.Answers.{answer}
 use Rattle.iter.specs.declared.Cursor.{Cursor}
 use Rattle.iter.specs.declared.seek.Step.{Step}
-use Rattle.iter.specs.declared.seek.Step.the-variants.{Hit, End}
+use Rattle.iter.specs.declared.seek.Step.the-variants.{Hit}
 use Rattle.iter.proofs.Bools.{and-left}
 use Rattle.iter.proofs.Steps.{hits-live}
 
@@ -118,16 +118,6 @@ module _ (W : List ℕ) (n : ℕ) (Q : Rules) (f e : ℕ) (c : Cursor) (S : Answ
 
     pub seek-on : (x : ℕ) → b ≡ false → x ≡ counts n d → S ≡ seek W n Q (f - 1) (e + x) d
     seek-on x z y = turn ∙ rw (z, y)
-
--- the two equations of a step leave one answer
-pub told-once : (r s : Step) → answer r ≡ answer s → isHit r ≡ isHit s → r ≡ s
-told-once (Hit c e) (Hit d f) a b =
-    let x : c ≡ d = ap (λ (k : Answer). k .next) a in
-    let y : e ≡ f = ap (λ (k : Answer). k .entered) a in
-    rw (x, y)
-told-once (Hit c e) (End f) a b = absurd (false≢true (sym b))
-told-once (End e) (Hit d f) a b = absurd (false≢true b)
-told-once (End e) (End f) a b = ap End (ap (λ (k : Answer). k .entered) a)
 
 -- the cursor that a step hands back is fit for the next one
 module _ (W : List ℕ) (n : ℕ) (Q : Rules) (small : n ≤ 65535) where

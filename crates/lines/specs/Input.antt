@@ -56,3 +56,48 @@ closed l room = cond (leb room (l .count)) (lineAt l Wrong 0) (record { part = G
 
 abbrev pub numbersAfter : Line → List ℕ → List ℕ
 numbersAfter l s = set s (l .count) (l .value)
+
+-- One more byte, which is no line end: the line, the name's slice and the numbers' slice after it. What does not fit makes the line wrong; `room` and
+-- `places` are how much the slices hold.
+abbrev pub byteLine : Part → Line → ℕ → ℕ → ℕ → Line
+byteLine Start l b room places = onDigit (digitOf b) (λ d. lineAt l Number d) (withLetter l b room)
+byteLine Name l b room places = onDigit (digitOf b) (λ d. lineAt l Wrong 0) (withLetter l b room)
+byteLine Number l b room places = onDigit (digitOf b) (λ d. withDigit l d) (cond (eqb b 32) (closed l places) (lineAt l Wrong 0))
+byteLine Gap l b room places = onDigit (digitOf b) (λ d. lineAt l Number d) (lineAt l Wrong 0)
+byteLine Wrong l b room places = l
+
+abbrev pub byteName : Part → Line → ℕ → List ℕ → List ℕ
+byteName Start l b s = onDigit (digitOf b) (λ d. s) (nameAfter l b s)
+byteName Name l b s = onDigit (digitOf b) (λ d. s) (nameAfter l b s)
+byteName Number l b s = s
+byteName Gap l b s = s
+byteName Wrong l b s = s
+
+abbrev pub byteNumbers : Part → Line → ℕ → List ℕ → List ℕ
+byteNumbers Start l b s = s
+byteNumbers Name l b s = s
+byteNumbers Number l b s = onDigit (digitOf b) (λ d. s) (cond (eqb b 32) (numbersAfter l s) s)
+byteNumbers Gap l b s = s
+byteNumbers Wrong l b s = s
+
+-- the line at its end: a last number is complete, a space after one is wrong
+abbrev pub endLine : Part → Line → ℕ → Line
+endLine Start l places = l
+endLine Name l places = l
+endLine Number l places = closed l places
+endLine Gap l places = lineAt l Wrong 0
+endLine Wrong l places = l
+
+abbrev pub endNumbers : Part → Line → List ℕ → List ℕ
+endNumbers Start l s = s
+endNumbers Name l s = s
+endNumbers Number l s = numbersAfter l s
+endNumbers Gap l s = s
+endNumbers Wrong l s = s
+
+abbrev pub wrong : Part → Bool
+wrong Start = false
+wrong Name = false
+wrong Number = false
+wrong Gap = false
+wrong Wrong = true

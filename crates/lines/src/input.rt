@@ -4,6 +4,8 @@ ghost use mathlib.Core.Path.{_≡_};
 ghost use Prim.Native.Nat.{_<_};
 ghost use lib.ListN.{length};
 ghost use Rattle.lines.specs.Input.{startOf, digitOf, lineAt, appended, withDigit, withLetter, nameAfter, closed, numbersAfter};
+ghost use Rattle.lines.specs.Input.{byteLine, byteName, byteNumbers, endLine, endNumbers, wrong};
+ghost use Rattle.lines.specs.declared.input.Part.the-variants.{Start, Name, Number, Gap};
 
 const SPACE: u8 = 32;
 
@@ -140,7 +142,9 @@ impl Line {
         }
     }
 
-    fn in_start(self, b: u8, name: &mut [u8]) -> Line {
+    fn in_start(self, b: u8, name: &mut [u8]) -> Line
+        ensures { λ r. ⌜ (r ≡ byteLine Start self b (length (now (name .entry))) 0) × (now (name .exit) ≡ byteName Start self b (now (name .entry))) ⌝ }
+    {
         match digit_of(b) {
             Digit::Is(d) => self.at(Part::Number, d),
             Digit::Not => self.with_letter(b, name),
@@ -148,14 +152,18 @@ impl Line {
     }
 
     // A digit inside a word is no number.
-    fn in_name(self, b: u8, name: &mut [u8]) -> Line {
+    fn in_name(self, b: u8, name: &mut [u8]) -> Line
+        ensures { λ r. ⌜ (r ≡ byteLine Name self b (length (now (name .entry))) 0) × (now (name .exit) ≡ byteName Name self b (now (name .entry))) ⌝ }
+    {
         match digit_of(b) {
             Digit::Is(_) => self.at(Part::Wrong, 0),
             Digit::Not => self.with_letter(b, name),
         }
     }
 
-    fn in_number(self, b: u8, numbers: &mut [u64]) -> Line {
+    fn in_number(self, b: u8, numbers: &mut [u64]) -> Line
+        ensures { λ r. ⌜ (r ≡ byteLine Number self b 0 (length (now (numbers .entry)))) × (now (numbers .exit) ≡ byteNumbers Number self b (now (numbers .entry))) ⌝ }
+    {
         match digit_of(b) {
             Digit::Is(d) => self.with_digit(d),
             Digit::Not => if b == SPACE {
@@ -166,7 +174,9 @@ impl Line {
         }
     }
 
-    fn in_gap(self, b: u8) -> Line {
+    fn in_gap(self, b: u8) -> Line
+        ensures { λ r. ⌜ r ≡ byteLine Gap self b 0 0 ⌝ }
+    {
         match digit_of(b) {
             Digit::Is(d) => self.at(Part::Number, d),
             Digit::Not => self.at(Part::Wrong, 0),
@@ -174,7 +184,11 @@ impl Line {
     }
 
     // The line with one more byte, which is no line end. What does not fit into the slices makes the line wrong.
-    pub fn byte(self, b: u8, name: &mut [u8], numbers: &mut [u64]) -> Line {
+    pub fn byte(self, b: u8, name: &mut [u8], numbers: &mut [u64]) -> Line
+        ensures { λ r. ⌜ (r ≡ byteLine (self .part) self b (length (now (name .entry))) (length (now (numbers .entry))))
+            × (now (name .exit) ≡ byteName (self .part) self b (now (name .entry)))
+            × (now (numbers .exit) ≡ byteNumbers (self .part) self b (now (numbers .entry))) ⌝ }
+    {
         let part = self.part;
         match part {
             Part::Start => self.in_start(b, name),
@@ -186,17 +200,29 @@ impl Line {
     }
 
     // The line at its end: a last number is complete, a space after one is wrong.
-    pub fn end(self, numbers: &mut [u64]) -> Line {
+    pub fn end(self, numbers: &mut [u64]) -> Line
+        ensures { λ r. ⌜ (r ≡ endLine (self .part) self (length (now (numbers .entry)))) × (now (numbers .exit) ≡ endNumbers (self .part) self (now (numbers .entry))) ⌝ }
+    {
         let part = self.part;
         match part {
+            Part::Start => self,
+            Part::Name => self,
             Part::Number => self.close(numbers),
             Part::Gap => self.at(Part::Wrong, 0),
-            _ => self,
+            Part::Wrong => self,
         }
     }
 
-    pub fn is_wrong(self) -> bool {
+    pub fn is_wrong(self) -> bool
+        ensures { λ r. ⌜ r ≡ wrong (self .part) ⌝ }
+    {
         let part = self.part;
-        if let Part::Wrong = part { true } else { false }
+        match part {
+            Part::Start => false,
+            Part::Name => false,
+            Part::Number => false,
+            Part::Gap => false,
+            Part::Wrong => true,
+        }
     }
 }

@@ -19,11 +19,12 @@ use Rattle.iset.specs.declared.build.Built.the-variants as built
 use Rattle.iset.specs.declared.remove.Gone.{Gone}
 use Rattle.iset.specs.declared.remove.Removal.{Removal}
 use Rattle.iset.specs.declared.remove.Removal.the-variants as removal
+use Rattle.lines.specs.Output.{page}
 use Rattle.slots.specs.Reading.{gapAfter, byteRule, complete, endRule, newRule}
 use Rattle.slots.specs.Working.{Shelf, Desk, shelf, desk, roomFor, enteredWork, enteredList, listedIn, workLeft}
 use Rattle.slots.specs.Working.{builtIn, removalIn, settledIn, removedIn, wrongIn, onDesk, lineIn}
 use Rattle.slots.specs.Feeding.{Turn, turn, stepped, lined, lastLine, settledDesk, finished, printedOn}
-use Rattle.slots.specs.Writing.{page, puts, workText}
+use Rattle.slots.specs.Writing.{puts, workText}
 use Rattle.slots.specs.declared.State.{State}
 use Rattle.slots.specs.declared.reading.Before.{Before}
 use Rattle.slots.specs.declared.reading.Line.{Line}

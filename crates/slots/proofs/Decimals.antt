@@ -6,8 +6,8 @@ use Prim.Native.Nat.{ℕ, zero, suc, _+_, _-_, _*_, _/_, _%_, _^_, _<_}
 use native.Mathlib.Omega.{arith}
 use native.Mathlib.Nat.{pow-suc}
 use lib.Dec.{ltb}
+use Rattle.lines.specs.Output.{decimal, number}
 use Rattle.slots.specs.Words.{value}
-use Rattle.slots.specs.Text.{decimal, number}
 
 value-append : (v : ℕ) (s t : List ℕ) → value v (s ++ t) ≡ value (value v s) t
 value-append v [] t = refl

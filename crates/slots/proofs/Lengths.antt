@@ -10,8 +10,9 @@ use lib.Dec.{eqb, ltb}
 use borrow.Author.Tests.{lt-ltb}
 use Rattle.words.specs.Ix.{U}
 use Rattle.words.specs.Nodes.{start, stop, value}
-use Rattle.slots.specs.Text.{decimal, number, rootText, head, row, rows, mapText, refusalText}
-use Rattle.slots.specs.Writing.{page, putByte, puts}
+use Rattle.lines.specs.Output.{page, decimal, number}
+use Rattle.slots.specs.Text.{rootText, head, row, rows, mapText, refusalText}
+use Rattle.slots.specs.Writing.{putByte, puts}
 
 decimal-length : (f n : ℕ) → length (decimal f n) ≤ f
 unfolding decimal

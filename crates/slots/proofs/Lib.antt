@@ -1,4 +1,3 @@
-pub mod Folds
 pub mod Pages
 pub mod Arms
 pub mod Meaning

@@ -9,8 +9,9 @@ use Rattle.iset.specs.declared.Map.{Map}
 use Rattle.words.specs.Ix.{U}
 use Rattle.words.specs.Nodes.{entry}
 use Rattle.words.specs.declared.node.Entry.{Entry}
-use Rattle.slots.specs.Text.{decimal, number, next, rootText, head, row, rows, mapText, refusalText}
-use Rattle.slots.specs.Writing.{Page, page, putByte, puts, heldText, workText}
+use Rattle.lines.specs.Output.{Page, page, decimal, number, next}
+use Rattle.slots.specs.Text.{rootText, head, row, rows, mapText, refusalText}
+use Rattle.slots.specs.Writing.{putByte, puts, heldText, workText}
 use Rattle.slots.specs.declared.working.Work.{Work}
 
 -- a byte where there is room, and where there is none

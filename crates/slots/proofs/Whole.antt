@@ -7,10 +7,11 @@ use native.Mathlib.Omega.{arith}
 use lib.ListN.{length, take, replicate}
 use lib.Dec.{eqb}
 use borrow.Author.Tests.{le-ltb}
+use Rattle.lines.specs.Output.{page}
 use Rattle.slots.specs.Printed.{Stand, listed, onto, lines, settled, after, afterAll, text, printedIn, printed}
 use Rattle.slots.specs.Reading.{byteRule, endRule, newRule}
 use Rattle.slots.specs.Working.{Desk, desk, listedIn}
-use Rattle.slots.specs.Writing.{page, heldText, workText}
+use Rattle.slots.specs.Writing.{heldText, workText}
 use Rattle.slots.specs.Feeding.{Turn, turn, begun, lined, stepped, fed, lastLine, ended, finish}
 use Rattle.slots.specs.declared.reading.Line.{Line}
 use Rattle.slots.specs.declared.reading.Line.the-variants.{Start}

@@ -3,9 +3,10 @@ use mathlib.Core.Bool.{cond}
 use mathlib.Core.List.{List, foldl}
 use Prim.Native.Nat.{ℕ}
 use lib.Dec.{eqb}
+use Rattle.lines.specs.Output.{Page, page}
 use Rattle.slots.specs.Reading.{byteRule, endRule, newRule}
 use Rattle.slots.specs.Working.{Desk, shelf, desk, lineIn, settledIn, onDesk}
-use Rattle.slots.specs.Writing.{Page, page, puts, workText}
+use Rattle.slots.specs.Writing.{puts, workText}
 use Rattle.slots.specs.declared.State.{State}
 use Rattle.slots.specs.declared.reading.Line.{Line}
 use Rattle.slots.specs.declared.reading.Line.the-variants.{Start}

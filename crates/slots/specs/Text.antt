@@ -1,24 +1,11 @@
 -- "It prints `count N root R` (`-` for U), then one line a slot: slot, start, end, value."
 use mathlib.Core.Bool.{cond}
 use mathlib.Core.List.{List, [], _∷_, _++_}
-use Prim.Native.Nat.{ℕ, zero, suc, _+_, _/_, _%_}
-use lib.Dec.{eqb, ltb}
+use Prim.Native.Nat.{ℕ, zero, suc}
+use lib.Dec.{eqb}
 use Rattle.words.specs.Ix.{U}
 use Rattle.words.specs.Nodes.{start, stop, value}
-
--- A number in decimal, of f digits at most; "leading zeros read but not printed". No 64-bit number has more than 20.
-unfoldable pub decimal : ℕ → ℕ → List ℕ
-decimal zero n = []
-decimal (suc f) n =
-    let front : List ℕ = decimal f (n / 10) in
-    cond (ltb n 10) ((48 + n) ∷ []) (front ++ ((48 + n % 10) ∷ []))
-
-abbrev pub number : ℕ → List ℕ
-number n = decimal 20 n
-
--- a space and a number
-abbrev pub next : ℕ → List ℕ
-next n = 32 ∷ number n
+use Rattle.lines.specs.Output.{number, next}
 
 unfoldable pub rootText : ℕ → List ℕ
 rootText r = cond (eqb r U) (45 ∷ []) (number r)

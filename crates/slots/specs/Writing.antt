@@ -5,17 +5,10 @@ use Prim.Native.Nat.{ℕ, _+_, _/_}
 use lib.ListN.{length, set}
 use lib.Dec.{ltb}
 use Rattle.iset.specs.declared.Map.{Map}
+use Rattle.lines.specs.Output.{Page, page}
 use Rattle.slots.specs.Text.{mapText, refusalText}
 use Rattle.slots.specs.declared.working.Work.{Work}
 use Rattle.slots.specs.declared.working.Work.the-variants.{Listing, Held, Refused}
-
--- the buffer, and where the next byte goes
-pub record Page : Type 0 where
-  pub at : ℕ
-  pub out : List ℕ
-
-abbrev pub page : ℕ → List ℕ → Page
-page at out = record { at = at; out = out }
 
 -- a byte, where there is room; a text
 unfoldable pub putByte : Page → ℕ → Page

@@ -118,7 +118,7 @@ fn complete(before: Before, value: u64) -> Said
 
 impl Line {
     // The line with one more byte, which is no line end.
-    pub fn byte(self, b: u8) -> Line
+    pub(crate) fn byte(self, b: u8) -> Line
         ensures { λ r. ⌜ r ≡ byteRule self b ⌝ }
     {
         match self {
@@ -131,7 +131,7 @@ impl Line {
     }
 
     // What the line says, now that it is complete.
-    pub fn end(self) -> Said
+    pub(crate) fn end(self) -> Said
         ensures { λ r. ⌜ r ≡ endRule self ⌝ }
     {
         match self {
@@ -144,7 +144,7 @@ impl Line {
     }
 
     // Whether no byte of the line is there yet.
-    pub fn is_new(self) -> bool
+    pub(crate) fn is_new(self) -> bool
         ensures { λ r. ⌜ r ≡ newRule self ⌝ }
     {
         match self {

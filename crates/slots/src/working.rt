@@ -100,7 +100,7 @@ impl Work {
     }
 
     // The entries are complete: the map is built, where it is not built yet.
-    pub fn settle(self, nodes: &mut [u64], colours: &mut [u8], entries: &[u64]) -> Work
+    pub(crate) fn settle(self, nodes: &mut [u64], colours: &mut [u8], entries: &[u64]) -> Work
         ensures { λ r. ⌜ shelf r (now (nodes .exit)) (now (colours .exit))
             ≡ settledIn (now (entries .entry)) (shelf self (now (nodes .entry)) (now (colours .entry))) ⌝ }
     {
@@ -143,7 +143,7 @@ impl Work {
     }
 
     // One line more. After a refusal nothing changes.
-    pub fn line(
+    pub(crate) fn line(
         self,
         said: Said,
         nodes: &mut [u64],

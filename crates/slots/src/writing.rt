@@ -8,8 +8,9 @@ use words::node::entry_of;
 ghost use mathlib.Core.Path.{_≡_};
 ghost use Prim.Native.Nat.{_+_, _*_, _<_, _≤_};
 ghost use lib.ListN.{length};
-ghost use Rattle.slots.specs.Text.{decimal, number, next, rootText, head, row, rows, refusalText};
-ghost use Rattle.slots.specs.Writing.{page, putByte, puts, heldText, workText};
+ghost use Rattle.lines.specs.Output.{page, decimal, number, next};
+ghost use Rattle.slots.specs.Text.{rootText, head, row, rows, refusalText};
+ghost use Rattle.slots.specs.Writing.{putByte, puts, heldText, workText};
 
 fn put_byte(out: &mut [u8], at: usize, b: u8) -> usize
     ensures { λ r. ⌜ page r (now (out .exit)) ≡ putByte (page at (now (out .entry))) b ⌝ }
@@ -137,7 +138,7 @@ fn put_map(out: &mut [u8], map: Map, nodes: &[u64]) -> usize
 
 impl Work {
     // What is printed at the end.
-    pub fn put(self, nodes: &[u64], out: &mut [u8]) -> usize
+    pub(crate) fn put(self, nodes: &[u64], out: &mut [u8]) -> usize
         ensures { λ r. ⌜ page r (now (out .exit)) ≡ puts (page 0 (now (out .entry))) (workText self (now (nodes .entry))) ⌝ }
     {
         match self {

@@ -1,2 +1,3 @@
 pub mod Inserts
 pub mod Mends
+pub mod Determined

@@ -11,7 +11,7 @@ ghost use Rattle.words.specs.Nodes.{kid};
 ghost use Rattle.tree_in_laws.specs.Descent.{goesLeft, descend, under};
 
 // The new interval is less than that of slot k. An equal one goes right.
-pub fn goes_left(nodes: &[u64], interval: Interval, k: u64) -> bool
+pub(crate) fn goes_left(nodes: &[u64], interval: Interval, k: u64) -> bool
     requires { ⌜ k * 8 + 8 ≤ length (now nodes) ⌝ }
     ensures { λ r. ⌜ r ≡ goesLeft (now (nodes .entry)) interval k ⌝ }
 {
@@ -44,7 +44,7 @@ fn last_down(nodes: &[u64], count: u64, top: u64, interval: Interval) -> u64
 }
 
 // The slot that the new node hangs under; U where the map is empty.
-pub fn slot_above(nodes: &[u64], count: u64, root: u64, interval: Interval) -> u64
+pub(crate) fn slot_above(nodes: &[u64], count: u64, root: u64, interval: Interval) -> u64
     requires { ⌜ count * 8 ≤ length (now nodes) ⌝ }
     ensures { λ r. ⌜ r ≡ under count (now (nodes .entry)) root interval ⌝ }
 {

@@ -197,7 +197,7 @@ fn one_turn(nodes: &mut [u64], colours: &mut [u8], count: u64, root: u64, index:
 
 // Repairs the tree from the red slot `index` upward; the answer is the root. Each turn that goes on goes up two levels, so in
 // a store that passes the check 32 turns are enough.
-pub fn insert_repair(
+pub(crate) fn insert_repair(
     nodes: &mut [u64],
     colours: &mut [u8],
     count: u64,

@@ -32,3 +32,4 @@ pub mod Mended
 pub mod Inside
 pub mod Sequence
 pub mod Below
+pub mod Told

@@ -7,17 +7,6 @@ use Rattle.words.specs.declared.interval.Bound.the-variants.{Included, E
 use Rattle.words.specs.declared.interval.Span.{Span}
 use Rattle.words.specs.declared.interval.Interval.{Interval}
 
--- the kind of a bound by its number, and the bound's own number, 0 for Unbounded
-abbrev pub boundKind : Bound → ℕ
-boundKind (Included x) = 0
-boundKind (Excluded x) = 1
-boundKind Unbounded = 2
-
-abbrev pub boundNumber : Bound → ℕ
-boundNumber (Included x) = x
-boundNumber (Excluded x) = x
-boundNumber Unbounded = 0
-
 -- "end > lo, or lo is Unbounded"
 abbrev pub passed : Bound → ℕ → Bool
 passed (Included x) e = ltb x e

@@ -13,13 +13,9 @@ U = 4294967295
 abbrev pub gone : ℕ → ℕ → Bool
 gone n k = leb n k
 
--- the link of a word, and the word of a link
+-- the link of a word
 abbrev pub linkOf : ℕ → ℕ → Link
 linkOf n k = cond (gone n k) Nil (Slot k)
-
-abbrev pub linkWord : Link → ℕ
-linkWord (Slot k) = k
-linkWord Nil = U
 
 -- by cases on a link word: f of its slot, or z where it leads to none
 unfoldable pub onLink : {A : Type 0} → ℕ → ℕ → (ℕ → A) → A → A

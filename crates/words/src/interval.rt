@@ -1,7 +1,7 @@
 // Intervals of addresses, and ranges of two bounds.
 ghost use mathlib.Core.Path.{_≡_};
 ghost use Prim.Native.Nat.{min, max};
-ghost use Rattle.words.specs.Intervals.{passed, reached, admits, proper, le, eq, contains, extended, intersects, touches};
+ghost use Rattle.words.specs.Intervals.{passed, reached, admits, proper, le, eq, contains, extended, intersects};
 
 // One bound of a range.
 pub enum Bound {
@@ -112,14 +112,5 @@ impl Interval {
         let lo = range.lo;
         let hi = range.hi;
         lo.passed_by(self.end) & hi.admits_start(self.start)
-    }
-
-    // The interval meets the range, or ends where it begins.
-    pub fn touches_range(self, range: Span) -> bool
-        ensures { λ r. ⌜ r ≡ touches range self ⌝ }
-    {
-        let lo = range.lo;
-        let hi = range.hi;
-        lo.reached_by(self.end) & hi.admits_start(self.start)
     }
 }

@@ -1,6 +1,6 @@
 // Links between slots.
 ghost use mathlib.Core.Path.{_≡_};
-ghost use Rattle.words.specs.Ix.{linkOf, linkWord};
+ghost use Rattle.words.specs.Ix.{linkOf};
 
 // The undefined link.
 pub const U: u64 = 4294967295;
@@ -21,16 +21,6 @@ impl Link {
             Link::Slot(word)
         } else {
             Link::Nil
-        }
-    }
-
-    // The word that stands for this link.
-    pub fn word(self) -> u64
-        ensures { λ r. ⌜ r ≡ linkWord self ⌝ }
-    {
-        match self {
-            Link::Slot(k) => k,
-            Link::Nil => U,
         }
     }
 }

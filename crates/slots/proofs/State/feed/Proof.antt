@@ -3,7 +3,7 @@ use Prim.Native.Nat.{_≤_, _-_}
 use lib.ListN.{length, drop}
 use native.Mathlib.Omega.{arith}
 use Rattle.slots.specs.Feeding.{turn, fed}
-use Rattle.slots.proofs.Folds.{fold-on, fold-end}
+use Rattle.lines.proofs.Folds.{fold-on, fold-end}
 use Rattle.slots.proofs.State.feed.Statement.{statement}
 use Rattle.slots.proofs.State.feed.Tie as tie
 

@@ -2,8 +2,9 @@ use mathlib.Core.Path.{_≡_, refl}
 use Prim.Native.Nat.{_≤_, _-_}
 use lib.ListN.{length}
 use native.Mathlib.Omega.{arith}
+use Rattle.lines.specs.Output.{page}
 use Rattle.slots.specs.Text.{rows}
-use Rattle.slots.specs.Writing.{page, puts}
+use Rattle.slots.specs.Writing.{puts}
 use Rattle.slots.proofs.Pages.{rows-start, rows-on, rows-end}
 use Rattle.slots.proofs.writing.put_rows.Statement.{statement}
 use Rattle.slots.proofs.writing.put_rows.Tie as tie

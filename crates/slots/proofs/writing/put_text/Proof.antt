@@ -2,8 +2,9 @@ use mathlib.Core.Path.{_≡_, refl}
 use Prim.Native.Nat.{_≤_, _-_}
 use lib.ListN.{length, drop}
 use native.Mathlib.Omega.{arith}
-use Rattle.slots.specs.Writing.{page, puts}
-use Rattle.slots.proofs.Folds.{fold-on, fold-end}
+use Rattle.lines.specs.Output.{page}
+use Rattle.slots.specs.Writing.{puts}
+use Rattle.lines.proofs.Folds.{fold-on, fold-end}
 use Rattle.slots.proofs.writing.put_text.Statement.{statement}
 use Rattle.slots.proofs.writing.put_text.Tie as tie
 

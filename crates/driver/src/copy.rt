@@ -1,0 +1,49 @@
+// What each request on the store begins and ends with: a copy of the store, and what then differs in it.
+use crate::answer;
+use crate::arena;
+use crate::arena::COLOURS;
+use crate::arena::NEW_BYTES;
+use crate::arena::WORDS;
+use crate::state::Left;
+use crate::state::State;
+use lines::output;
+
+pub(crate) fn begin(s: State, words: &mut [u64]) {
+    arena::copy_words(words, WORDS, 0, s.words);
+    arena::copy_words(words, COLOURS, NEW_BYTES, s.colours);
+}
+
+// The line's end from `to` on, and the map that the request left beside the copy.
+pub(crate) fn end(
+    s: State,
+    count: u64,
+    root: u64,
+    words: &[u64],
+    out: &mut [u8],
+    to: usize,
+) -> State {
+    let w = s.words;
+    let b = s.colours;
+    let sign = answer::put_sign(out, to);
+    let nodes = answer::put_words(words, WORDS, 0, w, out, sign);
+    let colours = answer::put_words(words, COLOURS, NEW_BYTES, b, out, nodes);
+    s.after(
+        Left::Store(count, root, w, b),
+        output::put_byte(out, colours, b'\n'),
+    )
+}
+
+// A line of an answer's numbers and what differs.
+pub(crate) fn line(
+    s: State,
+    count: u64,
+    root: u64,
+    no: u64,
+    others: &[u64],
+    n: usize,
+    words: &[u64],
+    out: &mut [u8],
+) -> State {
+    let to = answer::put_numbers(no, others, n, out, s.to);
+    end(s, count, root, words, out, to)
+}

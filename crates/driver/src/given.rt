@@ -1,0 +1,68 @@
+// The numbers of a line, and whether a line fits a request.
+ghost use Prim.Native.Nat.{_≤_};
+
+// Number k of the line, 0 where there is none.
+pub(crate) fn number(numbers: &[u64], k: usize) -> u64 {
+    if k < numbers.len() { numbers[k] } else { 0 }
+}
+
+pub(crate) fn place(numbers: &[u64], k: usize) -> usize {
+    number(numbers, k) as usize
+}
+
+// Number k as the length of a list. No line has as many as 65,536 numbers, so that any greater one fits as little.
+pub(crate) fn size(numbers: &[u64], k: usize) -> usize
+    ensures { λ r. ⌜ r ≤ 65536 ⌝ }
+{
+    let n = number(numbers, k);
+    if n < 65536 { n as usize } else { 65536 }
+}
+
+// Whether the numbers from place k on are all bytes.
+fn are_bytes(numbers: &[u64], k: usize) -> bool {
+    let mut i = k;
+    while i < numbers.len() {
+        if numbers[i] < 256 {
+            i += 1;
+        } else {
+            return false;
+        }
+    }
+    true
+}
+
+// Whether the line has `end` numbers, and those from place k on are all bytes.
+pub(crate) fn ends_in_bytes(numbers: &[u64], k: usize, end: usize) -> bool {
+    (numbers.len() == end) & are_bytes(numbers, k)
+}
+
+// One more byte of a name in a list of names: how many bytes of `name` it has then, or usize::MAX where they differ.
+fn matched(name: &[u8], k: usize, b: u8) -> usize {
+    if k < name.len() {
+        if name[k] == b {
+            return k + 1;
+        }
+    }
+    usize::MAX
+}
+
+// Which of the names it is, each of which ends in a semicolon; how many there are where it is none.
+pub(crate) fn which(name: &[u8], names: &[u8]) -> usize {
+    let mut n = 0;
+    let mut k = 0;
+    let mut i = 0;
+    while i < names.len() {
+        let b = names[i];
+        i += 1;
+        if b == b';' {
+            if k == name.len() {
+                return n;
+            }
+            n += 1;
+            k = 0;
+        } else {
+            k = matched(name, k, b);
+        }
+    }
+    n
+}

@@ -1,0 +1,157 @@
+// The requests that look up. They write nothing, so that they are made on the store itself.
+mod drain;
+mod fresh;
+pub mod query;
+mod reply;
+mod step;
+
+use crate::answer;
+use crate::arena;
+use crate::arena::COLOURS;
+use crate::arena::WORDS;
+use crate::copy;
+use crate::lookups::query::Kind;
+use crate::lookups::reply::Reply;
+use crate::state::State;
+use iset::Map;
+use lines::output;
+ghost use mathlib.Core.Path.{_≡_};
+ghost use Prim.Native.Nat.{_≤_};
+ghost use lib.ListN.{length};
+
+pub enum Call {
+    Fresh,
+    Step,
+    Drain,
+}
+
+// How many numbers the call has after its query.
+fn count_of(call: Call) -> usize
+    ensures { λ r. ⌜ r ≤ 5 ⌝ }
+{
+    match call {
+        Call::Fresh => 0,
+        Call::Step => 3,
+        Call::Drain => 5,
+    }
+}
+
+// The places of a drain's output, at most 4,096.
+fn room(kind: Kind, numbers: &[u64]) -> u64 {
+    query::after(kind, numbers, 4)
+}
+
+// Whether the numbers are those of the call.
+pub(crate) fn fits(call: Call, kind: Kind, numbers: &[u64]) -> bool {
+    (numbers.len() == query::size(kind) + count_of(call))
+        & query::fits(kind, numbers)
+        & (room(kind, numbers) <= 4096)
+}
+
+fn done(
+    m: Map,
+    call: Call,
+    kind: Kind,
+    numbers: &[u64],
+    nodes: &[u64],
+    colours: &[u8],
+    hits: &mut [u64],
+) -> Reply {
+    match call {
+        Call::Fresh => fresh::fresh(m, kind, numbers, nodes, colours),
+        Call::Step => step::step(m, kind, numbers, nodes, colours),
+        Call::Drain => drain::drain(m, kind, numbers, nodes, colours, hits),
+    }
+}
+
+// Makes the call on the store.
+fn in_store(
+    s: State,
+    call: Call,
+    kind: Kind,
+    numbers: &[u64],
+    words: &[u64],
+    hits: &mut [u64],
+) -> Reply {
+    let mut colours = arena::byte_space();
+    arena::load(words, COLOURS, &mut colours);
+    let b = arena::least(s.colours, 512);
+    let w = arena::least(WORDS, words.len());
+    let n = arena::least(s.words, words.len() - w);
+    let m = Map {
+        count: s.count,
+        root: s.root,
+    };
+    done(
+        m,
+        call,
+        kind,
+        numbers,
+        &words[w..w + n],
+        &colours[..b],
+        hits,
+    )
+}
+
+// After the numbers of a drain comes all of its output.
+fn put_hits(call: Call, hits: &[u64], out: &mut [u8], to: usize) -> usize {
+    if let Call::Drain = call {
+        let first = output::put_next(out, to, hits.len() as u64);
+        answer::put_first(hits, hits.len(), out, first)
+    } else {
+        to
+    }
+}
+
+// The line of a step or a drain, which leaves the store as it is.
+fn line(s: State, call: Call, a: Reply, words: &mut [u64], hits: &[u64], out: &mut [u8]) -> State {
+    let numbers = a.numbers;
+    copy::begin(s, words);
+    let first = answer::put_numbers(a.no, &numbers, 5, out, s.to);
+    let to = put_hits(call, hits, out, first);
+    copy::end(s, s.count, s.root, words, out, to)
+}
+
+// The line of `fresh`.
+fn fresh_line(s: State, a: Reply, out: &mut [u8]) -> State {
+    let numbers = a.numbers;
+    answer::line(s, a.no, &numbers, 3, out)
+}
+
+// The request with this output.
+fn into(
+    s: State,
+    call: Call,
+    kind: Kind,
+    numbers: &[u64],
+    words: &mut [u64],
+    hits: &mut [u64],
+    out: &mut [u8],
+) -> State {
+    let a = in_store(s, call, kind, numbers, words, hits);
+    if let Call::Fresh = call {
+        fresh_line(s, a, out)
+    } else {
+        line(s, call, a, words, hits, out)
+    }
+}
+
+// The output: a number in each place by which one can see what a drain leaves alone.
+fn hits_space() -> [u64; 4096]
+    ensures { λ r. ⌜ 4096 ≡ length r ⌝ }
+{
+    [777777; 4096]
+}
+
+pub(crate) fn request(
+    s: State,
+    call: Call,
+    kind: Kind,
+    numbers: &[u64],
+    words: &mut [u64],
+    out: &mut [u8],
+) -> State {
+    let mut hits = hits_space();
+    let there = arena::least(room(kind, numbers) as usize, 4096);
+    into(s, call, kind, numbers, words, &mut hits[..there], out)
+}

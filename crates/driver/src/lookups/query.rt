@@ -1,0 +1,87 @@
+// The QUERY and the CURSOR of a lookup, as numbers.
+use crate::arena;
+use crate::given;
+use iter::Cursor;
+use iter::rules::Query;
+use words::interval::Bound;
+use words::interval::Interval;
+use words::interval::Span;
+ghost use Prim.Native.Nat.{_≤_};
+
+// `o BOUND BOUND` or `e START END`
+pub enum Kind {
+    Overlap,
+    Exact,
+}
+
+// How many numbers the query has.
+pub(crate) fn size(kind: Kind) -> usize
+    ensures { λ r. ⌜ r ≤ 4 ⌝ }
+{
+    match kind {
+        Kind::Overlap => 4,
+        Kind::Exact => 2,
+    }
+}
+
+// Whether a kind and a number are a bound: 0 Included, 1 Excluded, 2 Unbounded with number 0.
+fn is_bound(kind: u64, x: u64) -> bool {
+    (kind < 2) | ((kind == 2) & (x == 0))
+}
+
+fn bound(kind: u64, x: u64) -> Bound {
+    if kind == 0 {
+        Bound::Included(x)
+    } else if kind == 1 {
+        Bound::Excluded(x)
+    } else {
+        Bound::Unbounded
+    }
+}
+
+fn are_bounds(numbers: &[u64]) -> bool {
+    is_bound(given::number(numbers, 0), given::number(numbers, 1))
+        & is_bound(given::number(numbers, 2), given::number(numbers, 3))
+}
+
+// Whether the line begins with a query.
+pub(crate) fn fits(kind: Kind, numbers: &[u64]) -> bool {
+    match kind {
+        Kind::Overlap => are_bounds(numbers),
+        Kind::Exact => true,
+    }
+}
+
+fn overlap(numbers: &[u64]) -> Query {
+    Query::Overlap(Span {
+        lo: bound(given::number(numbers, 0), given::number(numbers, 1)),
+        hi: bound(given::number(numbers, 2), given::number(numbers, 3)),
+    })
+}
+
+pub(crate) fn interval(numbers: &[u64]) -> Interval {
+    Interval {
+        start: given::number(numbers, 0),
+        end: given::number(numbers, 1),
+    }
+}
+
+pub(crate) fn query(kind: Kind, numbers: &[u64]) -> Query {
+    match kind {
+        Kind::Overlap => overlap(numbers),
+        Kind::Exact => Query::Exact(interval(numbers)),
+    }
+}
+
+// Number k of those after the query.
+pub(crate) fn after(kind: Kind, numbers: &[u64], k: usize) -> u64 {
+    arena::word(numbers, size(kind), k)
+}
+
+pub(crate) fn cursor(kind: Kind, numbers: &[u64]) -> Cursor {
+    Cursor {
+        slot: after(kind, numbers, 0),
+        levels: after(kind, numbers, 1),
+        bits: after(kind, numbers, 2),
+    }
+}

@@ -1,0 +1,26 @@
+// `build LIST`: a map built into the slices of the store.
+use crate::arena;
+use crate::given;
+use crate::map::reply::Reply;
+use iset::Map;
+use iset::build::Built;
+
+// The first number says how many follow, at most 12,288.
+pub(crate) fn fits(numbers: &[u64]) -> bool {
+    let n = given::size(numbers, 0);
+    (n <= 12288) & (numbers.len() == n + 1)
+}
+
+// A refused build has the map of no entries.
+fn reply_of(a: Built) -> Reply {
+    match a {
+        Built::Done(map) => Reply::new(0, map, 0, 2),
+        Built::Refused(why) => Reply::new(why.number(), Map::new(), 0, 2),
+    }
+}
+
+pub(crate) fn build(numbers: &[u64], nodes: &mut [u64], colours: &mut [u8]) -> Reply {
+    let from = arena::least(1, numbers.len());
+    let n = arena::least(given::size(numbers, 0), numbers.len() - from);
+    reply_of(Map::build(nodes, colours, &numbers[from..from + n]))
+}

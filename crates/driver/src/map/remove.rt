@@ -1,0 +1,59 @@
+// `remove SLOT`: one entry goes.
+use crate::map::reply::Reply;
+use iset::Map;
+use iset::remove::Gone;
+use iset::remove::Removal;
+use words::ix::U;
+
+// The value, the map and the pairs, as numbers.
+fn numbers_of(g: Gone) -> [u64; 9] {
+    let m = g.map;
+    let p = g.pairs;
+    let first = p.first;
+    let second = p.second;
+    let third = p.third;
+    [
+        g.value,
+        m.count,
+        m.root,
+        first.old,
+        first.new,
+        second.old,
+        second.new,
+        third.old,
+        third.new,
+    ]
+}
+
+fn removed(g: Gone) -> Reply {
+    let m = g.map;
+    Reply {
+        no: 0,
+        count: m.count,
+        root: m.root,
+        numbers: numbers_of(g),
+        n: 9,
+    }
+}
+
+// A refusal answers value 0, the map as given and no pairs.
+fn refused(no: u64, m: Map) -> Reply {
+    Reply {
+        no,
+        count: m.count,
+        root: m.root,
+        numbers: [0, m.count, m.root, U, U, U, U, U, U],
+        n: 9,
+    }
+}
+
+fn reply_of(a: Removal, m: Map) -> Reply {
+    match a {
+        Removal::Done(gone) => removed(gone),
+        Removal::Refused(why) => refused(why.number(), m),
+    }
+}
+
+pub(crate) fn remove(m: Map, slot: u64, nodes: &mut [u64], colours: &mut [u8]) -> Reply {
+    reply_of(m.remove(nodes, colours, slot), m)
+}

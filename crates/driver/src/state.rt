@@ -1,0 +1,76 @@
+// What stays from line to line.
+use words::ix::U;
+
+// What the last request left in the arena's copy, for `commit`: a map with its node words and colour bytes, or the
+// bytes of the bit calls. Store: count, root, how many words, how many bytes. Bytes: how many.
+pub enum Left {
+    Nothing,
+    Store(u64, u64, usize, usize),
+    Bytes(usize),
+}
+
+// The store: its map, how many node words and colour bytes it has; how many bytes the bit calls have; what the last
+// request left; and the place of the next byte of output in its buffer.
+pub struct State {
+    pub count: u64,
+    pub root: u64,
+    pub words: usize,
+    pub colours: usize,
+    pub bytes: usize,
+    pub left: Left,
+    pub to: usize,
+}
+
+impl State {
+    // Before the first line: the empty map, and no bytes at all.
+    pub(crate) fn new() -> State {
+        State {
+            count: 0,
+            root: U,
+            words: 0,
+            colours: 0,
+            bytes: 0,
+            left: Left::Nothing,
+            to: 0,
+        }
+    }
+
+    pub(crate) fn with_store(self, count: u64, root: u64, words: usize, colours: usize) -> State {
+        let left = self.left;
+        State {
+            count,
+            root,
+            words,
+            colours,
+            bytes: self.bytes,
+            left,
+            to: self.to,
+        }
+    }
+
+    pub(crate) fn with_bytes(self, bytes: usize) -> State {
+        let left = self.left;
+        State {
+            count: self.count,
+            root: self.root,
+            words: self.words,
+            colours: self.colours,
+            bytes,
+            left,
+            to: self.to,
+        }
+    }
+
+    // After a line that left this and wrote up to here.
+    pub(crate) fn after(self, left: Left, to: usize) -> State {
+        State {
+            count: self.count,
+            root: self.root,
+            words: self.words,
+            colours: self.colours,
+            bytes: self.bytes,
+            left,
+            to,
+        }
+    }
+}

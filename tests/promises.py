@@ -1,0 +1,135 @@
+#!/usr/bin/env python3
+"""promises.py: no public function stands without a promise (docs/DECISIONS.md, 'What is a public function').
+
+A public function is a `pub fn` or a `pub extern "C" fn`: what another crate, or a host, can call. This reads the sources and the proofs, and asks of
+each an `ensures` that says what it returns and what is left, at its exit, in all that it is lent by `&mut`. These are equations of the answer and of
+each lent thing by itself, or a theorem NAME-determined says that the promise leaves one choice. A public call has no `requires`, and has that theorem
+always; an inner function may have premises. One that returns nothing and is lent nothing by `&mut` has nothing to promise.
+"""
+import pathlib
+import re
+import sys
+
+TOP = pathlib.Path(__file__).resolve().parent.parent
+
+# Here every public function is a public call.
+CALLS = {'iset', 'capi', 'slots', 'lines'}
+# Here the public calls are those that answer one of these types, and `new`; the others are inner functions, as in all other crates.
+ANSWERS = {'bitvec': {'Answer'}, 'stack': {'Answer', 'Outcome', 'After'}}
+# A part of the measuring program bench/: no crate stands on it, and no host is told of it.
+PARTS = {'bench_calls'}
+# The whole tree has more; a reading that finds fewer has gone wrong.
+FEWEST_FUNCTIONS, FEWEST_CALLS = 100, 50
+
+
+class Function:
+    def __init__(self, crate, file, impl, head):
+        code, *clauses = re.split(r'\s*\n\s*(?=(?:requires|ensures) \{)', head)
+        self.crate = crate
+        self.name = re.match(r'\w+', code)[0]
+        # How the proofs call it: below the module of its file, or below its type, wherever that stands.
+        self.place = ([impl] if impl else [p for p in file if p != 'lib']) + [self.name]
+        self.below_type = bool(impl)
+        self.requires = any(c.startswith('requires') for c in clauses)
+        self.ensures = [re.sub(r'\s+', ' ', c) for c in clauses if c.startswith('ensures')]
+        self.lent = re.findall(r"(\w+): &(?:'\w+ )?mut ", code)
+        result = re.search(r'\)\s*->\s*(.+?)\s*$', code)
+        self.result = result[1] if result else None
+
+    def __str__(self):
+        return '::'.join([self.crate] + self.place)
+
+    def is_call(self):
+        if self.crate in ANSWERS:
+            return self.result in ANSWERS[self.crate] or self.name == 'new'
+        return self.crate in CALLS
+
+    def owed(self):
+        """What the promise has to speak of, each as it stands in a clause that binds the answer as `r`."""
+        return (['r'] if self.result else []) + ['now (%s .exit)' % x for x in self.lent]
+
+    def clauses(self):
+        for c in self.ensures:
+            bound = re.match(r'ensures \{ λ (\w+)\.', c)
+            yield re.sub(r'(?<![\w.])%s(?![\w])' % bound[1], 'r', c[bound.end():]) if bound else c
+
+    def unsaid(self):
+        text = ' '.join(self.clauses())
+        return [x for x in self.owed() if not re.search(r'(?<![\w.])%s(?!\w)' % re.escape(x), text)]
+
+    def is_equations(self):
+        text = ' '.join(self.clauses())
+        return all(re.search(r'[⌜(]\s?%s ≡ ' % re.escape(x), text) for x in self.owed())
+
+    def is_determined(self, theorems):
+        """Whether a theorem of the crate about this function's promise speaks of all that is owed."""
+        for path, text in theorems:
+            there = path[-len(self.place):] if self.below_type else path
+            if there == self.place and ('r ≡ r′' in text or not self.result) and text.count('now (s′') >= len(self.lent):
+                return True
+        return False
+
+
+def functions(crate):
+    found = []
+    for file in sorted(crate.glob('src/**/*.rt')):
+        impl = None
+        path = list(file.relative_to(crate / 'src').with_suffix('').parts)
+        text = re.sub(r'//.*', '', file.read_text())
+        for m in re.finditer(r'^impl (\w+) \{|^(\})|^ *pub (?:extern "C" )?fn ((?:.|\n)*?)\s*\{\n', text, re.M):
+            if m[3]:
+                found.append(Function(crate.name, path, impl, m[3]))
+            else:
+                impl = m[1]
+    return found
+
+
+def theorems(crate):
+    """Each theorem of determinedness in a file that the crate's proofs declare: the path of the function that it is about, and what it says."""
+    found = []
+    root = crate / 'proofs/Lib.antt'
+    declared = re.findall(r'^pub mod (\w+)', root.read_text(), re.M) if root.exists() else []
+    for module in declared:
+        text = re.sub(r'--.*', '', (crate / 'proofs' / (module + '.antt')).read_text())
+        aliases = {a: p.split('.') for p, a in re.findall(r'^use Rattle\.%s\.proofs\.(\S+?)(?:\.Reads)? as (\S+)$' % crate.name, text, re.M)}
+        short = dict(re.findall(r'^ *abbrev (\S+) :.*\n((?: *\1 .*\n(?: +.*\n)*)+)', text, re.M))
+        for name, said in re.findall(r'^ *pub (\S+-determined) :((?:.|\n)*?)\n *\1 ', text, re.M):
+            about = re.search(r'(\S+?)\.(?:Post|clauses)\b', said.replace('(', ' '))
+            if about and about[1] in aliases:
+                found.append((aliases[about[1]], said + ''.join(t for s, t in short.items() if re.search(r'(?<!\S)%s(?!\S)' % s, said))))
+    return found
+
+
+def main():
+    bad = count = calls = proved = 0
+
+    def wrong(what):
+        nonlocal bad
+        bad += 1
+        print('promises: ' + what)
+
+    for crate in sorted((TOP / 'crates').iterdir()):
+        if crate.name in PARTS:
+            continue
+        told = theorems(crate)
+        proved += len(told)
+        for f in functions(crate):
+            count += 1
+            calls += f.is_call()
+            if f.unsaid():
+                wrong('%s: no promise about %s' % (f, ', '.join('what it returns' if x == 'r' else x for x in f.unsaid())))
+            elif f.is_call() and f.requires:
+                wrong('%s: a public call has a premise' % f)
+            elif f.owed() and (f.is_call() or not f.is_equations()) and not f.is_determined(told):
+                wrong('%s: no theorem says that its promise determines it' % f)
+    for line in (TOP / 'crates.txt').read_text().splitlines():
+        for part in PARTS & set(re.sub(r'#.*', '', line).partition(':')[2].split()):
+            wrong('%s: a crate stands on it' % part)
+    if count < FEWEST_FUNCTIONS or calls < FEWEST_CALLS or proved < FEWEST_CALLS:
+        wrong('too little was found')
+    print('promises: %d public functions, %d of them public calls; %d theorems; %d wrong' % (count, calls, proved, bad))
+    return 1 if bad else 0
+
+
+if __name__ == '__main__':
+    sys.exit(main())
