@@ -27,6 +27,7 @@ use Rattle.iset.specs.Lookup.{beginning, startNumber, stepNumber, drainN
 use Rattle.iset.specs.declared.Map.{Map}
 use Rattle.iset.proofs.Checks.{check-zero}
 use Rattle.iset.proofs.Lookups.{start-accepts}
+use Rattle.iset.proofs.Orders.{step-order, drain-order}
 
 module _ (m : Map) (W C : List ℕ) (q : Query) (e : startNumber m W C q ≡ 0) where
   -- the tree of the store, which passes
@@ -38,13 +39,13 @@ module _ (m : Map) (W C : List ℕ) (q : Query) (e : startNumber m W C q ≡ 0) 
 
   -- the fresh cursor is accepted, and a drain from it whose limit the output holds
   pub fresh-accepted : stepNumber m W C q (fresh (beginning m W q)) ≡ 0
-  unfolding stepNumber formOf
-  fresh-accepted = rw (eq-eqb (startNumber m W C q) 0 e, eq-eqb (beginning m W q) (beginning m W q) refl)
+  unfolding formOf
+  fresh-accepted =
+      rw (step-order m W C q (fresh (beginning m W q)), eq-eqb (startNumber m W C q) 0 e, eq-eqb (beginning m W q) (beginning m W q) refl)
 
   drain-accepted : (limit out : ℕ) → limitOf limit ≤ out → drainNumber m W C q (fresh (beginning m W q)) limit out ≡ 0
-  unfolding drainNumber
   drain-accepted limit out h =
-      rw (eq-eqb (stepNumber m W C q (fresh (beginning m W q))) 0 fresh-accepted, le-ltb out (limitOf limit) h)
+      rw (drain-order m W C q (fresh (beginning m W q)) limit out, eq-eqb (stepNumber m W C q (fresh (beginning m W q))) 0 fresh-accepted, le-ltb out (limitOf limit) h)
 
 module _ (m : Map) (W C : List ℕ) (q : Span) (e : startNumber m W C (Overlap q) ≡ 0) (limit : ℕ) (out : List ℕ) (h : limitOf limit ≤ length out)
     (above : length (those (meets W q) (slots (tree-of m W C (Overlap q) e .tree))) < limitOf limit) where
