@@ -4,9 +4,9 @@
 // An export returns the refusal's number, 0 for none, and writes the answer's numbers to the front of the slice `answer`. Two
 // refusals are its own and come before those of the call: ShortAnswer where that slice does not hold the numbers, then BadBound where a kind of
 // bound is none. Where anything is refused nothing lent has changed, the answer slice neither.
-mod answer;
+pub mod answer;
 pub mod lookup;
-mod range;
+pub mod range;
 
 use crate::answer::put_added;
 use crate::answer::put_gone;
