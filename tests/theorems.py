@@ -2,14 +2,15 @@
 """theorems.py: docs/THEOREMS.md and docs/READING.md say what stands in the sources.
 
 A statement shown in a fenced block stands verbatim in the file that the line before the block names. Every theorem that a table names is
-declared in a file that the same row names, and every file that the two papers name exists.
+declared in a file that the same row names, every file that the two papers name exists, and a number of lines is that of its file, without
+blank lines and imports.
 """
 import pathlib
 import re
 import sys
 
 TOP = pathlib.Path(__file__).resolve().parent.parent
-DECLARED = r'^\s*(?:(?:abbrev |unfoldable )?(?:pub )?(?:record |data )?|(?:pub )?(?:extern "C" )?fn ){}(?: |$|\()'
+DECLARED = r'^\s*(?:(?:abbrev |unfoldable )?(?:pub )?(?:record |data )?|(?:pub )?(?:extern "C" )?(?:fn|struct|impl) ){}(?: |$|\()'
 
 
 def source(path):
@@ -45,15 +46,27 @@ def rows(paper):
             yield i + 1, re.findall(r'`([^`]+)`', cells[0]), re.findall(r'crates/[\w/+.]+', cells[1])
 
 
+def sizes(paper):
+    """The rows of the tables whose head begins `| file | lines |`: line, file, number."""
+    for i, line in enumerate(paper.splitlines()):
+        row = re.match(r'\| (crates/\S+) \| (\d+) \|', line)
+        if row:
+            yield i + 1, row[1], int(row[2])
+
+
 def check(name, count, wrong):
     paper = (TOP / 'docs' / name).read_text()
-    for path in set(re.findall(r'crates/[\w]+/[\w/+.]+', paper)):
-        if source(path.rstrip('.')) is None:
+    for path in set(re.findall(r'crates/[\w]+/[\w/+.-]+', paper)):
+        if not path.startswith('crates/NAME/') and source(path.rstrip('.')) is None:
             wrong.append(f'{name}: there is no {path}')
     for line, path, text in blocks(paper):
         count['statements'] += 1
         if text not in (source(path) or '' if path else ''):
             wrong.append(f'{name}:{line}: the statement does not stand in {path or "any named file"}')
+    for line, path, number in sizes(paper):
+        lines = sum(1 for text in (source(path) or '').splitlines() if text.strip() and not text.startswith('use '))
+        if lines != number:
+            wrong.append(f'{name}:{line}: {path} has {lines} lines')
     for line, names, files in rows(paper):
         texts = [t for t in map(source, files) if t]
         for theorem in names:

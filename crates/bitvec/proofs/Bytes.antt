@@ -1,5 +1,5 @@
 -- Bits of a list of bytes, over every list, every length and every place.
-use mathlib.Core.Path.{_≡_, refl, _∙_}
+use mathlib.Core.Path.{_≡_, refl, ap, _∙_}
 use mathlib.Core.Logic.{_≢_}
 use mathlib.Core.Bool.{Bool, true, false, cond}
 use mathlib.Core.List.{List, [], _∷_}
@@ -39,6 +39,12 @@ module _ (s : List ℕ) (i : ℕ) (v : Bool) where
   setBit-idle e = rw (put-idle (getD s (i / 8) 0) (i % 8) v e) (set-getD s (i / 8) 0)
 
 -- the bytes that are filled, and those that are not
+pub length-fill : (n x : ℕ) (s : List ℕ) → length (fill n x s) ≡ length s
+unfolding fill
+length-fill zero x s = refl
+length-fill (suc n) x [] = refl
+length-fill (suc n) x (b ∷ s) = ap suc (length-fill n x s)
+
 getD-fill : (n x k : ℕ) (s : List ℕ) → k < n → k < length s → getD (fill n x s) k 0 ≡ x
 unfolding fill
 getD-fill zero x k s h l = absurd (omega arith)
