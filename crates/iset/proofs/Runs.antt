@@ -49,7 +49,7 @@ use Rattle.iset.specs.declared.Map.{Map}
 use Rattle.iset.proofs.Refusals.{disordered}
 use Rattle.iset.proofs.Lookups.{step-accepts, not-bad}
 use Rattle.iset.proofs.Found.{tree-of, few, fresh-accepted}
-use Rattle.iset.proofs.Orders.{step-order, drain-order}
+use Rattle.iset.proofs.Orders.{start-order, step-order, drain-order}
 
 -- a drain of one hit, by its step's answer, which has a hit or not
 abbrev one : Answer → Bool → Drained
@@ -197,8 +197,7 @@ module _ (m : Map) (W C : List ℕ) (q : Query) (start : startNumber m W C q ≡
 -- what is accepted
 module _ (m : Map) (W C : List ℕ) (sound : checkRule m W C ≡ 0) where
   started : (q : Query) → queryNumber q ≡ 0 → startNumber m W C q ≡ 0
-  unfolding startNumber
-  started q e = rw (sound, e)
+  started q e = rw (start-order m W C q, sound, e)
 
   range-started : (q : Span) → (BadRange (q .lo) (q .hi) → ⊥) → startNumber m W C (Overlap q) ≡ 0
   range-started q d = started (Overlap q) (go (ordered (q .lo) (q .hi)) refl)
