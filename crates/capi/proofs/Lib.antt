@@ -1,5 +1,6 @@
 pub mod Puts
 pub mod Laws
 pub mod Kept
+pub mod After
 pub mod Ends
 pub mod Determined

@@ -204,7 +204,7 @@ module _ (W C S : List ℕ) where
 
 -- A removal.
 module _ (m : Map) (W C : List ℕ) (s : ℕ) where
-  remove-no : removeCall m W C s .no ≡ removeNumber m W C s
+  pub remove-no : removeCall m W C s .no ≡ removeNumber m W C s
   unfolding removeCall
   remove-no = number-is (λ (a : RemoveAnswer). a .no) (removeNumber m W C s) _ _ refl refl
 
