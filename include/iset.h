@@ -107,6 +107,11 @@ uint64_t iset_build(uint64_t *nodes, size_t nodes_len, uint8_t *colours, size_t 
 uint64_t iset_remove(uint64_t count, uint64_t root, uint64_t *nodes, size_t nodes_len, uint8_t *colours, size_t colours_len, uint64_t slot,
     uint64_t *answer, size_t answer_len);
 
+/* After a removal that was not refused: the slot of the entry that was in slot `kept` before it, ISET_U if that is the entry that was removed. `answer`
+ * has the ISET_REMOVE_ANSWER numbers of that removal, and `removed` is the slot that it was asked to remove. So a host that keeps slots carries each of
+ * them over. It refuses nothing: what it returns is the slot. */
+uint64_t iset_slot_after(const uint64_t *answer, uint64_t removed, uint64_t kept);
+
 /* Adds one entry, in slot count; no other entry changes slot. It comes after the entries that are equal to it, which stay.
  * Answer: count, root, its slot, which is the count before.
  * Refusals: SHORT_ANSWER, NO_ROOM where the count has reached what the arrays hold or is above it, BROKEN, BAD_INTERVAL. */
@@ -155,14 +160,5 @@ uint64_t iset_drain_exact(uint64_t count, uint64_t root, const uint64_t *nodes, 
 #ifdef __cplusplus
 }
 #endif
-
-/* After a removal that was not refused: the slot of the entry that was in slot `kept` before it, ISET_U if that is the entry that was removed. `answer`
- * is the removal's, and `removed` the slot that it was asked to remove. So a host that keeps slots carries each of them over. */
-static inline uint64_t iset_slot_after(const uint64_t *answer, uint64_t removed, uint64_t kept) {
-    if (kept == removed) return ISET_U;
-    for (int pair = 3; pair < ISET_REMOVE_ANSWER; pair += 2)
-        if (answer[pair] == kept) return answer[pair + 1];
-    return kept;
-}
 
 #endif

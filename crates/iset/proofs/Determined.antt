@@ -49,6 +49,8 @@ use Rattle.iset.proofs.Map.drain.Reads as drain-reads
 use Rattle.iset.proofs.Map.drain.Kinds as drain-kinds
 use Rattle.iset.proofs.Map.build.Reads as build-reads
 use Rattle.iset.proofs.Map.build.Kinds as build-kinds
+use Rattle.iset.proofs.remove.Gone.slot_after.Reads as slot-after-reads
+use Rattle.iset.proofs.remove.Gone.slot_after.Kinds as slot-after-kinds
 use Rattle.iset.proofs.Map.new.Reads as new-reads
 use Rattle.iset.proofs.Map.new.Kinds as new-kinds
 use Rattle.iset.proofs.Map.open_insert.Reads as open-insert-reads
@@ -136,6 +138,12 @@ startedAt x = cond (eqb (x .no) 0) (started.Done (x .cursor)) (started.Refused (
 started-back : (r : Started) → startedAt (startPaper r) ≡ r
 started-back (started.Done c) = refl
 started-back (started.Refused y) = rw (ne-eqb (refusalNumber y) 0 (omega (arith, number-pos y)), at-number y)
+
+pub slot-after-determined :
+    (κs : Lfts 0) (a : K.Dens κs slot-after-kinds.ps) (r r′ : K.resT slot-after-kinds.r κs .Denot)
+    (s s′ : AtExit (K.endedOf 0 slot-after-kinds.ps slot-after-kinds.r) κs)
+    → slot-after-reads.Post κs a r s → slot-after-reads.Post κs a r′ s′ → r ≡ r′
+slot-after-determined κs a r r′ s s′ p q = p ∙ sym q
 
 pub fresh-determined :
     (κs : Lfts 0) (a : K.Dens κs fresh-kinds.ps) (r r′ : K.resT fresh-kinds.r κs .Denot) (s s′ : AtExit (K.endedOf 0 fresh-kinds.ps fresh-kinds.r) κs)

@@ -2,6 +2,7 @@ pub mod Checks
 pub mod Orders
 pub mod Builds
 pub mod Removals
+pub mod After
 pub mod Insertions
 pub mod Opened
 pub mod Sequence

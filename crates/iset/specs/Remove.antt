@@ -3,9 +3,11 @@ use mathlib.Core.Bool.{cond}
 use mathlib.Core.List.{List}
 use Prim.Native.Nat.{ℕ, _-_}
 use lib.Dec.{eqb, ltb}
+use Rattle.words.specs.Ix.{U}
 use Rattle.words.specs.Refusals.{refusalNumber}
 use Rattle.tree_rm_laws.specs.Pairs.{none}
 use Rattle.tree_rm_laws.specs.Remove as rule
+use Rattle.tree_rm_laws.specs.declared.pairs.Pair.{Pair}
 use Rattle.tree_rm_laws.specs.declared.pairs.Pairs.{Pairs}
 use Rattle.iset.specs.Check.{first, countNumber, checkRule}
 use Rattle.iset.specs.declared.Map.{Map}
@@ -70,3 +72,10 @@ removeNodes m W C s = removeNodesBy m W C s (removeNumber m W C s)
 
 unfoldable pub removeColours : Map → List ℕ → List ℕ → ℕ → List ℕ
 removeColours m W C s = removeColoursBy m W C s (removeNumber m W C s)
+
+-- the slot after the removal of slot s of the entry that was in slot a before it, by the removal's pairs; U for the removed one
+abbrev pub moved : Pair → ℕ → ℕ → ℕ
+moved p a other = cond (eqb (p .old) a) (p .new) other
+
+unfoldable pub slotAfter : Pairs → ℕ → ℕ → ℕ
+slotAfter P s a = cond (eqb a s) U (moved (P .first) a (moved (P .second) a (moved (P .third) a a)))

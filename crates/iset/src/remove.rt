@@ -3,19 +3,41 @@ use crate::Checked;
 use crate::Map;
 use tree_rm::remove::remove_at;
 use tree_rm_laws::pairs::Pairs;
+use words::ix::U;
 use words::refusal::Refusal;
 ghost use mathlib.Core.Path.{_≡_};
 ghost use Prim.Native.Nat.{_*_, _≤_, _<_};
 ghost use lib.ListN.{length};
 ghost use Rattle.tree_rm_laws.specs.Remove.{removeRule};
 ghost use Rattle.iset.specs.Check.{checkNumber};
-ghost use Rattle.iset.specs.Remove.{removeDone, removePaper, openRemoveNumber, openRemoveCall, openRemoveNodes, openRemoveColours, removeCall, removeNodes, removeColours};
+ghost use Rattle.iset.specs.Remove.{slotAfter, removeDone, removePaper, openRemoveNumber, openRemoveCall, openRemoveNodes, openRemoveColours, removeCall, removeNodes, removeColours};
 
 // The map without the entry, the entry's value, and the other entries that changed slot.
 pub struct Gone {
     pub map: Map,
     pub value: u64,
     pub pairs: Pairs,
+}
+
+impl Gone {
+    // The slot of the entry that was in slot `kept` before this removal of slot `removed`; U for the removed one.
+    pub fn slot_after(self, removed: u64, kept: u64) -> u64
+        ensures { λ r. ⌜ r ≡ slotAfter (self .pairs) removed kept ⌝ }
+    {
+        if kept == removed {
+            return U;
+        }
+        if self.pairs.first.old == kept {
+            return self.pairs.first.new;
+        }
+        if self.pairs.second.old == kept {
+            return self.pairs.second.new;
+        }
+        if self.pairs.third.old == kept {
+            return self.pairs.third.new;
+        }
+        kept
+    }
 }
 
 // What a removal answers. Where it is refused the map is as it was given.
