@@ -10,9 +10,9 @@ use borrow.Author.Tests.{eq-eqb, ne-eqb, eqb-true, eqb-false}
 use Rattle.words.specs.Ix.{U}
 use Rattle.words.specs.Nodes.{room, entry}
 use Rattle.words.specs.declared.node.Entry.{Entry}
-use Rattle.tree.specs.Tree.{hit, slots, without}
+use Rattle.tree.specs.Tree.{hit, slots, without, times}
 use Rattle.tree.specs.Passes.{Passes}
-use Rattle.tree.proofs.Slots.{hit-same, hit-ne, hit-cases, hit-zero, times, times-slots}
+use Rattle.tree.proofs.Slots.{hit-same, hit-ne, hit-cases, hit-zero, times-slots}
 use Rattle.tree.proofs.Checked.{slot-live}
 use Rattle.tree_rm_laws.specs.Names.{changed, same, tally, Names}
 use Rattle.tree_rm_laws.specs.Remove.{Removal, removeRule}
@@ -23,7 +23,7 @@ use Rattle.tree_rm_laws.proofs.PairLaws.{same-else, same-here}
 use Rattle.tree_rm_laws.proofs.Rows.{times-without}
 use Rattle.iset.specs.Remove.{removeNumber, removeCall, removeNodes, moved, slotAfter}
 use Rattle.iset.specs.declared.Map.{Map}
-use Rattle.iset.proofs.Removals.{accepts, tree-before, removes}
+use Rattle.iset.proofs.Removals.{accepts, tree-before, by-rule}
 
 abbrev front : {A : Type 0} → A → List A → A
 front x [] = x
@@ -127,10 +127,10 @@ module _ (m : Map) (W C : List ℕ) (s : ℕ) (e : removeNumber m W C s ≡ 0) w
         let o : times s T ≡ 1 = once s (accepts m W C s e .1) in
         omega (arith, times-without s a T (omega arith) (omega arith), once a h, hit-ne a s d)
 
-    by-rule : (slotAfter (R .pairs) s a < n - 1) × (entry (R .store .words) (slotAfter (R .pairs) s a) ≡ entry W a)
+    rule-keeps : (slotAfter (R .pairs) s a < n - 1) × (entry (R .store .words) (slotAfter (R .pairs) s a) ≡ entry W a)
     unfolding slotAfter
-    by-rule =
-        let D : Removed W C n (m .root) s (tree-before m W C s e) R = removes m W C s e in
+    rule-keeps =
+        let D : Removed W C n (m .root) s (tree-before m W C s e) R = by-rule m W C s e in
         let (b, o, p, f) = went a W (R .store .words) (without s T) (slots (D .passes .tree)) (D .entries) kept-once in
         let q : moved (R .pairs .first) a (moved (R .pairs .second) a (moved (R .pairs .third) a a)) ≡ b =
         read-back a (R .pairs) b (λ c. D .pairs .exact a c h ∙ f c) in
@@ -140,7 +140,7 @@ module _ (m : Map) (W C : List ℕ) (s : ℕ) (e : removeNumber m W C s ≡ 0) w
     pub kept-slot : (slotAfter (removeCall m W C s .pairs) s a < removeCall m W C s .count)
         × (entry (removeNodes m W C s) (slotAfter (removeCall m W C s .pairs) s a) ≡ entry W a)
     unfolding removeCall removeNodes
-    kept-slot = rw (eq-eqb (removeNumber m W C s) 0 e) by-rule
+    kept-slot = rw (eq-eqb (removeNumber m W C s) 0 e) rule-keeps
 
 -- and the removed one has no slot
 pub removed-slot : (P : Pairs) (s : ℕ) → slotAfter P s s ≡ U
