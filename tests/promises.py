@@ -14,6 +14,8 @@ TOP = pathlib.Path(__file__).resolve().parent.parent
 
 # Here every public function is a public call.
 CALLS = {'iset', 'capi', 'capi_open', 'slots', 'lines'}
+# But these modules hold what one face of the exports lends to the other: inner functions.
+INNER = {('capi', 'answer'), ('capi', 'range')}
 # Here the public calls are those that answer one of these types, and `new`; the others are inner functions, as in all other crates.
 ANSWERS = {'bitvec': {'Answer'}, 'stack': {'Answer', 'Outcome', 'After'}}
 # The whole tree has more; a reading that finds fewer has gone wrong.
@@ -40,7 +42,7 @@ class Function:
     def is_call(self):
         if self.crate in ANSWERS:
             return self.result in ANSWERS[self.crate] or self.name == 'new'
-        return self.crate in CALLS
+        return self.crate in CALLS and (self.crate, self.place[0]) not in INNER
 
     def owed(self):
         """What the promise has to speak of, each as it stands in a clause that binds the answer as `r`."""
