@@ -1,8 +1,8 @@
 /* The crate iset 0.3.3 and this library in one program on the same inputs. Each case is run in rounds, the two sides one after the other in
    each round, and the ratio of their times (this library's over the other's) is taken in each round; printed are the median, the least and the
    greatest ratio, and how this library's time for one entry or one lookup grows from the least size on. Both sides' answers are compared on the
-   way. This library's calls are the exports: the opened ones, and of the public ones the check, the build and, where it says so, the point
-   lookups, each of which checks the whole store. */
+   way. This library's calls are the exports: the opened ones, from C and through the Rust type `Store`, and of the public ones the check, the build and,
+   where it says so, the point lookups, each of which checks the whole store. */
 #include <stdbool.h>
 #include <stdint.h>
 #include <stdio.h>
@@ -24,6 +24,15 @@ uint64_t rust_all(const map *m);
 uint64_t rust_point(const map *m, uint64_t p);
 uint64_t rust_exact(const map *m, uint64_t start, uint64_t end);
 bool rust_check(const uint64_t *w, size_t wn, const uint8_t *b, size_t bn, uint64_t count, uint64_t root);
+
+typedef struct store store;
+store *store_open(uint64_t count, uint64_t root, uint64_t *w, size_t wn, uint8_t *b, size_t bn);
+uint64_t store_close(store *s);
+uint64_t store_remove(store *s, uint64_t slot);
+uint64_t store_insert(store *s, uint64_t start, uint64_t end, uint64_t value);
+uint64_t store_all(const store *s);
+uint64_t store_point(const store *s, uint64_t p);
+uint64_t store_exact(const store *s, uint64_t start, uint64_t end);
 
 /* Rust's libraries name it; nothing here unwinds. */
 void rust_eh_personality(void) {}
@@ -129,6 +138,22 @@ static uint64_t remove_ours(void) {
     return sum;
 }
 static void after_removal(void) { rust_free(victim); }
+/* The same by the Rust type `Store`, which checks where it is opened. */
+static store *opened;
+static void before_store_removal(void) {
+    before_removal();
+    opened = store_open(n, root, spare, 8 * n, spare_bytes, colour_bytes);
+}
+static uint64_t remove_by_store(void) {
+    uint64_t sum = 0;
+    for (size_t k = 0; k < n; k++)
+        sum = 3 * sum + store_remove(opened, slots[k]);
+    return sum;
+}
+static void after_store_removal(void) {
+    store_close(opened);
+    after_removal();
+}
 
 /* Insertion of every entry into the map of none, in one order by chance. The two stores are the same, word for word. */
 static map *grown;
@@ -158,7 +183,26 @@ static void after_insertion(void) {
     rust_free(grown);
 }
 
+static void before_store_insertion(void) {
+    before_insertion();
+    opened = store_open(0, ISET_U, spare, 8 * n, spare_bytes, colour_bytes);
+}
+static uint64_t insert_by_store(void) {
+    for (size_t k = 0; k < n; k++)
+        store_insert(opened, mixed[3 * k], mixed[3 * k + 1], mixed[3 * k + 2]);
+    return 0;
+}
+static void after_store_insertion(void) {
+    grown_root = store_close(opened);
+    after_insertion();
+}
+
+/* A `Store` over the whole map, for lookups. */
+static void open_store(void) { opened = store_open(n, root, words, 8 * n, bytes, colour_bytes); }
+static void close_store(void) { store_close(opened); }
+
 static uint64_t all_theirs(void) { return rust_all(crate); }
+static uint64_t all_by_store(void) { return store_all(opened); }
 static uint64_t all_by(uint64_t piece) {
     uint64_t sum = 0, answer[5] = {0, 0, root, 1, 0};
     while (answer[2] != ISET_U) {
@@ -194,6 +238,16 @@ static uint64_t points_ours(void) {
     }
     return sum;
 }
+static void before_store_points(void) {
+    before_points();
+    open_store();
+}
+static uint64_t points_by_store(void) {
+    uint64_t sum = 0;
+    for (size_t k = 0; k < LOOKUPS; k++)
+        sum = 3 * sum + store_point(opened, points[k]);
+    return sum;
+}
 static uint64_t points_public(void) {
     uint64_t sum = 0, answer[5] = {0};
     for (size_t k = 0; k < publics; k++) {
@@ -219,6 +273,13 @@ static uint64_t exact_ours(void) {
         iset_open_drain_exact(n, root, words, 8 * n, bytes, colour_bytes, start, end, c[0], c[1], c[2], PIECE, out, PIECE, answer, 5);
         sum = 3 * sum + values(answer[0]);
     }
+    return sum;
+}
+
+static uint64_t exact_by_store(void) {
+    uint64_t sum = 0;
+    for (size_t k = 0; k < n; k += 16)
+        sum = 3 * sum + store_exact(opened, list[3 * k], list[3 * k + 1]);
     return sum;
 }
 
@@ -289,6 +350,11 @@ int main(int words_given, char **given) {
         point = {"point lookups, opened", before_points, points_theirs, points_ours, nothing, 0},
         public = {"point lookups, public, with the check", before_points, publics_theirs, points_public, nothing, 0},
         exact = {"exact lookups, 16 equals each, opened", nothing, exact_theirs, exact_ours, nothing, 0},
+        removal_rust = {"removal of every entry, Store", before_store_removal, remove_theirs, remove_by_store, after_store_removal, 0},
+        insertion_rust = {"insertion of every entry, Store", before_store_insertion, insert_theirs, insert_by_store, after_store_insertion, 0},
+        all_rust = {"all entries, Store", open_store, all_theirs, all_by_store, close_store, 0},
+        point_rust = {"point lookups, Store", before_store_points, points_theirs, points_by_store, close_store, 0},
+        exact_rust = {"exact lookups, 16 equals each, Store", open_store, exact_theirs, exact_by_store, close_store, 0},
         check = {"check, against a plain Rust check", nothing, check_theirs, check_ours, nothing, 0},
         build = {"build, against from_sorted", nothing, build_theirs, build_ours, after_build, 0};
     static const size_t sizes[] = {1000, 16000, 65535};
@@ -299,6 +365,10 @@ int main(int words_given, char **given) {
         measure(&all, n);
         measure(&pieces, n);
         measure(&point, LOOKUPS);
+        measure(&removal_rust, n);
+        measure(&insertion_rust, n);
+        measure(&all_rust, n);
+        measure(&point_rust, LOOKUPS);
         if (publics > 0)
             measure(&public, publics);
         measure(&check, n);
@@ -306,6 +376,7 @@ int main(int words_given, char **given) {
         rust_free(crate);
         start(sizes[k], 16);
         measure(&exact, n / 16);
+        measure(&exact_rust, n / 16);
         rust_free(crate);
     }
     return 0;

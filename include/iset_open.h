@@ -1,15 +1,14 @@
-/* The calls of iset.h without the store check, for a host that checks a store once and then keeps its two arrays to itself. Link libcapi_open.a,
- * which `rt staticlib capi_open` writes, beside libcapi.a.
+/* When these calls may be used: the store passed iset_check once, or iset_build made it, or it is the map of no entries; since then nobody but these
+ * calls and those of iset.h has written its two arrays; and the count and the root that go in are those of the last answer.
+ * Then each call returns, answers and leaves exactly what the call of iset.h does that has its name without `open_`, and the store still passes
+ * the check. Otherwise answers may be wrong and a call may take long, but every call ends, and none reads or writes outside the arrays.
  *
- * Call iset_check once; a map that iset_build has just made, and the map of no entries, need not be checked. From then on nobody but these calls
- * and those of iset.h may write the two arrays, and the count and the root of each call are those of the last answer. Then every call returns,
- * answers and leaves exactly what the call of iset.h does that has its name without `open_`, and the store still passes the check.
+ * The calls of iset.h check the whole store each time. These do not: an insertion, a removal and a step take a time that grows with the height of the
+ * tree, a drain with the nodes that it enters. A step or a drain that goes on from a cursor tests that cursor first, one link a level: where there
+ * are many slots to be had, ask for 64 at a time.
  *
- * If that is broken the answers may be wrong and a call may take long, but every call ends, and none reads or writes outside the arrays.
- *
- * Arguments, answers, refusals and their order are those of iset.h, but for ISET_BROKEN, which these calls never give. An insertion, a removal and a
- * step take a time that grows with the height of the tree, a drain with the nodes that it enters. A step or a drain that goes on from a cursor tests
- * that cursor first, one link a level: ask for 32 slots or more at a time where there are many. */
+ * Arguments, answers, refusals and their order are those of iset.h, but for ISET_BROKEN, which these calls never give. Link libcapi_open.a, which
+ * `rt staticlib capi_open` writes, beside libcapi.a. */
 #ifndef ISET_OPEN_H
 #define ISET_OPEN_H
 

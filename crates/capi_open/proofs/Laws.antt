@@ -1,4 +1,4 @@
--- A lookup by a query that a function made, in the form that `search` takes.
+-- A drain from a cursor that a function made, in the form that `search` takes.
 use mathlib.Core.Path.{_≡_}
 use mathlib.Core.List.{List}
 use Prim.Native.Nat.{ℕ}
@@ -7,27 +7,8 @@ use Rattle.iter.specs.declared.rules.Query.{Query}
 use Rattle.iset.specs.Lookup.{openDrainOutput}
 use Rattle.iset.specs.declared.Map.{Map}
 use Rattle.capi.specs.Replies.{number, handed}
-use Rattle.capi_open.specs.Replies.{openStepTold, openDrainTold}
+use Rattle.capi_open.specs.Replies.{openDrainTold}
 
-module _ (A : List ℕ) (m : Map) (W C : List ℕ) (c : Cursor) (made query : Query) (e : made ≡ query) where
-  pub step-number : (n : ℕ) → n ≡ number A (openStepTold m W C made c) → n ≡ number A (openStepTold m W C query c)
-  step-number n p = rw (← e) p
-
-  pub step-handed : (X : List ℕ) → X ≡ handed A (openStepTold m W C made c) → X ≡ handed A (openStepTold m W C query c)
-  step-handed X p = rw (← e) p
-
-  module _ (limit : ℕ) (out : List ℕ) where
-    pub drain-number : (n : ℕ) → n ≡ number A (openDrainTold m W C made c limit out) → n ≡ number A (openDrainTold m W C query c limit out)
-    drain-number n p = rw (← e) p
-
-    pub drain-handed : (X : List ℕ) → X ≡ handed A (openDrainTold m W C made c limit out) → X ≡ handed A (openDrainTold m W C query c limit out)
-    drain-handed X p = rw (← e) p
-
-pub drain-left : (m : Map) (W C : List ℕ) (c : Cursor) (made query : Query) → made ≡ query → (limit : ℕ) (out X : List ℕ)
-    → X ≡ openDrainOutput m W C made c limit out → X ≡ openDrainOutput m W C query c limit out
-drain-left m W C c made query e limit out X p = rw (← e) p
-
--- and one from a cursor that a function made
 module _ (m : Map) (W C : List ℕ) (q : Query) (made cursor : Cursor) (e : made ≡ cursor) (limit : ℕ) (out : List ℕ) where
   pub from-fresh-number : (A : List ℕ) (n : ℕ) → n ≡ number A (openDrainTold m W C q made limit out) → n ≡ number A (openDrainTold m W C q cursor limit out)
   from-fresh-number A n p = rw (← e) p
