@@ -9,3 +9,4 @@ pub mod Runs
 pub mod Refusals
 pub mod Below
 pub mod Demands
+pub mod Fits
