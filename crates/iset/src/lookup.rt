@@ -220,7 +220,13 @@ impl Map {
         let room = out.len() as u64;
         let Checked::Refused(why) = self.test_drain(nodes, colours, query, cursor, limit, room)
         else {
-            return Emptied::Done(cursor.drain(nodes, self.count, query, limit_of(limit, room), out));
+            return Emptied::Done(cursor.drain(
+                nodes,
+                self.count,
+                query,
+                limit_of(limit, room),
+                out,
+            ));
         };
         Emptied::Refused(why)
     }
