@@ -21,23 +21,6 @@ use Rattle.tree_rm_laws.specs.Pairs.{instead, emptied, moved}
 use Rattle.tree_rm_laws.specs.Remove.{leftmost, vacated, store, restructure, exchanged, child, handed, above, cutWords, cutRoot, copied, relinked, cleared, swapRemove, Removal, finish, removeFrom, removeRule}
 use Rattle.tree_rm_links.proofs.LinkLaws.{slot-is, nil-is, read-linked}
 
--- the leftmost slot
-module _ (n : ℕ) (W : List ℕ) (k : ℕ) where
-  pub left-low : (h : ℕ) → h ≡ 0 → k ≡ leftmost n h W k
-  unfolding leftmost
-  left-low zero e = refl
-  left-low (suc h) e = absurd (omega arith)
-
-  pub left-ends : (h w : ℕ) (l : Link) → w ≡ kid W true k → l ≡ linkOf n w → l ≡ Nil → k ≡ leftmost n h W k
-  unfolding leftmost onLink
-  left-ends zero w l e p q = refl
-  left-ends (suc h) w l e p q = rw (← e, le-leb n w (nil-is n w l p q))
-
-  pub left-on : (h w s r : ℕ) (l : Link) → (h ≡ 0 → ⊥) → w ≡ kid W true k → l ≡ linkOf n w → l ≡ Slot s → r ≡ leftmost n (h - 1) W s → r ≡ leftmost n h W k
-  unfolding leftmost
-  left-on zero w s r l z e p q d = absurd (z refl)
-  left-on (suc h) w s r l z e p q d = read-linked r n (kid W true k) w l (λ (x : ℕ). leftmost n h W x) k e p s q (rw (sub-one (suc h)) at d)
-
 -- the test of the right link, which stands there twice
 once : (t u : Bool) → (t || t) ≡ u → t ≡ u
 once true u e = e

@@ -2,6 +2,7 @@
 use tree_rm_laws::pairs::Pairs;
 use tree_rm_links::adopt_child;
 use tree_rm_links::fix_intervals_up;
+use tree_rm_links::leftmost_from;
 use tree_rm_links::remove_child;
 use tree_rm_links::replace_child_at;
 use tree_rm_pairs::after_move;
@@ -26,7 +27,7 @@ ghost use Prim.Native.Nat.{_+_, _-_, _*_, _<_, _≤_};
 ghost use lib.ListN.{length};
 ghost use Rattle.words.specs.Nodes.{par, value, swap};
 ghost use Rattle.tree_rm_laws.specs.Pairs.{emptied};
-ghost use Rattle.tree_rm_laws.specs.Remove.{leftmost, vacated, exchanged, child, store, handed, above, cutWords, cutRoot, copied, relinked, cleared, swapRemove, finish, removeFrom, removeRule};
+ghost use Rattle.tree_rm_laws.specs.Remove.{vacated, exchanged, child, store, handed, above, cutWords, cutRoot, copied, relinked, cleared, swapRemove, finish, removeFrom, removeRule};
 ghost use Rattle.tree_rm.specs.Answers.{removal};
 
 // Swap values and intervals for `i`-th and `j`-th nodes.
@@ -98,20 +99,6 @@ fn swap_remove(nodes: &mut [u64], colours: &mut [u8], count: u64, root: u64, ix:
     move_node(nodes, count, last, ix);
     clear_node(nodes, last);
     after_move(last, ix, root)
-}
-
-// The leftmost slot from slot k down, `height` links at the most.
-fn leftmost_from(nodes: &[u64], count: u64, k: u64, height: u64) -> u64
-    requires { ⌜ (count * 8 ≤ length (now nodes)) × (k < count) ⌝ }
-    ensures { λ r. ⌜ (r ≡ leftmost count height (now (nodes .entry)) k) × (r < count) ⌝ }
-{
-    if height == 0 {
-        return k;
-    }
-    let Link::Slot(left) = Link::new(child_of(nodes, k, true), count) else {
-        return k;
-    };
-    leftmost_from(nodes, count, left, height - 1)
 }
 
 // The slot to vacate for slot ix: the minimal node in the right subtree, where there is one. Document 01 keeps the file's

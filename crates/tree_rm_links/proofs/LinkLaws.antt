@@ -8,13 +8,14 @@ use native.Mathlib.Numerals.{sub-one}
 use lib.Dec.{leb}
 use borrow.Author.Tests.{le-leb, lt-leb, leb-true}
 use Rattle.words.specs.Ix.{linkOf, onLink}
-use Rattle.words.specs.Nodes.{par, fix}
+use Rattle.words.specs.Nodes.{kid, par, fix}
 use Rattle.words.specs.declared.ix.Link.{Link}
 use Rattle.words.specs.declared.ix.Link.the-variants.{Slot, Nil}
 use Rattle.words.specs.declared.node.Field.the-variants.{Parent}
 use Rattle.words.proofs.Laws.{linked, unlinked, slot-live}
 use Rattle.words.proofs.Nodes.{word-fix}
 use Rattle.tree_rm_laws.specs.Links.{fixUp}
+use Rattle.tree_rm_laws.specs.Remove.{leftmost}
 
 -- the same laws for a word that was read
 module _ {A : Type 0} (r : A) (n v w : ℕ) (l : Link) (f : ℕ → A) (z : A) (p : w ≡ v) (e : l ≡ linkOf n w) where
@@ -74,3 +75,20 @@ module _ (n f : ℕ) (T W : List ℕ) (w : ℕ) (e : T ≡ fixUp n f W w) where
 
   pub up-ends : f ≤ 0 → W ≡ T
   up-ends h = sym (e ∙ fixUp-none n f W w h)
+
+-- the leftmost slot
+module _ (n : ℕ) (W : List ℕ) (k : ℕ) where
+  pub left-low : (h : ℕ) → h ≡ 0 → k ≡ leftmost n h W k
+  unfolding leftmost
+  left-low zero e = refl
+  left-low (suc h) e = absurd (omega arith)
+
+  pub left-ends : (h w : ℕ) (l : Link) → w ≡ kid W true k → l ≡ linkOf n w → l ≡ Nil → k ≡ leftmost n h W k
+  unfolding leftmost onLink
+  left-ends zero w l e p q = refl
+  left-ends (suc h) w l e p q = rw (← e, le-leb n w (nil-is n w l p q))
+
+  pub left-on : (h w s r : ℕ) (l : Link) → (h ≡ 0 → ⊥) → w ≡ kid W true k → l ≡ linkOf n w → l ≡ Slot s → r ≡ leftmost n (h - 1) W s → r ≡ leftmost n h W k
+  unfolding leftmost
+  left-on zero w s r l z e p q d = absurd (z refl)
+  left-on (suc h) w s r l z e p q d = read-linked r n (kid W true k) w l (λ (x : ℕ). leftmost n h W x) k e p s q (rw (sub-one (suc h)) at d)

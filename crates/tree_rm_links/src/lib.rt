@@ -11,6 +11,7 @@ ghost use Prim.Native.Nat.{_+_, _*_, _<_, _≤_};
 ghost use lib.ListN.{length};
 ghost use Rattle.words.specs.Ix.{onLink};
 ghost use Rattle.tree_rm_laws.specs.Links.{adopt, setChild, redirected, removeChild, redirect, replaced, rootAfter, fixUp};
+ghost use Rattle.tree_rm_laws.specs.Remove.{leftmost};
 
 // A child that is there gets `parent` for its parent.
 pub fn adopt_child(nodes: &mut [u64], count: u64, child: u64, parent: u64)
@@ -56,6 +57,20 @@ pub fn set_child(nodes: &mut [u64], count: u64, parent: u64, child: u64, left_si
 {
     adopt_child(nodes, count, child, parent);
     put_child(nodes, parent, left_side, child);
+}
+
+// The leftmost slot from slot k down, `height` links at the most.
+pub fn leftmost_from(nodes: &[u64], count: u64, k: u64, height: u64) -> u64
+    requires { ⌜ (count * 8 ≤ length (now nodes)) × (k < count) ⌝ }
+    ensures { λ r. ⌜ (r ≡ leftmost count height (now (nodes .entry)) k) × (r < count) ⌝ }
+{
+    if height == 0 {
+        return k;
+    }
+    let Link::Slot(left) = Link::new(child_of(nodes, k, true), count) else {
+        return k;
+    };
+    leftmost_from(nodes, count, left, height - 1)
 }
 
 // The root after `new` has taken the place of a slot below the link word `parent`.
