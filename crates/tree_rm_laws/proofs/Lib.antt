@@ -30,6 +30,7 @@ pub mod Unique
 pub mod Low
 pub mod Mended
 pub mod Inside
+pub mod Reached
 pub mod Sequence
 pub mod Below
 pub mod Told
