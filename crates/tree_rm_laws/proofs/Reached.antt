@@ -2,7 +2,7 @@
 use mathlib.Core.Path.{_≡_, refl, _∙_}
 use mathlib.Core.Bool.{Bool, true, false, cond, not}
 use mathlib.Core.List.{List, [], _∷_, _++_}
-use Prim.Native.Nat.{ℕ, zero, suc, _+_, _-_, _*_, _≤_}
+use Prim.Native.Nat.{ℕ, zero, suc, _+_, _*_, _≤_}
 use native.Mathlib.Omega.{arith}
 use lib.ListN.{length, length-append}
 use lib.Dec.{eqb, leb}
@@ -14,8 +14,8 @@ use Rattle.bitvec.specs.Colours.{red, redAt, dye}
 use Rattle.tree_rm_laws.specs.Links.{removeChild, redirected, fixUp}
 use Rattle.tree_rm_laws.specs.Pairs.{emptied}
 use Rattle.tree_rm_laws.specs.Repair.{turn, turn-2, turn-4, Case, one, two, three, four, five, choose, Next, done, again, act, turnOf, turnAt, step, goOn, repair}
-use Rattle.tree_rm_laws.specs.Remove.{vacated, exchanged, child, Store, store, ending, restructure, handed, above, cutWords, cutRoot, swapRemove, finish, removeFrom, removeRule}
-use Rattle.tree_rm_laws.specs.Reach.{Work, work, changes, differs, upHulls, actHulls, turnOfHulls, turnAtHulls, stepHulls, onward, repairHulls, restructureHulls, cutHulls, vacateHulls, removeHullsFrom, removeHulls, cutFrom, Stays, Follows}
+use Rattle.tree_rm_laws.specs.Remove.{vacated, exchanged, child, Store, store, ending, restructure, handed, above, cutWords, finish, removeFrom, removeRule}
+use Rattle.tree_rm_laws.specs.Reach.{Work, work, changes, differs, upHulls, actHulls, turnOfHulls, turnAtHulls, stepHulls, onward, repairHulls, restructureHulls, cutHulls, vacateHulls, removeHullsFrom, removeHulls, cutFrom, lastStep, Stays, Follows}
 use Rattle.tree_rm_laws.proofs.Carried.{Kept}
 use Rattle.tree_rm_laws.proofs.Links.{by-link, kept-turn, kept-turn-2, kept-turn-4}
 
@@ -141,15 +141,11 @@ reached W C n r s =
     (then n X (t .words) (restructureHulls n X C r x y) (cutHulls n H g v) (cutWords n H g v) (follows-restructure n X C r x y)
     (from n (t .words) H (cutHulls n H g v) (cutWords n H g v) (handed-stays n (t .words) x y) (follows-cut n H g v)))
 
--- and these words are those that the last slot moves in
-pub cut-before-move : (W C : List ℕ) (n r s : ℕ)
-    → let x : ℕ = vacated n W s in
-    let X : List ℕ = exchanged W s x in
-    let t : Store = restructure n X C r x (child X x) in
-    removeRule W C n r s .store
-    ≡ swapRemove n (cutFrom W C n r s x) (t .colours) (cutRoot n (t .root) (above n (t .words) x (child X x))) (n - 1) (emptied n x (child X x))
-unfolding removeRule removeFrom finish cutFrom
-cut-before-move W C n r s = refl
+-- and the last step is made in these words
+pub cut-then-moved : (W C : List ℕ) (n r s : ℕ)
+    → removeRule W C n r s .store ≡ lastStep (cutFrom W C n r s (vacated n W s)) W C n r s (vacated n W s)
+unfolding removeRule removeFrom finish cutFrom lastStep
+cut-then-moved W C n r s = refl
 
 -- how much it can be, on any words
 module _ (n : ℕ) where

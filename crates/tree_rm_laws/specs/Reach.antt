@@ -2,7 +2,7 @@
 use mathlib.Core.Path.{_≡_}
 use mathlib.Core.Bool.{Bool, true, not, cond}
 use mathlib.Core.List.{List, [], _∷_, _++_}
-use Prim.Native.Nat.{ℕ, zero, suc, _+_}
+use Prim.Native.Nat.{ℕ, zero, suc, _+_, _-_}
 use lib.Dec.{eqb}
 use Rattle.words.specs.Ix.{onLink}
 use Rattle.words.specs.Nodes.{kid, par, hull, altered, fix}
@@ -10,7 +10,7 @@ use Rattle.bitvec.specs.Colours.{red, redAt}
 use Rattle.tree_rm_laws.specs.Links.{removeChild}
 use Rattle.tree_rm_laws.specs.Pairs.{emptied}
 use Rattle.tree_rm_laws.specs.Repair.{turn-4, Case, one, two, three, four, five, choose, Next, done, again, step}
-use Rattle.tree_rm_laws.specs.Remove.{vacated, vacated′, exchanged, child, Store, restructure, handed, above, cutWords}
+use Rattle.tree_rm_laws.specs.Remove.{vacated, vacated′, exchanged, child, Store, restructure, handed, above, cutWords, cutRoot, swapRemove}
 
 -- a hull that is worked out: in which words, and of which slot
 pub record Work : Type 0 where
@@ -98,6 +98,13 @@ cutFrom W C n r s x =
     let X : List ℕ = exchanged W s x in
     let t : Store = restructure n X C r x (child X x) in
     cutWords n (handed n (t .words) x (child X x)) (above n (t .words) x (child X x)) (emptied n x (child X x))
+
+-- and the last step, from the words Z: the last slot moves
+unfoldable pub lastStep : List ℕ → List ℕ → List ℕ → ℕ → ℕ → ℕ → ℕ → Store
+lastStep Z W C n r s x =
+    let X : List ℕ = exchanged W s x in
+    let t : Store = restructure n X C r x (child X x) in
+    swapRemove n Z (t .colours) (cutRoot n (t .root) (above n (t .words) x (child X x))) (n - 1) (emptied n x (child X x))
 
 -- no hull is other than it was
 abbrev pub Stays : List ℕ → List ℕ → Type 0
