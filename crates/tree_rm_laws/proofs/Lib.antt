@@ -31,6 +31,7 @@ pub mod Low
 pub mod Mended
 pub mod Inside
 pub mod Reached
+pub mod Examples
 pub mod Sequence
 pub mod Below
 pub mod Told
