@@ -79,8 +79,8 @@ enum { ISET_INCLUDED = 0, ISET_EXCLUDED = 1, ISET_UNBOUNDED = 2 };
 /* How many numbers an answer has. */
 enum {
     ISET_BUILD_ANSWER = 2,
-    ISET_REMOVE_ANSWER = 9,
-    ISET_INSERT_ANSWER = 3,
+    ISET_REMOVE_ANSWER = 10,
+    ISET_INSERT_ANSWER = 4,
     ISET_FRESH_ANSWER = 3,
     ISET_STEP_ANSWER = 5,
     ISET_DRAIN_ANSWER = 5
@@ -102,7 +102,8 @@ uint64_t iset_build(uint64_t *nodes, size_t nodes_len, uint8_t *colours, size_t 
 
 /* Removes the entry of a slot. Up to three other entries change slot with it. The slot that is the new count is empty then: its left, right
  * and parent words are ISET_U, so that it points at nobody, and its other words 0.
- * Answer: its value, count, root, old slot, new slot, old slot, new slot, old slot, new slot; by rising old slot, unused pairs ISET_U twice.
+ * Answer: its value, count, root, old slot, new slot, old slot, new slot, old slot, new slot; by rising old slot, unused pairs ISET_U twice; then
+ * how far it reached: of the hulls that it worked out, how many changed at either end.
  * Refusals: SHORT_ANSWER, NO_ROOM, BROKEN, NO_SUCH. */
 uint64_t iset_remove(uint64_t count, uint64_t root, uint64_t *nodes, size_t nodes_len, uint8_t *colours, size_t colours_len, uint64_t slot,
     uint64_t *answer, size_t answer_len);
@@ -113,7 +114,7 @@ uint64_t iset_remove(uint64_t count, uint64_t root, uint64_t *nodes, size_t node
 uint64_t iset_slot_after(const uint64_t *answer, uint64_t removed, uint64_t kept);
 
 /* Adds one entry, in slot count; no other entry changes slot. It comes after the entries that are equal to it, which stay.
- * Answer: count, root, its slot, which is the count before.
+ * Answer: count, root, its slot, which is the count before, and how many of the hulls that were worked out changed.
  * Refusals: SHORT_ANSWER, NO_ROOM where the count has reached what the arrays hold or is above it, BROKEN, BAD_INTERVAL. */
 uint64_t iset_insert(uint64_t count, uint64_t root, uint64_t *nodes, size_t nodes_len, uint8_t *colours, size_t colours_len,
     uint64_t start, uint64_t end, uint64_t value, uint64_t *answer, size_t answer_len);

@@ -109,6 +109,11 @@ class Drive:
         numbers.end()
         return self.on_store(model.insert, *entry)
 
+    def do_last(self, numbers):
+        numbers.end()
+        fits("store" in self.left)
+        return f"0 {self.left['store'].reach}"
+
     def do_fresh(self, numbers):
         query = numbers.query()
         numbers.end()

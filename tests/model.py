@@ -9,6 +9,7 @@ START, END, VALUE, LO, HI, LEFT, RIGHT, PARENT = range(8)
 class Store:
     def __init__(self, count, root, words, colours):
         self.count, self.root, self.words, self.colours = count, root, words, colours
+        self.reach = 0
 
     def copy(self):
         return Store(self.count, self.root, list(self.words), list(self.colours))
@@ -31,10 +32,16 @@ class Store:
     def capacity(self):
         return min(len(self.words) // 8, 8 * len(self.colours), 65535)
 
+    def hull(self, slot):
+        return self.get(slot, LO), self.get(slot, HI)
+
     def rehull(self, slot):
+        """`reach` counts the hulls that changed as a removal or an insertion worked them out; a build counts none."""
+        old = self.hull(slot)
         below = [c for c in (self.get(slot, LEFT), self.get(slot, RIGHT)) if c != U]
         self.set(slot, LO, min([self.get(slot, START)] + [self.get(c, LO) for c in below]))
         self.set(slot, HI, max([self.get(slot, END)] + [self.get(c, HI) for c in below]))
+        self.reach += self.hull(slot) != old
 
     def passes(self):
         """The check, but for the room."""
@@ -97,6 +104,7 @@ def build(s, numbers):
         return slot
 
     s.count, s.root = n, span(0, n, U, 1)
+    s.reach = 0
     return "0 %d %d" % (s.count, s.root)
 
 

@@ -1,6 +1,6 @@
 #!/usr/bin/env python3
 """Lines for `drive` about the check and the build: the stores of document 01, copies of them that break one clause each, and lists.
-The middle part of crates/drive/stdin is this; tests/lookups.py and tests/insert_lines.py print the rest."""
+The middle part of crates/drive/stdin is this; tests/lookups.py, tests/insert_lines.py and tests/reach_lines.py print the rest."""
 import model
 
 U = model.U

@@ -16,7 +16,7 @@
 
 // What is lent, with the lengths that a call is told. Each array has places past the greatest length told.
 struct lent {
-    uint64_t nodes[WORDS], list[LIST], out[PLACES], answer[10];
+    uint64_t nodes[WORDS], list[LIST], out[PLACES], answer[12];
     uint8_t colours[BYTES];
     size_t words, bytes, items, places, room;
     uint64_t count, root;
@@ -38,7 +38,7 @@ static void lend(size_t words, size_t bytes) {
 
 static void begin(size_t room) {
     now.room = room;
-    fill(now.answer, 10);
+    fill(now.answer, 12);
     before = now;
 }
 
@@ -51,7 +51,7 @@ static void line(const char *name, uint64_t no, size_t numbers, size_t slots, in
     int done = no == 0;
     printf("%s: %" PRIu64, name, no);
     for (size_t i = 0; done && i < numbers; i++) printf(" %" PRIu64, now.answer[i]);
-    if (differ(now.answer, before.answer, done ? numbers : 0, 10)) printf(" ANSWER CHANGED");
+    if (differ(now.answer, before.answer, done ? numbers : 0, 12)) printf(" ANSWER CHANGED");
     if (differ(now.out, before.out, done ? slots : 0, PLACES)) printf(" OUTPUT CHANGED");
     if (differ(now.nodes, before.nodes, done && stores ? now.words : 0, WORDS)) printf(" NODES CHANGED");
     if (memcmp(now.list, before.list, sizeof now.list)) printf(" LIST CHANGED");
@@ -352,17 +352,17 @@ static void short_answers(void) {
 // 65,535 entries fit, 65,536 give NoRoom, by a build and by an insertion.
 static void most(void) {
     size_t n = 65536;
-    uint64_t *nodes = calloc(n * 8, sizeof *nodes), *list = malloc(n * 3 * sizeof *list), answer[9];
+    uint64_t *nodes = calloc(n * 8, sizeof *nodes), *list = malloc(n * 3 * sizeof *list), answer[ISET_REMOVE_ANSWER];
     uint8_t *colours = calloc(n / 8, 1);
     if (!nodes || !list || !colours) abort();
     for (size_t i = 0; i < n; i++) list[i * 3] = i * 2, list[i * 3 + 1] = i * 2 + 1, list[i * 3 + 2] = i;
-    printf("65536 entries: %" PRIu64, iset_build(nodes, n * 8, colours, n / 8, list, n * 3, answer, 9));
-    uint64_t no = iset_build(nodes, n * 8, colours, n / 8, list, n * 3 - 3, answer, 9);
+    printf("65536 entries: %" PRIu64, iset_build(nodes, n * 8, colours, n / 8, list, n * 3, answer, ISET_REMOVE_ANSWER));
+    uint64_t no = iset_build(nodes, n * 8, colours, n / 8, list, n * 3 - 3, answer, ISET_REMOVE_ANSWER);
     printf(", 65535: %" PRIu64 " %" PRIu64 " %" PRIu64, no, answer[0], answer[1]);
     printf(", check: %" PRIu64, iset_check(answer[0], answer[1], nodes, n * 8, colours, n / 8));
-    printf(", insert: %" PRIu64, iset_insert(answer[0], answer[1], nodes, n * 8, colours, n / 8, 1, 2, 3, answer, 9));
-    printf(", remove: %" PRIu64, iset_remove(answer[0], answer[1], nodes, n * 8, colours, n / 8, 7, answer, 9));
-    no = iset_insert(answer[1], answer[2], nodes, n * 8, colours, n / 8, 1, 2, 3, answer, 9);
+    printf(", insert: %" PRIu64, iset_insert(answer[0], answer[1], nodes, n * 8, colours, n / 8, 1, 2, 3, answer, ISET_REMOVE_ANSWER));
+    printf(", remove: %" PRIu64, iset_remove(answer[0], answer[1], nodes, n * 8, colours, n / 8, 7, answer, ISET_REMOVE_ANSWER));
+    no = iset_insert(answer[1], answer[2], nodes, n * 8, colours, n / 8, 1, 2, 3, answer, ISET_REMOVE_ANSWER);
     printf(", insert: %" PRIu64 " %" PRIu64 " %" PRIu64 " %" PRIu64, no, answer[0], answer[1], answer[2]);
     printf(", check: %" PRIu64 "\n", iset_check(answer[0], answer[1], nodes, n * 8, colours, n / 8));
     free(nodes);

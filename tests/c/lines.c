@@ -53,16 +53,16 @@ static void put_changes(void) {
     printf("\n");
 }
 
-// An answer is what a refused call prints before the call writes it.
+// An answer is what a refused call prints before the call writes it. The number of changed hulls, at its end, is in no line.
 static void remove_slot(void) {
-    uint64_t a[9] = {0, count, root, ISET_U, ISET_U, ISET_U, ISET_U, ISET_U, ISET_U}, slot = number();
-    put(iset_open_remove(count, root, copy, words, colours_copy, bytes, slot, a, 9), a, 9);
+    uint64_t a[ISET_REMOVE_ANSWER] = {0, count, root, ISET_U, ISET_U, ISET_U, ISET_U, ISET_U, ISET_U}, slot = number();
+    put(iset_open_remove(count, root, copy, words, colours_copy, bytes, slot, a, ISET_REMOVE_ANSWER), a, 9);
     put_changes();
 }
 
 static void insert(void) {
-    uint64_t a[3] = {count, root, ISET_U}, start = number(), end = number(), value = number();
-    put(iset_open_insert(count, root, copy, words, colours_copy, bytes, start, end, value, a, 3), a, 3);
+    uint64_t a[ISET_INSERT_ANSWER] = {count, root, ISET_U}, start = number(), end = number(), value = number();
+    put(iset_open_insert(count, root, copy, words, colours_copy, bytes, start, end, value, a, ISET_INSERT_ANSWER), a, 3);
     put_changes();
 }
 

@@ -52,7 +52,7 @@ static void guarded(const struct store *s) {
 
 // An answer or an output of either kind of call.
 struct reply {
-    uint64_t no, answer[9], out[PLACES];
+    uint64_t no, answer[ISET_REMOVE_ANSWER], out[PLACES];
 };
 
 static struct reply public_reply, opened_reply;
@@ -89,7 +89,7 @@ static uint64_t near_slot(void) { return any(8) == 0 ? any(3) == 0 ? ISET_U : co
 
 static void insert(void) {
     uint64_t start = any(600), end = start + any(60), value = any(1000);
-    BOTH("insert", iset_insert(count, root, FIRST, start, end, value, PUBLIC, 3), iset_open_insert(count, root, SECOND, start, end, value, OPENED, 3));
+    BOTH("insert", iset_insert(count, root, FIRST, start, end, value, PUBLIC, 4), iset_open_insert(count, root, SECOND, start, end, value, OPENED, 4));
     if (opened_reply.no == 0) count = OPENED[0], root = OPENED[1];
 }
 
@@ -106,7 +106,7 @@ static void carry(uint64_t removed, uint64_t old_count) {
 static void remove_one(void) {
     uint64_t slot = near_slot(), old_count = count;
     kept = second;
-    BOTH("remove", iset_remove(count, root, FIRST, slot, PUBLIC, 9), iset_open_remove(count, root, SECOND, slot, OPENED, 9));
+    BOTH("remove", iset_remove(count, root, FIRST, slot, PUBLIC, 10), iset_open_remove(count, root, SECOND, slot, OPENED, 10));
     if (opened_reply.no != 0) return;
     count = OPENED[1], root = OPENED[2];
     if (compared) carry(slot, old_count);

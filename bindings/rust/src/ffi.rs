@@ -49,7 +49,7 @@ extern "C" {
         answer_len: usize,
     ) -> u64;
 
-    /// The answer has nine numbers, those of a removal.
+    /// The answer has ten numbers, those of a removal.
     pub fn iset_slot_after(answer: *const u64, removed: u64, kept: u64) -> u64;
 
     pub fn iset_fresh(count: u64, root: u64, answer: *mut u64, answer_len: usize) -> u64;

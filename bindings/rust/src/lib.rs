@@ -87,6 +87,8 @@ pub struct Removed {
     pub value: u64,
     /// The other entries that changed slot, as (old slot, new slot), by rising old slot; unused ones are ([`U`], [`U`]).
     pub pairs: [(u64, u64); 3],
+    /// Of the hulls that the removal worked out, how many changed at either end.
+    pub reach: u64,
 }
 
 impl Removed {
@@ -106,6 +108,7 @@ impl Removed {
     ///     slot: 1,
     ///     value: 2,
     ///     pairs: [(0, 1), (4, 0), (U, U)],
+    ///     reach: 1,
     /// };
     /// let kept = [0, 1, 2, 4].map(|slot| removed.slot_after(slot));
     /// assert_eq!(kept, [Some(1), None, Some(2), Some(0)]);
@@ -125,6 +128,8 @@ pub struct Inserted {
     pub map: Map,
     /// The slot of the new entry: the count before.
     pub slot: u64,
+    /// Of the hulls that the insertion worked out, how many changed at either end.
+    pub reach: u64,
 }
 
 /// The place of a lookup. [`Map::fresh`] and [`Map::fresh_exact`] make the first one, steps and drains the next ones.
@@ -236,7 +241,7 @@ impl Map {
         colours: &mut [u8],
         slot: u64,
     ) -> Result<Removed, Refusal> {
-        let mut a = [0; 9];
+        let mut a = [0; 10];
         // SAFETY: as in `build`.
         let number = unsafe {
             call(
@@ -262,6 +267,7 @@ impl Map {
                 slot,
                 value: a[0],
                 pairs: [(a[3], a[4]), (a[5], a[6]), (a[7], a[8])],
+                reach: a[9],
             },
         )
     }
@@ -302,7 +308,7 @@ impl Map {
         end: u64,
         value: u64,
     ) -> Result<Inserted, Refusal> {
-        let mut answer = [0; 3];
+        let mut answer = [0; 4];
         // SAFETY: as in `build`.
         let number = unsafe {
             call(
@@ -328,6 +334,7 @@ impl Map {
             Inserted {
                 map,
                 slot: answer[2],
+                reach: answer[3],
             },
         )
     }

@@ -212,7 +212,7 @@ impl<'m> Store<'m> {
     pub fn insert(&mut self, range: Range<u64>, value: u64) -> Result<u64, Refusal> {
         let Range { start, end } = range;
         let call = ffi::iset_open_insert;
-        let Inserted { map, slot } =
+        let Inserted { map, slot, .. } =
             self.map
                 .insert_by(call, self.nodes, self.colours, start, end, value)?;
         self.map = map;

@@ -85,19 +85,19 @@ fn refused_builds_change_nothing() {
 
 #[test]
 fn removed() {
-    // slot, value, pairs, colours
+    // slot, value, pairs, colours, how many hulls changed
     let cases = [
-        (0, 1, [(4, 0), NONE, NONE], 8),
-        (1, 2, [(0, 1), (4, 0), NONE], 8),
-        (2, 3, [(3, 2), (4, 3), NONE], 1),
-        (4, 5, [NONE; 3], 1),
+        (0, 1, [(4, 0), NONE, NONE], 8, 0),
+        (1, 2, [(0, 1), (4, 0), NONE], 8, 1),
+        (2, 3, [(3, 2), (4, 3), NONE], 1, 1),
+        (4, 5, [NONE; 3], 1, 2),
     ];
-    for (slot, value, pairs, colours) in cases {
+    for (slot, value, pairs, colours, reach) in cases {
         let mut a = Store::of(&LIST_A);
         let gone = a.map.remove(&mut a.nodes, &mut a.colours, slot).unwrap();
         assert_eq!(
-            (gone.value, gone.pairs, a.colours),
-            (value, pairs, [colours])
+            (gone.value, gone.pairs, a.colours, gone.reach),
+            (value, pairs, [colours], reach)
         );
         assert_eq!(gone.map, Map { count: 4, root: 2 });
         assert_eq!(gone.map.check(&a.nodes, &a.colours), Ok(()));
@@ -144,6 +144,13 @@ fn inserted() {
         assert_eq!(refused, Err(why));
     }
     assert_eq!((a.nodes, a.colours), before);
+    // how many hulls changed: none, that of the root, and three of the four of two rotations
+    let (mut nodes, mut colours, mut map) = ([0; 3 * 8], [0; 1], Map::new());
+    for (start, end, reach) in [(20, 30, 0), (10, 15, 1), (12, 14, 3)] {
+        let added = map.insert(&mut nodes, &mut colours, start, end, 1).unwrap();
+        assert_eq!(added.reach, reach);
+        map = added.map;
+    }
 }
 
 #[test]

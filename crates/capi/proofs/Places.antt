@@ -117,7 +117,7 @@ pub build-told : (κs : Lfts 4) (a : K.Dens κs build-kinds.ps) (r : K.resT buil
     Told (buildRows W C S) (b .count ∷ b .root ∷ []) (now (a .1 .1 .1 .0)) (now (s .1 .1 .1 .0)) r
 build-told κs a r s p = told _ _ _ _ r (omega arith) (build-refusals _ _ _) (p .0) (p .1)
 
--- `iset_remove`: value, count, root, then three pairs, old slot, new slot
+-- `iset_remove`: value, count, root, then three pairs, old slot, new slot, and how many hulls changed
 pub remove-told : (κs : Lfts 3) (a : K.Dens κs remove-kinds.ps) (r : K.resT remove-kinds.r κs .Denot) (s : AtExit (K.endedOf 3 remove-kinds.ps remove-kinds.r) κs)
     → remove-reads.Post κs a r s
     → let m : Map = record { count = a .0; root = a .1 .0 } in
@@ -127,11 +127,11 @@ pub remove-told : (κs : Lfts 3) (a : K.Dens κs remove-kinds.ps) (r : K.resT re
     let b : RemoveAnswer = removeCall m W C slot in
     Told (removeRows m W C slot)
     (b .value ∷ b .count ∷ b .root
-    ∷ b .pairs .first .old ∷ b .pairs .first .new ∷ b .pairs .second .old ∷ b .pairs .second .new ∷ b .pairs .third .old ∷ b .pairs .third .new ∷ [])
+    ∷ b .pairs .first .old ∷ b .pairs .first .new ∷ b .pairs .second .old ∷ b .pairs .second .new ∷ b .pairs .third .old ∷ b .pairs .third .new ∷ b .reach ∷ [])
     (now (a .1 .1 .1 .1 .1 .0)) (now (s .1 .1 .1 .1 .1 .0)) r
 remove-told κs a r s p = told _ _ _ _ r (omega arith) (remove-refusals _ _ _ _) (p .0) (p .1)
 
--- `iset_insert`: count, root, the new entry's slot
+-- `iset_insert`: count, root, the new entry's slot, and how many hulls changed
 pub insert-told : (κs : Lfts 3) (a : K.Dens κs insert-kinds.ps) (r : K.resT insert-kinds.r κs .Denot) (s : AtExit (K.endedOf 3 insert-kinds.ps insert-kinds.r) κs)
     → insert-reads.Post κs a r s
     → let m : Map = record { count = a .0; root = a .1 .0 } in
@@ -139,7 +139,7 @@ pub insert-told : (κs : Lfts 3) (a : K.Dens κs insert-kinds.ps) (r : K.resT in
     let C : List ℕ = now (a .1 .1 .1 .0) in
     let e : Entry = record { start = a .1 .1 .1 .1 .0; end = a .1 .1 .1 .1 .1 .0; value = a .1 .1 .1 .1 .1 .1 .0 } in
     let b : InsertAnswer = insertCall m W C e in
-    Told (insertRows m W C e) (b .count ∷ b .root ∷ b .slot ∷ []) (now (a .1 .1 .1 .1 .1 .1 .1 .0)) (now (s .1 .1 .1 .1 .1 .1 .1 .0)) r
+    Told (insertRows m W C e) (b .count ∷ b .root ∷ b .slot ∷ b .reach ∷ []) (now (a .1 .1 .1 .1 .1 .1 .1 .0)) (now (s .1 .1 .1 .1 .1 .1 .1 .0)) r
 insert-told κs a r s p = told _ _ _ _ r (omega arith) (insert-refusals _ _ _ _) (p .0) (p .1)
 
 -- `iset_fresh`: slot, levels, bits: the root, one level, 00. It has no refusal but 101.

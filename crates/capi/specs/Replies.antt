@@ -49,11 +49,11 @@ mapNumbers count root = count ∷ root ∷ []
 abbrev pub buildReply : BuildAnswer → Reply
 buildReply a = record { no = a .no; numbers = mapNumbers (a .count) (a .root) }
 
--- a removal: "removed value, new map, and up to three pairs (old slot, new slot)"
-abbrev pub goneNumbers : ℕ → ℕ → ℕ → Pairs → List ℕ
-goneNumbers value count root p =
+-- a removal: "removed value, new map, and up to three pairs (old slot, new slot)", and how many hulls changed
+abbrev pub goneNumbers : ℕ → ℕ → ℕ → Pairs → ℕ → List ℕ
+goneNumbers value count root p reach =
     value ∷ count ∷ root
-    ∷ p .first .old ∷ p .first .new ∷ p .second .old ∷ p .second .new ∷ p .third .old ∷ p .third .new ∷ []
+    ∷ p .first .old ∷ p .first .new ∷ p .second .old ∷ p .second .new ∷ p .third .old ∷ p .third .new ∷ reach ∷ []
 
 -- the pairs among those numbers
 abbrev pub pairsOf : List ℕ → Pairs
@@ -65,14 +65,14 @@ pairsOf A =
     }
 
 abbrev pub removeReply : RemoveAnswer → Reply
-removeReply a = record { no = a .no; numbers = goneNumbers (a .value) (a .count) (a .root) (a .pairs) }
+removeReply a = record { no = a .no; numbers = goneNumbers (a .value) (a .count) (a .root) (a .pairs) (a .reach) }
 
--- an insertion: the new map and the slot of the new entry
-abbrev pub addedNumbers : ℕ → ℕ → ℕ → List ℕ
-addedNumbers count root slot = count ∷ root ∷ slot ∷ []
+-- an insertion: the new map, the slot of the new entry, and how many hulls changed
+abbrev pub addedNumbers : ℕ → ℕ → ℕ → ℕ → List ℕ
+addedNumbers count root slot reach = count ∷ root ∷ slot ∷ reach ∷ []
 
 abbrev pub insertReply : InsertAnswer → Reply
-insertReply a = record { no = a .no; numbers = addedNumbers (a .count) (a .root) (a .slot) }
+insertReply a = record { no = a .no; numbers = addedNumbers (a .count) (a .root) (a .slot) (a .reach) }
 
 -- a cursor: slot, levels, bits
 abbrev pub cursorNumbers : Cursor → List ℕ

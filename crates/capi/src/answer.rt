@@ -33,8 +33,8 @@ pub(crate) fn put_map(m: Map, answer: &mut [u64])
 }
 
 pub fn put_gone(g: Gone, answer: &mut [u64])
-    requires { ⌜ 9 ≤ length (now answer) ⌝ }
-    ensures { λ _. ⌜ now (answer .exit) ≡ filled (goneNumbers (g .value) (g .map .count) (g .map .root) (g .pairs)) (now (answer .entry)) ⌝ }
+    requires { ⌜ 10 ≤ length (now answer) ⌝ }
+    ensures { λ _. ⌜ now (answer .exit) ≡ filled (goneNumbers (g .value) (g .map .count) (g .map .root) (g .pairs) (g .reach)) (now (answer .entry)) ⌝ }
 {
     let numbers = [
         g.value,
@@ -46,15 +46,16 @@ pub fn put_gone(g: Gone, answer: &mut [u64])
         g.pairs.second.new,
         g.pairs.third.old,
         g.pairs.third.new,
+        g.reach,
     ];
     put(&numbers, answer);
 }
 
 pub fn put_added(a: Added, answer: &mut [u64])
-    requires { ⌜ 3 ≤ length (now answer) ⌝ }
-    ensures { λ _. ⌜ now (answer .exit) ≡ filled (addedNumbers (a .map .count) (a .map .root) (a .slot)) (now (answer .entry)) ⌝ }
+    requires { ⌜ 4 ≤ length (now answer) ⌝ }
+    ensures { λ _. ⌜ now (answer .exit) ≡ filled (addedNumbers (a .map .count) (a .map .root) (a .slot) (a .reach)) (now (answer .entry)) ⌝ }
 {
-    let numbers = [a.map.count, a.map.root, a.slot];
+    let numbers = [a.map.count, a.map.root, a.slot, a.reach];
     put(&numbers, answer);
 }
 

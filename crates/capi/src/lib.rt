@@ -71,7 +71,8 @@ pub extern "C" fn iset_build(
     }
 }
 
-// Removes the entry of a slot. Answer: value, count, root, then the moved entries, three times old slot, new slot.
+// Removes the entry of a slot. Answer: value, count, root, then the moved entries, three times old slot, new slot, and how many hulls
+// changed.
 #[no_mangle]
 pub extern "C" fn iset_remove(
     count: u64,
@@ -90,7 +91,7 @@ pub extern "C" fn iset_remove(
         ≡ left (now (answer .entry)) (removeTold (mapOf count root) (now (nodes .entry)) (now (colours .entry)) slot) (now (colours .entry))
         (removeColours (mapOf count root) (now (nodes .entry)) (now (colours .entry)) slot)) ⌝ }
 {
-    if answer.len() < 9 {
+    if answer.len() < 10 {
         return SHORT_ANSWER;
     }
     match (Map { count, root }).remove(nodes, colours, slot) {
@@ -104,7 +105,7 @@ pub extern "C" fn iset_remove(
 
 // After a removal of slot `removed` that gave `answer`: the slot of the entry that was in slot `kept` before it, U for the removed one.
 #[no_mangle]
-pub extern "C" fn iset_slot_after(answer: &[u64; 9], removed: u64, kept: u64) -> u64
+pub extern "C" fn iset_slot_after(answer: &[u64; 10], removed: u64, kept: u64) -> u64
     ensures { λ r. ⌜ r ≡ slotAfter (pairsOf (now (answer .entry))) removed kept ⌝ }
 {
     let gone = Gone {
@@ -127,11 +128,12 @@ pub extern "C" fn iset_slot_after(answer: &[u64; 9], removed: u64, kept: u64) ->
                 new: answer[8],
             },
         },
+        reach: answer[9],
     };
     gone.slot_after(removed, kept)
 }
 
-// Adds an entry in slot `count`; no other entry changes slot. Answer: count, root, the entry's slot.
+// Adds an entry in slot `count`; no other entry changes slot. Answer: count, root, the entry's slot, and how many hulls changed.
 #[no_mangle]
 pub extern "C" fn iset_insert(
     count: u64,
@@ -154,7 +156,7 @@ pub extern "C" fn iset_insert(
         ≡ left (now (answer .entry)) (insertTold (mapOf count root) (now (nodes .entry)) (now (colours .entry)) (entryOf start end value))
         (now (colours .entry)) (insertColours (mapOf count root) (now (nodes .entry)) (now (colours .entry)) (entryOf start end value))) ⌝ }
 {
-    if answer.len() < 3 {
+    if answer.len() < 4 {
         return SHORT_ANSWER;
     }
     match (Map { count, root }).insert(nodes, colours, start, end, value) {

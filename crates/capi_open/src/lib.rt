@@ -14,7 +14,8 @@ ghost use Rattle.iset.specs.Insert.{entryOf, openInsertNodes, openInsertColours
 ghost use Rattle.capi.specs.Replies.{mapOf, number, handed, left};
 ghost use Rattle.capi_open.specs.Replies.{openRemoveTold, openInsertTold};
 
-// Removes the entry of a slot. Answer: value, count, root, then the moved entries, three times old slot, new slot.
+// Removes the entry of a slot. Answer: value, count, root, then the moved entries, three times old slot, new slot, and how many hulls
+// changed.
 #[no_mangle]
 pub extern "C" fn iset_open_remove(
     count: u64,
@@ -33,7 +34,7 @@ pub extern "C" fn iset_open_remove(
         ≡ left (now (answer .entry)) (openRemoveTold (mapOf count root) (now (nodes .entry)) (now (colours .entry)) slot) (now (colours .entry))
         (openRemoveColours (mapOf count root) (now (nodes .entry)) (now (colours .entry)) slot)) ⌝ }
 {
-    if answer.len() < 9 {
+    if answer.len() < 10 {
         return SHORT_ANSWER;
     }
     match (Map { count, root }).open_remove(nodes, colours, slot) {
@@ -45,7 +46,7 @@ pub extern "C" fn iset_open_remove(
     }
 }
 
-// Adds an entry in slot `count`; no other entry changes slot. Answer: count, root, the entry's slot.
+// Adds an entry in slot `count`; no other entry changes slot. Answer: count, root, the entry's slot, and how many hulls changed.
 #[no_mangle]
 pub extern "C" fn iset_open_insert(
     count: u64,
@@ -68,7 +69,7 @@ pub extern "C" fn iset_open_insert(
         ≡ left (now (answer .entry)) (openInsertTold (mapOf count root) (now (nodes .entry)) (now (colours .entry)) (entryOf start end value))
         (now (colours .entry)) (openInsertColours (mapOf count root) (now (nodes .entry)) (now (colours .entry)) (entryOf start end value))) ⌝ }
 {
-    if answer.len() < 3 {
+    if answer.len() < 4 {
         return SHORT_ANSWER;
     }
     match (Map { count, root }).open_insert(nodes, colours, start, end, value) {

@@ -18,13 +18,14 @@ pub enum Call {
     Lookup(lookups::Call, Kind),
     Bits(bits::Call),
     Stack(stacks::Call),
+    Last,
 }
 
 // The names, in the order of `call_at`. A name ends in a space where numbers follow it.
 fn place_of(name: &[u8]) -> usize {
     given::which(
         name,
-        b"store ;bytes ;commit;check;build ;remove ;insert ;fresh o ;step o ;drain o ;fresh e ;step e ;drain e ;bget ;bset ;bpush ;bpop ;bswap ;bfrom ;spush ;spop ;sleft ;smatch ;sright ;scanleft ;scanmatch ;scanright ;sempty ;",
+        b"store ;bytes ;commit;check;build ;remove ;insert ;fresh o ;step o ;drain o ;fresh e ;step e ;drain e ;bget ;bset ;bpush ;bpop ;bswap ;bfrom ;spush ;spop ;sleft ;smatch ;sright ;scanleft ;scanmatch ;scanright ;sempty ;last;",
     )
 }
 
@@ -58,6 +59,7 @@ fn call_at(place: usize) -> Call {
         25 => Call::Stack(stacks::Call::CanMatch),
         26 => Call::Stack(stacks::Call::CanGoRight),
         27 => Call::Stack(stacks::Call::IsEmpty),
+        28 => Call::Last,
         _ => Call::Unknown,
     }
 }
@@ -70,6 +72,7 @@ fn fits(call: Call, numbers: &[u64]) -> bool {
         Call::Lookup(c, kind) => lookups::fits(c, kind, numbers),
         Call::Bits(c) => bits::fits(c, numbers),
         Call::Stack(_) => stacks::fits(numbers),
+        Call::Last => numbers.len() == 0,
         _ => false,
     }
 }

@@ -13,11 +13,12 @@ pub(crate) fn begin(s: State, words: &mut [u64]) {
     arena::copy_words(words, COLOURS, NEW_BYTES, s.colours);
 }
 
-// The line's end from `to` on, and the map that the request left beside the copy.
+// The line's end from `to` on, and what the request left beside the copy: the map, and how many hulls changed.
 pub(crate) fn end(
     s: State,
     count: u64,
     root: u64,
+    reach: u64,
     words: &[u64],
     out: &mut [u8],
     to: usize,
@@ -28,7 +29,7 @@ pub(crate) fn end(
     let nodes = answer::put_words(words, WORDS, 0, w, out, sign);
     let colours = answer::put_words(words, COLOURS, NEW_BYTES, b, out, nodes);
     s.after(
-        Left::Store(count, root, w, b),
+        Left::Store(count, root, reach, w, b),
         output::put_byte(out, colours, b'\n'),
     )
 }
@@ -38,6 +39,7 @@ pub(crate) fn line(
     s: State,
     count: u64,
     root: u64,
+    reach: u64,
     no: u64,
     others: &[u64],
     n: usize,
@@ -45,5 +47,5 @@ pub(crate) fn line(
     out: &mut [u8],
 ) -> State {
     let to = answer::put_numbers(no, others, n, out, s.to);
-    end(s, count, root, words, out, to)
+    end(s, count, root, reach, words, out, to)
 }

@@ -6,6 +6,7 @@ mod call;
 mod copy;
 mod given;
 mod input;
+mod last;
 mod lookups;
 mod map;
 mod settings;
@@ -42,6 +43,7 @@ fn answered(s: State, call: Call, numbers: &[u64], words: &mut [u64], out: &mut 
         Call::Lookup(c, kind) => lookups::request(s, c, kind, numbers, words, out),
         Call::Bits(c) => bits::request(s, c, numbers, words, out),
         Call::Stack(c) => stacks::request(s, c, numbers, out),
+        Call::Last => last::request(s, out),
     }
 }
 

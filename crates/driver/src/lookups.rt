@@ -109,7 +109,7 @@ fn line(s: State, call: Call, a: Reply, words: &mut [u64], hits: &[u64], out: &m
     copy::begin(s, words);
     let first = answer::put_numbers(a.no, &numbers, 5, out, s.to);
     let to = put_hits(call, hits, out, first);
-    copy::end(s, s.count, s.root, words, out, to)
+    copy::end(s, s.count, s.root, 0, words, out, to)
 }
 
 // The line of `fresh`.

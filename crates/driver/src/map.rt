@@ -60,7 +60,7 @@ fn answered(s: State, call: Call, numbers: &[u64], words: &mut [u64]) -> Reply {
 
 fn line(s: State, a: Reply, words: &[u64], out: &mut [u8]) -> State {
     let numbers = a.numbers;
-    copy::line(s, a.count, a.root, a.no, &numbers, a.n, words, out)
+    copy::line(s, a.count, a.root, a.reach, a.no, &numbers, a.n, words, out)
 }
 
 pub(crate) fn request(

@@ -2,10 +2,10 @@
 use words::ix::U;
 
 // What the last request left in the arena's copy, for `commit`: a map with its node words and colour bytes, or the
-// bytes of the bit calls. Store: count, root, how many words, how many bytes. Bytes: how many.
+// bytes of the bit calls. Store: count, root, how many hulls changed (for `last`), how many words, how many bytes. Bytes: how many.
 pub enum Left {
     Nothing,
-    Store(u64, u64, usize, usize),
+    Store(u64, u64, u64, usize, usize),
     Bytes(usize),
 }
 

@@ -1,7 +1,7 @@
 -- The table, by computing each rule.
 use mathlib.Core.Path.{refl}
 use Rattle.words.specs.Ix.{onLink}
-use Rattle.words.specs.Nodes.{word, put, putEntry, putHull, swap, joined, hullOf, fix, putNode}
+use Rattle.words.specs.Nodes.{word, put, putEntry, putHull, swap, joined, hullOf, altered, fix, putNode}
 use Rattle.bitvec.specs.Bits.{bit, put as putBit, bitAt, setBit}
 use Rattle.audit.specs.Survey.{survey, wholeOf}
 use Rattle.builder.specs.Input.{startOf, endOf, valueOf, every, properAt, inOrder, allProper, sorted as sortedList}
@@ -10,9 +10,11 @@ use Rattle.tree_rm_laws.specs.Links.{adopt, setChild, redirected, removeChild, 
 use Rattle.tree_rm_laws.specs.Repair.{turn, turn-2, turn-4, dyeAt, choose, turnOf, turnAt, step, repair}
 use Rattle.tree_rm_laws.specs.Pairs.{instead, emptied, home, named, lower, upper, sorted, moved}
 use Rattle.tree_rm_laws.specs.Remove.{leftmost, vacated, exchanged, child, restructure, handed, above, cutWords, cutRoot, copied, relinked, cleared, swapRemove, finish, removeFrom, removeRule}
+use Rattle.tree_rm_laws.specs.Reach.{differs, upHulls, turnOfHulls, turnAtHulls, stepHulls, repairHulls, restructureHulls, cutHulls, vacateHulls, removeHullsFrom, removeHulls}
 use Rattle.tree_in_laws.specs.Descent.{goesLeft, descend, under}
 use Rattle.tree_in_laws.specs.Mend.{rotated, outer, inner, recoloured, mendAt, mendBelow, mendStep, mend}
 use Rattle.tree_in_laws.specs.Insert.{hungNode, hungWords, hungRoot, hung, mended, insertRule}
+use Rattle.tree_in_laws.specs.Reach.{rotatedHulls, outerHulls, innerHulls, mendAtHulls, mendBelowHulls, mendStepHulls, mendHulls, mendedHulls, insertHulls}
 use Rattle.stack.specs.States.{stateAt, putState, top, marked, pushed, popped}
 use Rattle.iter.specs.Cursors.{upTo}
 use Rattle.iter.specs.Walk.{deeper, mark, down, move, enters, hits, seek, step as stepOf}
@@ -59,6 +61,10 @@ inserting : Unit {0}
 unfolding goesLeft descend under rotated outer inner recoloured mendAt mendBelow mendStep mend hungNode hungWords hungRoot hung mended insertRule
 inserting = record {}
 
+reaching : Unit {0}
+unfolding altered differs upHulls turnOfHulls turnAtHulls stepHulls repairHulls restructureHulls cutHulls vacateHulls removeHullsFrom removeHulls rotatedHulls outerHulls innerHulls mendAtHulls mendBelowHulls mendStepHulls mendHulls mendedHulls insertHulls
+reaching = record {}
+
 walking : Unit {0}
 unfolding stateAt putState top marked pushed popped upTo deeper mark down move enters hits seek stepOf drain filled onSide formed heldForm formOf
 walking = record {}
@@ -77,5 +83,5 @@ telling = record {}
 
 -- one `refl` a row, in the table's order
 pub examples : Each table
-unfolding reading checking building repairing naming removing inserting walking looking changing telling
+unfolding reading checking building repairing naming removing inserting reaching walking looking changing telling
 examples = (refl, (refl, (refl, (refl, (refl, (refl, (refl, (refl, (refl, (refl, (refl, (refl, (refl, (refl, (refl, (refl, (refl, (refl, (refl, (refl, (refl, (refl, (refl, (refl, (refl, (refl, (refl, (refl, (refl, (refl, (refl, (refl, (refl, (refl, (refl, record {})))))))))))))))))))))))))))))))))))

@@ -134,13 +134,13 @@ build-done κs a r s p m e = sym (p .0) ∙ ap buildPaper e
 pub remove-done : (κs : Lfts 2) (a : K.Dens κs remove-kinds.ps) (r : K.resT remove-kinds.r κs .Denot) (s : AtExit (K.endedOf 2 remove-kinds.ps remove-kinds.r) κs)
     → remove-reads.Post κs a r s → (g : Gone) → r ≡ removed-as.Done g
     → removeCall (a .0) (now (a .1 .0)) (now (a .1 .1 .0)) (a .1 .1 .1 .0)
-    ≡ record { no = 0; value = g .value; count = g .map .count; root = g .map .root; pairs = g .pairs }
+    ≡ record { no = 0; value = g .value; count = g .map .count; root = g .map .root; pairs = g .pairs; reach = g .reach }
 remove-done κs a r s p g e = sym (p .0) ∙ ap (removePaper (a .0)) e
 
 pub insert-done : (κs : Lfts 2) (a : K.Dens κs insert-kinds.ps) (r : K.resT insert-kinds.r κs .Denot) (s : AtExit (K.endedOf 2 insert-kinds.ps insert-kinds.r) κs)
     → insert-reads.Post κs a r s → (g : Added) → r ≡ inserted-as.Done g
     → insertCall (a .0) (now (a .1 .0)) (now (a .1 .1 .0)) (record { start = a .1 .1 .1 .0; end = a .1 .1 .1 .1 .0; value = a .1 .1 .1 .1 .1 .0 })
-    ≡ record { no = 0; slot = g .slot; count = g .map .count; root = g .map .root }
+    ≡ record { no = 0; slot = g .slot; count = g .map .count; root = g .map .root; reach = g .reach }
 insert-done κs a r s p g e = sym (p .0) ∙ ap (insertPaper (a .0)) e
 
 pub fresh-exact-done : (κs : Lfts 2) (a : K.Dens κs exact-kinds.ps) (r : K.resT exact-kinds.r κs .Denot) (s : AtExit (K.endedOf 2 exact-kinds.ps exact-kinds.r) κs)

@@ -19,8 +19,10 @@ use Rattle.tree_rm_laws.specs.Remove.{removeRule}
 use Rattle.tree.specs.Below.{Agree}
 use Rattle.tree_rm_laws.specs.Below.{Alike}
 use Rattle.tree_rm_laws.proofs.Below.{link-same, SameRemoval, removed-below}
+use Rattle.tree_rm_laws.proofs.Below as removal
 use Rattle.tree_in_laws.specs.Insert.{insertRule}
 use Rattle.tree_in_laws.proofs.Below.{inserted-below}
+use Rattle.tree_in_laws.proofs.Below as insertion
 use Rattle.stack.specs.States.{top, stateAt}
 use Rattle.iter.specs.Cursors.{stackOf}
 use Rattle.iter.specs.Walk.{Rules, deeper, down, move, hits, ending, hitting, counts, seek, fuel, step}
@@ -34,8 +36,8 @@ use Rattle.iter.specs.declared.rules.Query.{Query}
 use Rattle.iter.specs.declared.rules.Query.the-variants.{Overlap, Exact}
 use Rattle.iset.specs.Check.{checkRule}
 use Rattle.iset.specs.Build.{buildRule}
-use Rattle.iset.specs.Remove.{removeNumber, refusedRemoval, removeCall, removeNodes, removeColours}
-use Rattle.iset.specs.Insert.{insertNumber, refusedInsertion, insertDone, insertCall, insertNodes, insertColours}
+use Rattle.iset.specs.Remove.{removeNumber, refusedRemoval, removeReach, removeCall, removeNodes, removeColours}
+use Rattle.iset.specs.Insert.{insertNumber, refusedInsertion, insertDone, insertReach, insertCall, insertNodes, insertColours}
 use Rattle.iset.specs.Lookup.{beginning, startNumber, stepNumber, drainNumber, startCall, stepCall, drainCall, drainOutput}
 use Rattle.iset.specs.Below.{SameBelow}
 use Rattle.iset.specs.declared.Map.{Map}
@@ -223,12 +225,17 @@ module _ (m : Map) (W C X D : List ℕ) (s : SameBelow (m .count) W C X D) where
         let h : m .count ≤ room (length W) (length C) = check-zero m W C (removals.accepts m W C t e .0) .0 in
         removed-below W X C D n (m .root) t (omega arith) (removals.accepts m W C t e .1) (s .words) (s .colours)
 
+    sum-below : removeNumber m W C t ≡ 0 → removeReach m W C t ≡ removeReach m X D t
+    sum-below e =
+        let h : m .count ≤ room (length W) (length C) = check-zero m W C (removals.accepts m W C t e .0) .0 in
+        removal.reach-below W X C D n (m .root) t (omega arith) (removals.accepts m W C t e .1) (s .words) (s .colours)
+
     pub remove-below : removeCall m W C t ≡ removeCall m X D t
     unfolding removeCall
     remove-below =
         rw (← same-removeNumber)
         (one-answer (removeNumber m W C t) _ _ (refusedRemoval m (removeNumber m W C t))
-        (λ e. let r = rule-below e in rw (r .values, r .stores .2, r .pairs)))
+        (λ e. let r = rule-below e in rw (r .values, r .stores .2, r .pairs, sum-below e)))
 
     pub remove-leaves-below : SameBelow n (removeNodes m W C t) (removeColours m W C t) (removeNodes m X D t) (removeColours m X D t)
     unfolding removeNodes removeColours
@@ -248,11 +255,16 @@ module _ (m : Map) (W C X D : List ℕ) (s : SameBelow (m .count) W C X D) where
         let h : m .count < room (length W) (length C) = insertions.accepts m W C e z .0 in
         inserted-below W X C D n (m .root) e (omega arith) (omega arith) (s .words) (s .colours)
 
+    added-sum-below : insertNumber m W C e ≡ 0 → insertReach m W C e ≡ insertReach m X D e
+    added-sum-below z =
+        let h : m .count < room (length W) (length C) = insertions.accepts m W C e z .0 in
+        insertion.reach-below W X C D n (m .root) e (omega arith) (omega arith) (s .words) (s .colours)
+
     pub insert-below : insertCall m W C e ≡ insertCall m X D e
     unfolding insertCall
     insert-below =
         rw (← same-insertNumber)
-        (one-answer (insertNumber m W C e) _ _ (refusedInsertion m (insertNumber m W C e)) (λ z. rw (added-below z .2)))
+        (one-answer (insertNumber m W C e) _ _ (refusedInsertion m (insertNumber m W C e)) (λ z. rw (added-below z .2, added-sum-below z)))
 
     pub insert-leaves-below :
         SameBelow (insertCall m W C e .count) (insertNodes m W C e) (insertColours m W C e) (insertNodes m X D e) (insertColours m X D e)
@@ -260,7 +272,7 @@ module _ (m : Map) (W C X D : List ℕ) (s : SameBelow (m .count) W C X D) where
     insert-leaves-below = rw (← same-insertNumber) (go (insertNumber m W C e) refl)
       where
         go : (k : ℕ) → insertNumber m W C e ≡ k
-            → SameBelow (cond (eqb k 0) (insertDone m (insertRule W C n (m .root) e)) (refusedInsertion m k) .count)
+            → SameBelow (cond (eqb k 0) (insertDone m (insertRule W C n (m .root) e) (insertReach m W C e)) (refusedInsertion m k) .count)
             (cond (eqb k 0) (insertRule W C n (m .root) e .words) W) (cond (eqb k 0) (insertRule W C n (m .root) e .colours) C)
             (cond (eqb k 0) (insertRule X D n (m .root) e .words) X) (cond (eqb k 0) (insertRule X D n (m .root) e .colours) D)
         go zero z = record { words = added-below z .0; colours = added-below z .1 }

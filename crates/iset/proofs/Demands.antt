@@ -1,21 +1,26 @@
--- The three demands, of the public calls.
-use mathlib.Core.Path.{_≡_, sym, _∙_}
+-- The three demands, of the public calls, and document 02's item 9.
+use mathlib.Core.Path.{_≡_, refl, sym, ap, _∙_}
 use mathlib.Core.List.{List}
-use Prim.Native.Nat.{ℕ, _-_, _<_, _≤_}
+use Prim.Native.Nat.{ℕ, _+_, _-_, _<_, _≤_}
 use native.Mathlib.Omega.{arith}
 use lib.ListN.{length}
 use borrow.Author.Tests.{eq-eqb}
 use Rattle.words.specs.Nodes.{room}
 use Rattle.words.specs.declared.node.Entry.{Entry}
-use Rattle.tree_rm_laws.specs.Remove.{removeRule}
+use Rattle.tree_rm_laws.specs.Remove.{Removal, vacated, removeRule}
+use Rattle.tree_rm_laws.specs.Reach.{cutFrom, lastStep, Follows}
 use Rattle.tree_rm_laws.specs.With.{removeWith}
 use Rattle.tree_rm_laws.proofs.Enough as removal-numbers
-use Rattle.tree_in_laws.specs.Insert.{insertRule}
+use Rattle.tree_rm_laws.proofs.Reached as removal-hulls
+use Rattle.tree_in_laws.specs.Descent.{under}
+use Rattle.tree_in_laws.specs.Insert.{own, hungWords, insertRule}
+use Rattle.tree_in_laws.specs.Reach.{insertHulls}
 use Rattle.tree_in_laws.specs.Inserted.{insertWith}
 use Rattle.tree_in_laws.proofs.Insertion as insertion-numbers
-use Rattle.iset.specs.Remove.{removeNumber, removeCall, removeNodes, removeColours}
-use Rattle.iset.specs.Insert.{insertNumber, insertCall, insertNodes, insertColours}
-use Rattle.iset.specs.Demands.{Demand1, removal, insertion, Demand2, Demand3}
+use Rattle.tree_in_laws.proofs.Reached as insertion-hulls
+use Rattle.iset.specs.Remove.{RemoveAnswer, removeNumber, removeReach, removeCall, removeNodes, removeColours}
+use Rattle.iset.specs.Insert.{InsertAnswer, insertNumber, insertReach, insertCall, insertNodes, insertColours}
+use Rattle.iset.specs.Demands.{Demand1, removal, insertion, Demand2, Demand3, Request9}
 use Rattle.iset.specs.declared.Map.{Map}
 use Rattle.iset.proofs.Checks.{check-zero}
 use Rattle.iset.proofs.Builds as builds
@@ -59,6 +64,10 @@ module _ (m : Map) (W C : List ℕ) (s : ℕ) (e : removeNumber m W C s ≡ 0) w
       ∙ sym (removal-numbers.enough W C (m .count) (m .root) s (omega (arith, fits)) (omega (arith, fits)) (omega (arith, fits))
       (removals.accepts m W C s e .1) (removals.tree-before m W C s e) turns links hulls i j k)
 
+  remove-sum : removeCall m W C s .reach ≡ removeReach m W C s
+  unfolding removeCall
+  remove-sum = rw (eq-eqb (removeNumber m W C s) 0 e)
+
 -- an insertion
 module _ (m : Map) (W C : List ℕ) (x : Entry) (e : insertNumber m W C x ≡ 0) where
   roomy : m .count < room (length W) (length C)
@@ -75,6 +84,14 @@ module _ (m : Map) (W C : List ℕ) (x : Entry) (e : insertNumber m W C x ≡ 0)
       ∙ sym (insertion-numbers.enough W C (m .count) (m .root) x (omega (arith, roomy)) (omega (arith, roomy)) (omega (arith, roomy))
       (insertions.accepts m W C x e .2) (insertions.tree-before m W C x e) levels turns hulls i j k)
 
+  insert-sum : insertCall m W C x .reach ≡ insertReach m W C x
+  unfolding insertCall
+  insert-sum = rw (eq-eqb (insertNumber m W C x) 0 e)
+
+  insert-hulls : Follows (m .count + 1) (hungWords W (m .count) x (under (m .count) W (m .root) (own x))) (insertHulls W C (m .count) (m .root) x) (insertNodes m W C x)
+  unfolding insertNodes
+  insert-hulls = rw (eq-eqb (insertNumber m W C x) 0 e) (insertion-hulls.reached W C (m .count) (m .root) x)
+
 pub demand-2 : (m : Map) (W C : List ℕ) → Demand2 m W C
 demand-2 m W C =
     record {
@@ -87,3 +104,20 @@ demand-2 m W C =
 
 pub demand-3 : (m : Map) (W C : List ℕ) → Demand3 m W C
 demand-3 m W C = record { overlap = λ e q d. overlap-runs m W C q e d; exact = λ e x d. exact-runs m W C x e d }
+
+pub request-9 : (m : Map) (W C : List ℕ) → Request9 m W C
+request-9 m W C =
+    record {
+      remove-sum = λ s e. remove-sum m W C s (sym (remove-no m W C s) ∙ e);
+      remove-hulls = λ s e. removal-hulls.reached W C (m .count) (m .root) s;
+      remove-moves = λ s e.
+          ap (λ (R : Removal). R .store) (removal-is m W C s (sym (remove-no m W C s) ∙ e)) ∙ removal-hulls.cut-then-moved W C (m .count) (m .root) s;
+      remove-none = λ s d. ap (λ (a : RemoveAnswer). a .reach) (remove-leaves m W C s d .0);
+      insert-sum = λ x e. insert-sum m W C x (sym (insert-no m W C x) ∙ e);
+      insert-hangs = λ x e.
+          let h = roomy m W C x (sym (insert-no m W C x) ∙ e) in
+          let p : ℕ = under (m .count) W (m .root) (own x) in
+          (insertion-hulls.hung-own W (m .count) x p (omega (arith, h)), λ a d. insertion-hulls.hung-stays W (m .count) x p a d);
+      insert-hulls = λ x e. insert-hulls m W C x (sym (insert-no m W C x) ∙ e);
+      insert-none = λ x d. ap (λ (a : InsertAnswer). a .reach) (insert-leaves m W C x d .0);
+    }

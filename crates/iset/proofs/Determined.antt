@@ -101,7 +101,7 @@ build-determined κs a r r′ s s′ p q = (sym (built-back r) ∙ ap builtAt (p
 abbrev removalAt : RemoveAnswer → Removal
 removalAt x =
     cond (eqb (x .no) 0)
-    (removal.Done (record { map = record { count = x .count; root = x .root }; value = x .value; pairs = x .pairs }))
+    (removal.Done (record { map = record { count = x .count; root = x .root }; value = x .value; pairs = x .pairs; reach = x .reach }))
     (removal.Refused (refusalAt (x .no)))
 
 removal-back : (m : Map) (r : Removal) → removalAt (removePaper m r) ≡ r
@@ -118,7 +118,7 @@ remove-determined κs a r r′ s s′ p q =
 abbrev insertionAt : InsertAnswer → Insertion
 insertionAt x =
     cond (eqb (x .no) 0)
-    (insertion.Done (record { map = record { count = x .count; root = x .root }; slot = x .slot }))
+    (insertion.Done (record { map = record { count = x .count; root = x .root }; slot = x .slot; reach = x .reach }))
     (insertion.Refused (refusalAt (x .no)))
 
 insertion-back : (m : Map) (r : Insertion) → insertionAt (insertPaper m r) ≡ r

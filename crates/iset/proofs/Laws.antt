@@ -105,9 +105,9 @@ refused-removal m k t z e q = ap (λ (i : ℕ). refusedRemoval m i) (sym (ap che
 
 -- the parts of what the removal's code answers and leaves
 module _ (a : Removed) (X K : List ℕ) (R : Removal) (e : removal a X K ≡ R) where
-  pub removed-answer : (m : Map)
-      → _≡_ {A = RemoveAnswer} (record { no = 0; value = a .value; count = m .count - 1; root = a .root; pairs = a .pairs }) (removeDone m R)
-  removed-answer m = ap (λ (S : Removal). removeDone m S) e
+  pub removed-answer : (m : Map) (k : ℕ) → a .reach ≡ k
+      → _≡_ {A = RemoveAnswer} (record { no = 0; value = a .value; count = m .count - 1; root = a .root; pairs = a .pairs; reach = a .reach }) (removeDone m R k)
+  removed-answer m k f = λ t. removeDone m (e t) (f t)
 
   pub removed-words : X ≡ R .store .words
   removed-words = ap (λ (S : Removal). S .store .words) e
@@ -132,8 +132,9 @@ refused-insertion m k t z e q = ap (λ (i : ℕ). refusedInsertion m i) (sym (ap
 
 -- the parts of what the insertion's code answers and leaves
 module _ (r : ℕ) (X K : List ℕ) (S : Store) (e : store X K r ≡ S) where
-  pub inserted-answer : (m : Map) → _≡_ {A = InsertAnswer} (record { no = 0; slot = m .count; count = m .count + 1; root = r }) (insertDone m S)
-  inserted-answer m = ap (λ (T : Store). insertDone m T) e
+  pub inserted-answer : (m : Map) (j k : ℕ) → j ≡ k
+      → _≡_ {A = InsertAnswer} (record { no = 0; slot = m .count; count = m .count + 1; root = r; reach = j }) (insertDone m S k)
+  inserted-answer m j k f = λ t. insertDone m (e t) (f t)
 
   pub inserted-words : X ≡ S .words
   inserted-words = ap (λ (T : Store). T .words) e

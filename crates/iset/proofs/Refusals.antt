@@ -218,7 +218,7 @@ module _ (m : Map) (W C : List ℕ) (s : ℕ) where
       (λ e. passed-row 3 (NoSuch m s) accept 0 (ltb s (m .count)) (omega arith)
       (λ t p. omega (arith, ltb-true s (m .count) t)) (ltb-false s (m .count)) (λ t. refl)))
 
-  -- "the map .. as given .., value and counts 0, .. pairs U"
+  -- "the map .. as given .., value and counts 0, .. pairs U", and document 02, item 9: "a refusal 0"
   pub remove-leaves : (removeCall m W C s .no ≡ 0 → ⊥)
       → (removeCall m W C s
       ≡ record {
@@ -227,6 +227,7 @@ module _ (m : Map) (W C : List ℕ) (s : ℕ) where
         count = m .count;
         root = m .root;
         pairs = record { first = none; second = none; third = none };
+        reach = 0;
       })
       × (removeNodes m W C s ≡ W) × (removeColours m W C s ≡ C)
   unfolding removeCall removeNodes removeColours
@@ -265,7 +266,7 @@ module _ (m : Map) (W C : List ℕ) (e : Entry) where
 
   -- "the map .. as given .., slot .. U"
   pub insert-leaves : (insertCall m W C e .no ≡ 0 → ⊥)
-      → (insertCall m W C e ≡ record { no = insertCall m W C e .no; slot = U; count = m .count; root = m .root })
+      → (insertCall m W C e ≡ record { no = insertCall m W C e .no; slot = U; count = m .count; root = m .root; reach = 0 })
       × (insertNodes m W C e ≡ W) × (insertColours m W C e ≡ C)
   unfolding insertCall insertNodes insertColours
   insert-leaves d =

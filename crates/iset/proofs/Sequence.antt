@@ -24,8 +24,8 @@ use Rattle.tree_in_laws.proofs.Inside.{inserted-inside}
 use Rattle.tree_in_laws.proofs.Sequence.{ran}
 use Rattle.iset.specs.Check.{checkRule}
 use Rattle.iset.specs.Build.{buildNumber, BuildAnswer, buildRule, buildNodes, buildColour}
-use Rattle.iset.specs.Remove.{removeNumber, RemoveAnswer, refusedRemoval, removeDone, removeCall, removeNodes, removeColours}
-use Rattle.iset.specs.Insert.{insertNumber, InsertAnswer, refusedInsertion, insertDone, insertCall, insertNodes, insertColours}
+use Rattle.iset.specs.Remove.{removeNumber, RemoveAnswer, refusedRemoval, removeDone, removeReach, removeCall, removeNodes, removeColours}
+use Rattle.iset.specs.Insert.{insertNumber, InsertAnswer, refusedInsertion, insertDone, insertReach, insertCall, insertNodes, insertColours}
 use Rattle.iset.specs.Maps.{emptyMap}
 use Rattle.iset.specs.Sequence.{Call, build, remove, insert, State, answered, allAnswered, openAnswered, allOpenAnswered}
 use Rattle.iset.specs.declared.Map.{Map}
@@ -101,7 +101,7 @@ module _ (m : Map) (W C : List ℕ) where
     unfolding removeCall removeNodes removeColours
     remove-sound s =
         let R : Removal = removeRule W C (m .count) (m .root) s in
-        by-number (λ (a : RemoveAnswer). a .count) (λ (a : RemoveAnswer). a .root) (removeNumber m W C s) (removeDone m R)
+        by-number (λ (a : RemoveAnswer). a .count) (λ (a : RemoveAnswer). a .root) (removeNumber m W C s) (removeDone m R (removeReach m W C s))
         (refusedRemoval m (removeNumber m W C s)) (R .store .words) W (R .store .colours) C
         (λ e. let i : Inside (m .count) W C (R .store) = removed-inside W C (m .count) (m .root) s (removals.accepts m W C s e .1) in
         zero-check (record { count = m .count - 1; root = R .store .root }) (R .store .words) (R .store .colours)
@@ -112,7 +112,7 @@ module _ (m : Map) (W C : List ℕ) where
     unfolding insertCall insertNodes insertColours
     insert-sound e =
         let R : Store = insertRule W C (m .count) (m .root) e in
-        by-number (λ (a : InsertAnswer). a .count) (λ (a : InsertAnswer). a .root) (insertNumber m W C e) (insertDone m R)
+        by-number (λ (a : InsertAnswer). a .count) (λ (a : InsertAnswer). a .root) (insertNumber m W C e) (insertDone m R (insertReach m W C e))
         (refusedInsertion m (insertNumber m W C e)) (R .words) W (R .colours) C
         (λ z. let i : Inside (m .count + 1) W C R = inserted-inside W C (m .count) (m .root) e in
         zero-check (record { count = m .count + 1; root = R .root }) (R .words) (R .colours)

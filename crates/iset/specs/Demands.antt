@@ -1,20 +1,25 @@
--- The three demands, each as one statement about what the public calls answer and leave. A call's rule (specs/Check to Lookup) is what its code is
--- proved to answer and leave on every input, so a statement about the rules is one about the calls. `proofs/Demands` proves all three.
+-- The three demands, and document 02's item 9, each as one statement about what the public calls answer and leave. A call's rule (specs/Check to Lookup) is
+-- what its code is proved to answer and leave on every input, so a statement about the rules is one about the calls. `proofs/Demands` proves them.
 use mathlib.Core.Path.{_≡_}
+use mathlib.Core.Logic.{_≢_}
 use mathlib.Core.List.{List}
 use Prim.Native.Nat.{ℕ, _-_, _+_, _/_, _≤_}
 use lib.ListN.{length}
 use Rattle.words.specs.Ix.{U}
-use Rattle.words.specs.Nodes.{entry}
+use Rattle.words.specs.Nodes.{hull, entry}
 use Rattle.words.specs.declared.interval.Interval.{Interval}
 use Rattle.words.specs.declared.interval.Span.{Span}
 use Rattle.words.specs.declared.node.Entry.{Entry}
 use Rattle.tree.specs.Passes.{Passes}
 use Rattle.builder_laws.specs.Built.{Built}
-use Rattle.tree_rm_laws.specs.Remove.{Store, store, Removal}
+use Rattle.tree_rm_laws.specs.Remove.{vacated, Store, store, Removal}
+use Rattle.tree_rm_laws.specs.Reach.{changes, removeHulls, cutFrom, lastStep, Follows}
 use Rattle.tree_rm_laws.specs.Removed.{Removed}
 use Rattle.tree_rm_laws.specs.With.{removeWith}
+use Rattle.tree_in_laws.specs.Descent.{under}
+use Rattle.tree_in_laws.specs.Insert.{own, hungWords}
 use Rattle.tree_in_laws.specs.Inserted.{Inserted, insertWith}
+use Rattle.tree_in_laws.specs.Reach.{insertHulls}
 use Rattle.iter.specs.Cursors.{ended}
 use Rattle.iter.specs.declared.Cursor.{Cursor}
 use Rattle.iter.specs.declared.rules.Query.{Query}
@@ -90,3 +95,25 @@ pub record Demand3 (m : Map) (W C : List ℕ) : Type 0 where
       → OverlapRun m W C q (P .tree) l
   pub exact : checkRule m W C ≡ 0 → (x : Interval) → (BadInterval (x .start) (x .end) → ⊥) → (P : Passes W C (m .count) (m .root)) (l : List Ask)
       → ExactRun m W C x (P .tree) l
+
+-- Document 02, item 9: "removal and insertion return the sum, a refusal 0 .. Prove the sum equal to the changes in document 01's and item 1's steps."
+-- `removeHulls` and `insertHulls` list the hulls that are worked out, each with the words that it is worked out in; `changes` counts those of them of which
+-- either end changes. `Follows` ties such a list to what is left: from the first words to the last these hulls are worked out, in this order, and no hull
+-- changes in between.
+pub record Request9 (m : Map) (W C : List ℕ) : Type 0 where
+  pub remove-sum : (s : ℕ) → removeCall m W C s .no ≡ 0 → removeCall m W C s .reach ≡ changes (m .count) (removeHulls W C (m .count) (m .root) s)
+  -- up to the words in which the last slot moves, with its hull, into the emptied one
+  pub remove-hulls : (s : ℕ) → removeCall m W C s .no ≡ 0
+      → Follows (m .count) W (removeHulls W C (m .count) (m .root) s) (cutFrom W C (m .count) (m .root) s (vacated (m .count) W s))
+  pub remove-moves : (s : ℕ) → removeCall m W C s .no ≡ 0
+      → removal m W C s .store
+      ≡ lastStep (cutFrom W C (m .count) (m .root) s (vacated (m .count) W s)) W C (m .count) (m .root) s (vacated (m .count) W s)
+  pub remove-none : (s : ℕ) → (removeCall m W C s .no ≡ 0 → ⊥) → removeCall m W C s .reach ≡ 0
+  pub insert-sum : (e : Entry) → insertCall m W C e .no ≡ 0 → insertCall m W C e .reach ≡ changes (m .count + 1) (insertHulls W C (m .count) (m .root) e)
+  -- from the words in which the new node hangs: its first hull is set and not worked out, and every other hull is as it was
+  pub insert-hangs : (e : Entry) → insertCall m W C e .no ≡ 0
+      → (hull (hungWords W (m .count) e (under (m .count) W (m .root) (own e))) (m .count) ≡ own e)
+      × ((a : ℕ) → a ≢ m .count → hull (hungWords W (m .count) e (under (m .count) W (m .root) (own e))) a ≡ hull W a)
+  pub insert-hulls : (e : Entry) → insertCall m W C e .no ≡ 0
+      → Follows (m .count + 1) (hungWords W (m .count) e (under (m .count) W (m .root) (own e))) (insertHulls W C (m .count) (m .root) e) (insertNodes m W C e)
+  pub insert-none : (e : Entry) → (insertCall m W C e .no ≡ 0 → ⊥) → insertCall m W C e .reach ≡ 0

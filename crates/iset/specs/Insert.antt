@@ -9,7 +9,9 @@ use Rattle.words.specs.Nodes.{room}
 use Rattle.words.specs.Refusals.{refusalNumber}
 use Rattle.words.specs.declared.node.Entry.{Entry}
 use Rattle.tree_rm_laws.specs.Remove.{Store}
+use Rattle.tree_rm_laws.specs.Reach.{changes}
 use Rattle.tree_in_laws.specs.Insert.{insertRule}
+use Rattle.tree_in_laws.specs.Reach.{insertHulls}
 use Rattle.iset.specs.Check.{first, checkRule}
 use Rattle.iset.specs.declared.Map.{Map}
 use Rattle.iset.specs.declared.insert.Insertion.{Insertion}
@@ -33,28 +35,33 @@ roomThenCheck m W C = first (fullNumber m W C) (checkRule m W C)
 unfoldable pub insertNumber : Map → List ℕ → List ℕ → Entry → ℕ
 insertNumber m W C e = first (roomThenCheck m W C) (openInsertNumber m W C e)
 
--- an answer by the papers' numbers: the slot of the new entry and the new map
+-- an answer by the papers' numbers: the slot of the new entry, the new map, and by item 9 how many hulls changed
 pub record InsertAnswer : Type 0 where
   pub no : ℕ
   pub slot : ℕ
   pub count : ℕ
   pub root : ℕ
+  pub reach : ℕ
 
--- a refusal: "the map .. as given .., slot .. U"
+-- a refusal: "the map .. as given .., slot .. U", and by item 9 "a refusal 0"
 abbrev pub refusedInsertion : Map → ℕ → InsertAnswer
-refusedInsertion m k = record { no = k; slot = U; count = m .count; root = m .root }
+refusedInsertion m k = record { no = k; slot = U; count = m .count; root = m .root; reach = 0 }
 
 abbrev pub insertPaper : Map → Insertion → InsertAnswer
-insertPaper m (Done g) = record { no = 0; slot = g .slot; count = g .map .count; root = g .map .root }
+insertPaper m (Done g) = record { no = 0; slot = g .slot; count = g .map .count; root = g .map .root; reach = g .reach }
 insertPaper m (Refused y) = refusedInsertion m (refusalNumber y)
 
--- what the rule of insertion answers: "slot count is always the next one"
-abbrev pub insertDone : Map → Store → InsertAnswer
-insertDone m S = record { no = 0; slot = m .count; count = m .count + 1; root = S .root }
+-- what the rule of insertion answers, with k changed hulls: "slot count is always the next one"
+abbrev pub insertDone : Map → Store → ℕ → InsertAnswer
+insertDone m S k = record { no = 0; slot = m .count; count = m .count + 1; root = S .root; reach = k }
+
+-- how many of the hulls that an insertion works out change
+abbrev pub insertReach : Map → List ℕ → List ℕ → Entry → ℕ
+insertReach m W C e = changes (m .count + 1) (insertHulls W C (m .count) (m .root) e)
 
 -- a call that is refused by the number k, or not: answer, words and colours
 abbrev pub insertBy : Map → List ℕ → List ℕ → Entry → ℕ → InsertAnswer
-insertBy m W C e k = cond (eqb k 0) (insertDone m (insertRule W C (m .count) (m .root) e)) (refusedInsertion m k)
+insertBy m W C e k = cond (eqb k 0) (insertDone m (insertRule W C (m .count) (m .root) e) (insertReach m W C e)) (refusedInsertion m k)
 
 abbrev pub insertNodesBy : Map → List ℕ → List ℕ → Entry → ℕ → List ℕ
 insertNodesBy m W C e k = cond (eqb k 0) (insertRule W C (m .count) (m .root) e .words) W

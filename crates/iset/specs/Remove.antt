@@ -7,6 +7,7 @@ use Rattle.words.specs.Ix.{U}
 use Rattle.words.specs.Refusals.{refusalNumber}
 use Rattle.tree_rm_laws.specs.Pairs.{none}
 use Rattle.tree_rm_laws.specs.Remove as rule
+use Rattle.tree_rm_laws.specs.Reach.{changes, removeHulls}
 use Rattle.tree_rm_laws.specs.declared.pairs.Pair.{Pair}
 use Rattle.tree_rm_laws.specs.declared.pairs.Pairs.{Pairs}
 use Rattle.iset.specs.Check.{first, countNumber, checkRule}
@@ -22,30 +23,36 @@ openRemoveNumber m W C s = first (countNumber m W C) (cond (ltb s (m .count)) 0 
 unfoldable pub removeNumber : Map → List ℕ → List ℕ → ℕ → ℕ
 removeNumber m W C s = first (checkRule m W C) (openRemoveNumber m W C s)
 
--- an answer by this paper's numbers: "removed value, new map, and up to three pairs"
+-- an answer by this paper's numbers: "removed value, new map, and up to three pairs", and document 02, item 9: how many hulls changed
 pub record RemoveAnswer : Type 0 where
   pub no : ℕ
   pub value : ℕ
   pub count : ℕ
   pub root : ℕ
   pub pairs : Pairs
+  pub reach : ℕ
 
--- a refusal: "the map .. as given .., value and counts 0, slot and pairs U"
+-- a refusal: "the map .. as given .., value and counts 0, slot and pairs U", and by item 9 "a refusal 0"
 abbrev pub refusedRemoval : Map → ℕ → RemoveAnswer
 refusedRemoval m k =
-    record { no = k; value = 0; count = m .count; root = m .root; pairs = record { first = none; second = none; third = none } }
+    record { no = k; value = 0; count = m .count; root = m .root; pairs = record { first = none; second = none; third = none }; reach = 0 }
 
 abbrev pub removePaper : Map → Removal → RemoveAnswer
-removePaper m (Done g) = record { no = 0; value = g .value; count = g .map .count; root = g .map .root; pairs = g .pairs }
+removePaper m (Done g) = record { no = 0; value = g .value; count = g .map .count; root = g .map .root; pairs = g .pairs; reach = g .reach }
 removePaper m (Refused y) = refusedRemoval m (refusalNumber y)
 
--- what the rule of removal answers
-abbrev pub removeDone : Map → rule.Removal → RemoveAnswer
-removeDone m R = record { no = 0; value = R .value; count = m .count - 1; root = R .store .root; pairs = R .pairs }
+-- what the rule of removal answers, with k changed hulls
+abbrev pub removeDone : Map → rule.Removal → ℕ → RemoveAnswer
+removeDone m R k = record { no = 0; value = R .value; count = m .count - 1; root = R .store .root; pairs = R .pairs; reach = k }
+
+-- how many of the hulls that a removal works out change
+abbrev pub removeReach : Map → List ℕ → List ℕ → ℕ → ℕ
+removeReach m W C s = changes (m .count) (removeHulls W C (m .count) (m .root) s)
 
 -- a call that is refused by the number k, or not: answer, words and colours
 abbrev pub removeBy : Map → List ℕ → List ℕ → ℕ → ℕ → RemoveAnswer
-removeBy m W C s k = cond (eqb k 0) (removeDone m (rule.removeRule W C (m .count) (m .root) s)) (refusedRemoval m k)
+removeBy m W C s k =
+    cond (eqb k 0) (removeDone m (rule.removeRule W C (m .count) (m .root) s) (removeReach m W C s)) (refusedRemoval m k)
 
 abbrev pub removeNodesBy : Map → List ℕ → List ℕ → ℕ → ℕ → List ℕ
 removeNodesBy m W C s k = cond (eqb k 0) (rule.removeRule W C (m .count) (m .root) s .store .words) W

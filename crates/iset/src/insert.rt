@@ -10,12 +10,13 @@ ghost use Prim.Native.Nat.{_+_, _*_, _≤_, _<_};
 ghost use lib.ListN.{length};
 ghost use Rattle.tree_in_laws.specs.Insert.{insertRule};
 ghost use Rattle.iset.specs.Check.{checkNumber};
-ghost use Rattle.iset.specs.Insert.{entryOf, fullNumber, openInsertNumber, roomThenCheck, insertDone, insertPaper, openInsertCall, openInsertNodes, openInsertColours, insertCall, insertNodes, insertColours};
+ghost use Rattle.iset.specs.Insert.{entryOf, fullNumber, openInsertNumber, roomThenCheck, insertDone, insertReach, insertPaper, openInsertCall, openInsertNodes, openInsertColours, insertCall, insertNodes, insertColours};
 
-// The map with the entry, and the entry's slot.
+// The map with the entry, the entry's slot, and how many hulls changed.
 pub struct Added {
     pub map: Map,
     pub slot: u64,
+    pub reach: u64,
 }
 
 // What an insertion answers. Where it is refused the map is as it was given.
@@ -60,17 +61,18 @@ impl Map {
     // The insertion of an entry that there is room for.
     fn insert_entry(self, nodes: &mut [u64], colours: &mut [u8], entry: Entry) -> Insertion
         requires { ⌜ (self .count * 8 + 8 ≤ length (now nodes)) × (self .count < length (now colours) * 8) ⌝ }
-        ensures { λ r. ⌜ (insertPaper self r ≡ insertDone self (insertRule (now (nodes .entry)) (now (colours .entry)) (self .count) (self .root) entry))
+        ensures { λ r. ⌜ (insertPaper self r ≡ insertDone self (insertRule (now (nodes .entry)) (now (colours .entry)) (self .count) (self .root) entry) (insertReach self (now (nodes .entry)) (now (colours .entry)) entry))
             × (now (nodes .exit) ≡ insertRule (now (nodes .entry)) (now (colours .entry)) (self .count) (self .root) entry .words)
             × (now (colours .exit) ≡ insertRule (now (nodes .entry)) (now (colours .entry)) (self .count) (self .root) entry .colours) ⌝ }
     {
-        let root = force_insert(nodes, colours, self.count, self.root, entry);
+        let r = force_insert(nodes, colours, self.count, self.root, entry);
         Insertion::Done(Added {
             map: Map {
                 count: self.count + 1,
-                root,
+                root: r.root,
             },
             slot: self.count,
+            reach: r.reach,
         })
     }
 

@@ -10,13 +10,14 @@ ghost use Prim.Native.Nat.{_*_, _≤_, _<_};
 ghost use lib.ListN.{length};
 ghost use Rattle.tree_rm_laws.specs.Remove.{removeRule};
 ghost use Rattle.iset.specs.Check.{checkNumber};
-ghost use Rattle.iset.specs.Remove.{slotAfter, removeDone, removePaper, openRemoveNumber, openRemoveCall, openRemoveNodes, openRemoveColours, removeCall, removeNodes, removeColours};
+ghost use Rattle.iset.specs.Remove.{slotAfter, removeDone, removeReach, removePaper, openRemoveNumber, openRemoveCall, openRemoveNodes, openRemoveColours, removeCall, removeNodes, removeColours};
 
-// The map without the entry, the entry's value, and the other entries that changed slot.
+// The map without the entry, the entry's value, the other entries that changed slot, and how many hulls changed.
 pub struct Gone {
     pub map: Map,
     pub value: u64,
     pub pairs: Pairs,
+    pub reach: u64,
 }
 
 impl Gone {
@@ -61,7 +62,7 @@ impl Map {
     // The removal of a slot that is there.
     fn remove_slot(self, nodes: &mut [u64], colours: &mut [u8], slot: u64) -> Removal
         requires { ⌜ (self .count * 8 ≤ length (now nodes)) × (self .count ≤ length (now colours) * 8) × (slot < self .count) ⌝ }
-        ensures { λ r. ⌜ (removePaper self r ≡ removeDone self (removeRule (now (nodes .entry)) (now (colours .entry)) (self .count) (self .root) slot))
+        ensures { λ r. ⌜ (removePaper self r ≡ removeDone self (removeRule (now (nodes .entry)) (now (colours .entry)) (self .count) (self .root) slot) (removeReach self (now (nodes .entry)) (now (colours .entry)) slot))
             × (now (nodes .exit) ≡ removeRule (now (nodes .entry)) (now (colours .entry)) (self .count) (self .root) slot .store .words)
             × (now (colours .exit) ≡ removeRule (now (nodes .entry)) (now (colours .entry)) (self .count) (self .root) slot .store .colours) ⌝ }
     {
@@ -74,6 +75,7 @@ impl Map {
             },
             value: r.value,
             pairs,
+            reach: r.reach,
         })
     }
 

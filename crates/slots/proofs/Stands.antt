@@ -14,7 +14,7 @@ use Rattle.tree_rm_laws.specs.Remove.{removeRule}
 use Rattle.tree_rm_laws.specs.Removed.{Inside}
 use Rattle.tree_rm_laws.proofs.Inside.{removed-inside}
 use Rattle.iset.specs.Build.{BuildAnswer, buildNumber, buildRule, buildNodes, buildColour}
-use Rattle.iset.specs.Remove.{RemoveAnswer, removeNumber, refusedRemoval, removeDone, removeCall, removeNodes, removeColours}
+use Rattle.iset.specs.Remove.{RemoveAnswer, removeNumber, refusedRemoval, removeDone, removeReach, removeCall, removeNodes, removeColours}
 use Rattle.iset.specs.declared.Map.{Map}
 use Rattle.iset.proofs.Builds.{Accepted, accepted, builds}
 use Rattle.iset.proofs.Removals.{accepts}
@@ -97,7 +97,7 @@ unfolding removeCall
 remove-number m W C k e = go (eqb (removeNumber m W C k) 0) refl e
   where
     go : (t : Bool) → eqb (removeNumber m W C k) 0 ≡ t
-        → cond {A = RemoveAnswer} t (removeDone m (removeRule W C (m .count) (m .root) k)) (refusedRemoval m (removeNumber m W C k)) .no ≡ 0
+        → cond {A = RemoveAnswer} t (removeDone m (removeRule W C (m .count) (m .root) k) (removeReach m W C k)) (refusedRemoval m (removeNumber m W C k)) .no ≡ 0
         → removeNumber m W C k ≡ 0
     go true f z = eqb-true (removeNumber m W C k) 0 f
     go false f z = z

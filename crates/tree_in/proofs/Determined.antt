@@ -4,10 +4,10 @@ use contract.Lifetimes.{Lfts}
 use borrow.Fn.Kinds as K
 use denote.Triple.Clauses.{AtExit}
 use denote.Ref.{now}
-use Rattle.tree_rm_laws.proofs.Told.{store-told}
+use Rattle.tree_rm_repair.proofs.Determined.{repaired-told}
 use Rattle.tree_in.proofs.force_insert.Reads as reads
 use Rattle.tree_in.proofs.force_insert.Kinds as kinds
 
 pub force-insert-determined : (κs : Lfts 2) (a : K.Dens κs kinds.ps) (r r′ : K.resT kinds.r κs .Denot) (s s′ : AtExit (K.endedOf 2 kinds.ps kinds.r) κs)
     → reads.Post κs a r s → reads.Post κs a r′ s′ → (r ≡ r′) × (now (s .0) ≡ now (s′ .0)) × (now (s .1 .0) ≡ now (s′ .1 .0))
-force-insert-determined κs a r r′ s s′ p q = store-told _ _ _ _ _ r r′ p q
+force-insert-determined κs a r r′ s s′ p q = repaired-told _ _ _ _ _ _ r r′ (p .0) (q .0) (p .1) (q .1)

@@ -15,10 +15,14 @@ use Rattle.words.proofs.Laws.{linked, slot-live}
 use Rattle.bitvec.specs.Colours.{dye}
 use Rattle.tree_rm_laws.specs.Links.{fixUp}
 use Rattle.tree_rm_laws.specs.Remove.{Store, store, ending}
+use Rattle.tree_rm_laws.specs.Reach.{changes, upHulls}
+use Rattle.tree_rm_laws.proofs.Reached.{changes-append, changes-le, up-most}
 use Rattle.tree_rm_links.proofs.LinkLaws.{read-linked, read-unlinked}
 use Rattle.tree_in_laws.specs.Descent.{goesLeft, descend, under}
 use Rattle.tree_in_laws.specs.Insert.{own, hungNode, hungWords, hungRoot, hung, mended, insertRule}
 use Rattle.tree_in_laws.specs.Mend.{mend}
+use Rattle.tree_in_laws.specs.Reach.{mendHulls, mendedHulls, insertHulls}
+use Rattle.tree_in_laws.proofs.Reached.{mend-most}
 
 -- one step of the way down
 module _ (n : ℕ) (W : List ℕ) (x : Interval) (t k : ℕ) where
@@ -69,6 +73,19 @@ pub mended-is : (W C X D Y : List ℕ) (n r q x : ℕ) → store X D q ≡ endin
     → store Y D q ≡ mended (store W C r) n x
 unfolding mended
 mended-is W C X D Y n r q x e f = rw (← e, ← f)
+
+module _ (n : ℕ) (W C : List ℕ) (r x j : ℕ) (e : j ≡ changes n (mendHulls n 32 W C r x)) (X : List ℕ) (k : ℕ) (f : k ≡ changes n (upHulls n 32 X x)) where
+  pub mended-changes : (D : List ℕ) (q : ℕ) → store X D q ≡ ending (mend n 32 W C r x) → j + k ≡ changes n (mendedHulls (store W C r) n x)
+  unfolding mendedHulls
+  mended-changes D q g = rw (← g, changes-append n (mendHulls n 32 W C r x) (upHulls n 32 X x), ← e, ← f)
+
+  pub mended-fits : j + k < 18446744073709551616
+  mended-fits = omega (arith, mend-most n 32 W C r x, changes-le n (upHulls n 32 X x), up-most n 32 X x)
+
+pub insert-changes : (W C X D : List ℕ) (n r q p : ℕ) (e : Entry) (i : Interval) (k : ℕ) → i ≡ own e → p ≡ under n W r i
+    → store X D q ≡ hung W C n r e p → k ≡ changes (n + 1) (mendedHulls (store X D q) (n + 1) n) → k ≡ changes (n + 1) (insertHulls W C n r e)
+unfolding insertHulls
+insert-changes W C X D n r q p e i k f g h j = rw (← f, ← g, ← h) j
 
 pub insert-is : (W C X D : List ℕ) (n r q p : ℕ) (e : Entry) (i : Interval) (S : Store) → i ≡ own e → p ≡ under n W r i
     → store X D q ≡ hung W C n r e p → S ≡ mended (store X D q) (n + 1) n → S ≡ insertRule W C n r e

@@ -1,8 +1,8 @@
 -- The turns of the repair, in the form that `search` takes.
 use mathlib.Core.Path.{_≡_, refl, sym, ap, _∙_}
 use mathlib.Core.Bool.{Bool, true, false, cond, not}
-use mathlib.Core.List.{List}
-use Prim.Native.Nat.{ℕ, _*_, _<_, _≤_}
+use mathlib.Core.List.{List, []}
+use Prim.Native.Nat.{ℕ, _+_, _*_, _<_, _≤_}
 use native.Mathlib.Omega.{arith}
 use lib.ListN.{length}
 use lib.Dec.{eqb}
@@ -14,16 +14,24 @@ use Rattle.words.specs.declared.ix.Link.the-variants.{Slot, Nil}
 use Rattle.bitvec.specs.Colours.{red, redAt, dye}
 use Rattle.tree_rm_laws.specs.Links.{rootAfter}
 use Rattle.tree_rm_laws.specs.Repair.{turn, Next, done, again}
-use Rattle.tree_rm_links.proofs.LinkLaws.{read-linked, read-unlinked}
-use Rattle.tree_rm_repair.proofs.Loops.{Loop, link-stays}
-use Rattle.tree_rm_repair.proofs.Turns.{at-side, red-child, red-fits}
+use Rattle.tree_rm_laws.specs.Reach.{Work, changes, bothHulls}
+use Rattle.tree_rm_laws.proofs.Reached.{changes-append, changes-le}
+use Rattle.tree_rm_links.proofs.LinkLaws.{read-linked, read-unlinked, hulls-linked, hulls-unlinked}
+use Rattle.tree_rm_repair.proofs.Loops.{Loop, Counted, link-stays}
+use Rattle.tree_rm_repair.proofs.Turns.{at-side, side-changes, red-child, red-fits}
 use Rattle.tree_in_laws.specs.Mend.{rotated, outer, inner, recoloured, mendAt, mendBelow, mendStep, mend}
+use Rattle.tree_in_laws.specs.Reach.{rotatedHulls, outerHulls, innerHulls, mendAtHulls, mendBelowHulls, mendStepHulls, mendHulls}
+use Rattle.tree_in_laws.proofs.Reached.{mend-turn-le}
 
 -- the rotations
-pub rotated-is : (n : ℕ) (W : List ℕ) (b : Bool) (P S : ℕ) (W₁ W₂ W₃ : List ℕ) → W₁ ≡ turn n W b P S → W₂ ≡ fix n W₁ P → W₃ ≡ fix n W₂ S
-    → W₃ ≡ rotated n W b P S
-unfolding rotated
-rotated-is n W b P S W₁ W₂ W₃ e f g = rw (← e, ← f) g
+module _ (n : ℕ) (W : List ℕ) (b : Bool) (P S : ℕ) (W₁ : List ℕ) (e : W₁ ≡ turn n W b P S) where
+  pub rotated-is : (W₂ : List ℕ) → W₂ ≡ fix n (fix n W₁ P) S → W₂ ≡ rotated n W b P S
+  unfolding rotated
+  rotated-is W₂ f = rw (← e) f
+
+  pub rotated-changes : (k : ℕ) → k ≡ changes n (bothHulls n W₁ P S) → k ≡ changes n (rotatedHulls n W b P S)
+  unfolding rotatedHulls
+  rotated-changes k f = rw (← e) f
 
 pub outer-is : (n : ℕ) (W C : List ℕ) (r : ℕ) (b : Bool) (P G : ℕ) (X C₁ C₂ : List ℕ) (q : ℕ) → q ≡ rootAfter n W r G P → X ≡ rotated n W (not b) G P
     → C₁ ≡ dye C P false → C₂ ≡ dye C₁ G true → done X C₂ q ≡ outer n W C r b P G
@@ -34,6 +42,31 @@ pub inner-is : (n : ℕ) (W C : List ℕ) (r x : ℕ) (b : Bool) (P G : ℕ) (X 
     → N ≡ inner n W C r x b P G
 unfolding inner
 inner-is n W C r x b P G X N e f = rw (← e) f
+
+-- how many hulls change in them
+pub rotated-most : (n : ℕ) (W : List ℕ) (b : Bool) (P S k : ℕ) → k ≡ changes n (rotatedHulls n W b P S) → k ≤ 2
+unfolding rotatedHulls
+rotated-most n W b P S k e = omega (arith, changes-le n (rotatedHulls n W b P S))
+
+pub rotated-fits : (n : ℕ) (W : List ℕ) (b : Bool) (P S j k : ℕ) → k ≡ changes n (rotatedHulls n W b P S) → j ≤ 2 → j + k < 18446744073709551616
+rotated-fits n W b P S j k e h = omega (arith, rotated-most n W b P S k e)
+
+pub outer-changes : (n : ℕ) (W : List ℕ) (b : Bool) (P G j k : ℕ) → k ≡ changes n (rotatedHulls n W (not b) G P) → j + k ≡ j + changes n (outerHulls n W b P G)
+unfolding outerHulls
+outer-changes n W b P G j k e = rw e
+
+pub inner-changes : (n : ℕ) (W X : List ℕ) (x : ℕ) (b : Bool) (P G j k : ℕ) → X ≡ rotated n W b P x → j ≡ changes n (rotatedHulls n W b P x)
+    → k ≡ j + changes n (outerHulls n X b x G) → k ≡ changes n (innerHulls n W x b P G)
+unfolding innerHulls
+inner-changes n W X x b P G j k e f g = g ∙ rw (f, e, changes-append n (rotatedHulls n W b P x) (outerHulls n (rotated n W b P x) b x G))
+
+-- a test of a word that was read, and the hulls behind it
+module _ (n v w x k : ℕ) (l m : List Work) (e : w ≡ v) where
+  pub equal-changes : w ≡ x → k ≡ changes n l → k ≡ changes n (cond (eqb v x) l m)
+  equal-changes q h = rw (← e, eq-eqb w x q) h
+
+  pub unequal-changes : (w ≡ x → ⊥) → k ≡ 0 + changes n m → k ≡ changes n (cond (eqb v x) l m)
+  unequal-changes q h = rw (← e, ne-eqb w x q) (h ∙ omega arith)
 
 -- a test of a word that was read
 module _ {A : Type 0} (v w x : ℕ) (r y z : A) (e : w ≡ v) where
@@ -54,6 +87,15 @@ module _ (n : ℕ) (C : List ℕ) (u : ℕ) (v : Bool) (f : v ≡ not (redAt n C
     unfolding mendAt
     uncle-black N q h = rw (← e, red-child v (redAt n C u) false f (ap not q)) h
 
+    pub black-changes : (k : ℕ) → v ≡ true → k ≡ changes n (cond (eqb (kid W (not b) P) x) (innerHulls n W x b P G) (outerHulls n W b P G))
+        → k ≡ changes n (mendAtHulls n W C x P G b)
+    unfolding mendAtHulls
+    black-changes k q h = rw (← e, red-child v (redAt n C u) false f (ap not q)) h
+
+    pub red-changes : v ≡ false → 0 ≡ changes n (mendAtHulls n W C x P G b)
+    unfolding mendAtHulls
+    red-changes q = rw (← e, red-child v (redAt n C u) true f (ap not q))
+
     pub uncle-red : (D : List ℕ) → v ≡ false → D ≡ dye (dye (dye C P false) u false) G true → again W D r G ≡ mendAt n W C r x P G b
     unfolding mendAt recoloured
     uncle-red D q h = rw (← e, red-child v (redAt n C u) true f (ap not q), ← h)
@@ -63,6 +105,28 @@ pub at-grandparent : (n : ℕ) (W C : List ℕ) (r x P : ℕ) (N : Next) (w g t 
     → t ≡ kid W true g → N ≡ mendAt n W C r x P g (eqb t P) → N ≡ mendBelow n W C r x P
 unfolding mendBelow
 at-grandparent n W C r x P N w g t l e q k f h = at-side (λ (G : ℕ) (b : Bool). mendAt n W C r x P G b) (done W C r) n W P N w g t l e q k f h
+
+pub grandparent-changes : (n : ℕ) (W C : List ℕ) (x P k w g t : ℕ) (l : Link) → w ≡ par W P → l ≡ linkOf n w → l ≡ Slot g → t ≡ kid W true g
+    → k ≡ changes n (mendAtHulls n W C x P g (eqb t P)) → k ≡ changes n (mendBelowHulls n W C x P)
+unfolding mendBelowHulls
+grandparent-changes n W C x P k w g t l e q z f h = side-changes (λ (G : ℕ) (b : Bool). mendAtHulls n W C x P G b) n W P k w g t l e q z f h
+
+module _ (n : ℕ) (W C : List ℕ) (x w : ℕ) (l : Link) (e : w ≡ par W x) (f : l ≡ linkOf n w) where
+  abbrev hulls-below : ℕ → List Work
+  hulls-below P = cond (red C P) (mendBelowHulls n W C x P) []
+
+  pub root-changes : l ≡ Nil → 0 ≡ changes n (mendStepHulls n W C x)
+  unfolding mendStepHulls
+  root-changes q = hulls-unlinked 0 n (par W x) w l hulls-below e f q refl
+
+  module _ (p : ℕ) (v : Bool) (q : l ≡ Slot p) (g : v ≡ red C p) where
+    pub below-changes : (k : ℕ) → v ≡ true → k ≡ changes n (mendBelowHulls n W C x p) → k ≡ changes n (mendStepHulls n W C x)
+    unfolding mendStepHulls
+    below-changes k z h = hulls-linked k n (par W x) w l hulls-below e f p q (rw (sym g ∙ z) h)
+
+    pub quiet-black : v ≡ false → 0 ≡ changes n (mendStepHulls n W C x)
+    unfolding mendStepHulls
+    quiet-black z = hulls-linked 0 n (par W x) w l hulls-below e f p q (rw (sym g ∙ z))
 
 module _ (n : ℕ) (W C : List ℕ) (r x w : ℕ) (l : Link) (e : w ≡ par W x) (f : l ≡ linkOf n w) where
   abbrev below : ℕ → Next
@@ -85,6 +149,10 @@ module _ (n : ℕ) (W C : List ℕ) (r x w : ℕ) (l : Link) (e : w ≡ par W x)
 pub mends : (n : ℕ) → Loop (mendStep n) (mend n)
 unfolding mend
 mends n = record { stops = λ W C r x. refl; turns = λ f W C r x. refl }
+
+pub mend-hulls : (n : ℕ) → Counted n (mendStep n) (mendStepHulls n) (mendHulls n)
+unfolding mendHulls
+mend-hulls n = record { stops = λ W C r x. refl; turns = λ f W C r x. refl; most = λ W C x. mend-turn-le n W C x }
 
 pub mend-stays : (n : ℕ) (W C : List ℕ) (r x : ℕ) (X D : List ℕ) (q i : ℕ) → x < n → mendStep n W C r x ≡ again X D q i → i < n
 unfolding mendStep mendBelow mendAt recoloured inner outer

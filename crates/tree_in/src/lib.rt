@@ -8,6 +8,7 @@ use crate::descent::slot_above;
 use crate::repair::insert_repair;
 use bitvec::colours::set_red;
 use tree_rm_links::fix_intervals_up;
+use tree_rm_repair::Repaired;
 use words::interval::Interval;
 use words::ix::Link;
 use words::ix::U;
@@ -18,7 +19,9 @@ ghost use mathlib.Core.Path.{_≡_};
 ghost use Prim.Native.Nat.{_+_, _*_, _<_, _≤_};
 ghost use lib.ListN.{length};
 ghost use Rattle.tree_rm_laws.specs.Remove.{store};
+ghost use Rattle.tree_rm_laws.specs.Reach.{changes};
 ghost use Rattle.tree_in_laws.specs.Insert.{own, hungNode, hungWords, hungRoot, hung, mended, insertRule};
+ghost use Rattle.tree_in_laws.specs.Reach.{mendedHulls, insertHulls};
 
 // The interval of an entry.
 fn interval_in(entry: Entry) -> Interval
@@ -70,26 +73,32 @@ fn insert_at(
     hang_node(nodes, count, root, entry, parent)
 }
 
-// The repair from the new node, and then its hull and those of all above it; the answer is the root.
-fn mend_from(nodes: &mut [u64], colours: &mut [u8], count: u64, root: u64, index: u64) -> u64
+// The repair from the new node, and then its hull and those of all above it.
+fn mend_from(nodes: &mut [u64], colours: &mut [u8], count: u64, root: u64, index: u64) -> Repaired
     requires { ⌜ (count * 8 ≤ length (now nodes)) × (count ≤ length (now colours) * 8) × (index < count) ⌝ }
-    ensures { λ r. ⌜ store (now (nodes .exit)) (now (colours .exit)) r ≡ mended (store (now (nodes .entry)) (now (colours .entry)) root) count index ⌝ }
+    ensures { λ r. ⌜ (store (now (nodes .exit)) (now (colours .exit)) (r .root) ≡ mended (store (now (nodes .entry)) (now (colours .entry)) root) count index)
+        × (r .reach ≡ changes count (mendedHulls (store (now (nodes .entry)) (now (colours .entry)) root) count index)) ⌝ }
 {
-    let top = insert_repair(nodes, colours, count, root, index);
-    fix_intervals_up(nodes, count, index);
-    top
+    let repaired = insert_repair(nodes, colours, count, root, index);
+    let changed = fix_intervals_up(nodes, count, index);
+    Repaired {
+        root: repaired.root,
+        reach: repaired.reach + changed,
+    }
 }
 
-// The new entry goes to slot `count`, and the count is one more then; the answer is the root. Equal intervals are kept.
+// The new entry goes to slot `count`, and the count is one more then. The answer is the root and how many hulls changed. Equal
+// intervals are kept.
 pub fn force_insert(
     nodes: &mut [u64],
     colours: &mut [u8],
     count: u64,
     root: u64,
     entry: Entry,
-) -> u64
+) -> Repaired
     requires { ⌜ (count * 8 + 8 ≤ length (now nodes)) × (count < length (now colours) * 8) ⌝ }
-    ensures { λ r. ⌜ store (now (nodes .exit)) (now (colours .exit)) r ≡ insertRule (now (nodes .entry)) (now (colours .entry)) count root entry ⌝ }
+    ensures { λ r. ⌜ (store (now (nodes .exit)) (now (colours .exit)) (r .root) ≡ insertRule (now (nodes .entry)) (now (colours .entry)) count root entry)
+        × (r .reach ≡ changes (count + 1) (insertHulls (now (nodes .entry)) (now (colours .entry)) count root entry)) ⌝ }
 {
     let parent = slot_above(nodes, count, root, interval_in(entry));
     let top = insert_at(nodes, colours, count, root, entry, parent);

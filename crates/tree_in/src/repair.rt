@@ -3,12 +3,13 @@ use bitvec::colours::is_black_or_nil;
 use bitvec::colours::is_red;
 use bitvec::colours::set_black;
 use bitvec::colours::set_red;
+use tree_rm_links::rework_both;
+use tree_rm_repair::Repaired;
 use tree_rm_repair::Turn;
 use tree_rm_repair::turn_up;
 use words::ix::Link;
 use words::node::child_of;
 use words::node::parent_of;
-use words::node::update_subtree_interval;
 ghost use mathlib.Core.Path.{_≡_};
 ghost use mathlib.Core.Bool.{true, false, cond, not};
 ghost use Prim.Native.Nat.{_+_, _*_, _<_, _≤_};
@@ -18,8 +19,10 @@ ghost use Rattle.words.specs.Nodes.{kid};
 ghost use Rattle.bitvec.specs.Colours.{dye};
 ghost use Rattle.tree_rm_laws.specs.Links.{rootAfter};
 ghost use Rattle.tree_rm_laws.specs.Remove.{store, ending};
-ghost use Rattle.tree_rm_repair.specs.Answers.{next};
+ghost use Rattle.tree_rm_laws.specs.Reach.{changes};
+ghost use Rattle.tree_rm_repair.specs.Answers.{next, reach};
 ghost use Rattle.tree_in_laws.specs.Mend.{rotated, outer, inner, mendAt, mendBelow, mendStep, mend};
+ghost use Rattle.tree_in_laws.specs.Reach.{rotatedHulls, outerHulls, innerHulls, mendAtHulls, mendBelowHulls, mendStepHulls, mendHulls};
 
 // The link word of the sibling of the child on that side.
 fn sibling(nodes: &[u64], parent: u64, left_side: bool) -> u64
@@ -29,19 +32,30 @@ fn sibling(nodes: &[u64], parent: u64, left_side: bool) -> u64
     child_of(nodes, parent, !left_side)
 }
 
-// Rotates left where `left_side`, else right: slot `up`, the child of `index` on the other side, comes up over it. The answer
-// is the root. The hull of the one that went down is worked out first: the other's depends on it.
-fn rotate(nodes: &mut [u64], count: u64, root: u64, left_side: bool, index: u64, up: u64) -> u64
+// Rotates left where `left_side`, else right: slot `up`, the child of `index` on the other side, comes up over it. The hull of
+// the one that went down is worked out first: the other's depends on it.
+fn rotate(
+    nodes: &mut [u64],
+    count: u64,
+    root: u64,
+    left_side: bool,
+    index: u64,
+    up: u64,
+) -> Repaired
     requires { ⌜ (count * 8 ≤ length (now nodes)) × (index < count) × (up < count) ⌝ }
-    ensures { λ r. ⌜ (r ≡ rootAfter count (now (nodes .entry)) root index up) × (now (nodes .exit) ≡ rotated count (now (nodes .entry)) «left_side» index up) ⌝ }
+    ensures { λ r. ⌜ (r .root ≡ rootAfter count (now (nodes .entry)) root index up) × (now (nodes .exit) ≡ rotated count (now (nodes .entry)) «left_side» index up)
+        × (r .reach ≡ changes count (rotatedHulls count (now (nodes .entry)) «left_side» index up)) ⌝ }
 {
     let top = turn_up(nodes, count, root, left_side, index, up);
-    update_subtree_interval(nodes, count, index);
-    update_subtree_interval(nodes, count, up);
-    top
+    let changed = rework_both(nodes, count, index, up);
+    Repaired {
+        root: top,
+        reach: changed,
+    }
 }
 
-// The parent, on that side of the grandparent, comes up over it: the parent becomes black and the grandparent red.
+// The parent, on that side of the grandparent, comes up over it: the parent becomes black and the grandparent red. So many
+// hulls as `before` says changed in this turn already.
 fn rotate_outer(
     nodes: &mut [u64],
     colours: &mut [u8],
@@ -50,14 +64,16 @@ fn rotate_outer(
     left_side: bool,
     parent: u64,
     grandparent: u64,
+    before: u64,
 ) -> Turn
-    requires { ⌜ (count * 8 ≤ length (now nodes)) × (count ≤ length (now colours) * 8) × (parent < count) × (grandparent < count) ⌝ }
-    ensures { λ r. ⌜ next r (now (nodes .exit)) (now (colours .exit)) ≡ outer count (now (nodes .entry)) (now (colours .entry)) root «left_side» parent grandparent ⌝ }
+    requires { ⌜ (count * 8 ≤ length (now nodes)) × (count ≤ length (now colours) * 8) × (parent < count) × (grandparent < count) × (before ≤ 2) ⌝ }
+    ensures { λ r. ⌜ (next r (now (nodes .exit)) (now (colours .exit)) ≡ outer count (now (nodes .entry)) (now (colours .entry)) root «left_side» parent grandparent)
+        × (reach r ≡ before + changes count (outerHulls count (now (nodes .entry)) «left_side» parent grandparent)) ⌝ }
 {
-    let top = rotate(nodes, count, root, !left_side, grandparent, parent);
+    let turned = rotate(nodes, count, root, !left_side, grandparent, parent);
     set_black(colours, parent);
     set_red(colours, grandparent);
-    Turn::Done(top)
+    Turn::Done(turned.root, before + turned.reach)
 }
 
 // The slot `index` is the child of its parent on the other side: it comes up over the parent first. The root stays, since
@@ -73,10 +89,20 @@ fn rotate_inner(
     grandparent: u64,
 ) -> Turn
     requires { ⌜ (count * 8 ≤ length (now nodes)) × (count ≤ length (now colours) * 8) × (index < count) × (parent < count) × (grandparent < count) ⌝ }
-    ensures { λ r. ⌜ next r (now (nodes .exit)) (now (colours .exit)) ≡ inner count (now (nodes .entry)) (now (colours .entry)) root index «left_side» parent grandparent ⌝ }
+    ensures { λ r. ⌜ (next r (now (nodes .exit)) (now (colours .exit)) ≡ inner count (now (nodes .entry)) (now (colours .entry)) root index «left_side» parent grandparent)
+        × (reach r ≡ changes count (innerHulls count (now (nodes .entry)) index «left_side» parent grandparent)) ⌝ }
 {
-    rotate(nodes, count, root, left_side, parent, index);
-    rotate_outer(nodes, colours, count, root, left_side, index, grandparent)
+    let first = rotate(nodes, count, root, left_side, parent, index);
+    rotate_outer(
+        nodes,
+        colours,
+        count,
+        root,
+        left_side,
+        index,
+        grandparent,
+        first.reach,
+    )
 }
 
 // Parent and uncle become black, the grandparent red.
@@ -101,10 +127,13 @@ fn turn_rotated(
     grandparent: u64,
 ) -> Turn
     requires { ⌜ (count * 8 ≤ length (now nodes)) × (count ≤ length (now colours) * 8) × (index < count) × (parent < count) × (grandparent < count) ⌝ }
-    ensures { λ r. ⌜ next r (now (nodes .exit)) (now (colours .exit))
+    ensures { λ r. ⌜ (next r (now (nodes .exit)) (now (colours .exit))
         ≡ cond (eqb (kid (now (nodes .entry)) (not «left_side») parent) index)
         (inner count (now (nodes .entry)) (now (colours .entry)) root index «left_side» parent grandparent)
-        (outer count (now (nodes .entry)) (now (colours .entry)) root «left_side» parent grandparent) ⌝ }
+        (outer count (now (nodes .entry)) (now (colours .entry)) root «left_side» parent grandparent))
+        × (reach r ≡ changes count (cond (eqb (kid (now (nodes .entry)) (not «left_side») parent) index)
+        (innerHulls count (now (nodes .entry)) index «left_side» parent grandparent)
+        (outerHulls count (now (nodes .entry)) «left_side» parent grandparent))) ⌝ }
 {
     if child_of(nodes, parent, !left_side) == index {
         return rotate_inner(
@@ -118,7 +147,16 @@ fn turn_rotated(
             grandparent,
         );
     }
-    rotate_outer(nodes, colours, count, root, left_side, parent, grandparent)
+    rotate_outer(
+        nodes,
+        colours,
+        count,
+        root,
+        left_side,
+        parent,
+        grandparent,
+        0,
+    )
 }
 
 // One turn, with the grandparent at hand and the side of it that the parent is on.
@@ -133,7 +171,8 @@ fn turn_at(
     left_side: bool,
 ) -> Turn
     requires { ⌜ (count * 8 ≤ length (now nodes)) × (count ≤ length (now colours) * 8) × (index < count) × (parent < count) × (grandparent < count) ⌝ }
-    ensures { λ r. ⌜ next r (now (nodes .exit)) (now (colours .exit)) ≡ mendAt count (now (nodes .entry)) (now (colours .entry)) root index parent grandparent «left_side» ⌝ }
+    ensures { λ r. ⌜ (next r (now (nodes .exit)) (now (colours .exit)) ≡ mendAt count (now (nodes .entry)) (now (colours .entry)) root index parent grandparent «left_side»)
+        × (reach r ≡ changes count (mendAtHulls count (now (nodes .entry)) (now (colours .entry)) index parent grandparent «left_side»)) ⌝ }
 {
     let uncle = sibling(nodes, grandparent, left_side);
     if is_black_or_nil(colours, count, uncle) {
@@ -149,7 +188,7 @@ fn turn_at(
         );
     }
     recolour(colours, parent, uncle, grandparent);
-    Turn::Again(root, grandparent)
+    Turn::Again(root, grandparent, 0)
 }
 
 // One turn below a red parent. In a store that passes the check it has a parent too, since the root is black.
@@ -162,10 +201,11 @@ fn turn_below(
     parent: u64,
 ) -> Turn
     requires { ⌜ (count * 8 ≤ length (now nodes)) × (count ≤ length (now colours) * 8) × (index < count) × (parent < count) ⌝ }
-    ensures { λ r. ⌜ next r (now (nodes .exit)) (now (colours .exit)) ≡ mendBelow count (now (nodes .entry)) (now (colours .entry)) root index parent ⌝ }
+    ensures { λ r. ⌜ (next r (now (nodes .exit)) (now (colours .exit)) ≡ mendBelow count (now (nodes .entry)) (now (colours .entry)) root index parent)
+        × (reach r ≡ changes count (mendBelowHulls count (now (nodes .entry)) (now (colours .entry)) index parent)) ⌝ }
 {
     let Link::Slot(grandparent) = Link::new(parent_of(nodes, parent), count) else {
-        return Turn::Done(root);
+        return Turn::Done(root, 0);
     };
     let left_side = child_of(nodes, grandparent, true) == parent;
     turn_at(
@@ -183,42 +223,51 @@ fn turn_below(
 // One turn of the loop, at the red slot `index`.
 fn one_turn(nodes: &mut [u64], colours: &mut [u8], count: u64, root: u64, index: u64) -> Turn
     requires { ⌜ (count * 8 ≤ length (now nodes)) × (count ≤ length (now colours) * 8) × (index < count) ⌝ }
-    ensures { λ r. ⌜ next r (now (nodes .exit)) (now (colours .exit)) ≡ mendStep count (now (nodes .entry)) (now (colours .entry)) root index ⌝ }
+    ensures { λ r. ⌜ (next r (now (nodes .exit)) (now (colours .exit)) ≡ mendStep count (now (nodes .entry)) (now (colours .entry)) root index)
+        × (reach r ≡ changes count (mendStepHulls count (now (nodes .entry)) (now (colours .entry)) index)) ⌝ }
 {
     let Link::Slot(parent) = Link::new(parent_of(nodes, index), count) else {
         set_black(colours, index);
-        return Turn::Done(root);
+        return Turn::Done(root, 0);
     };
     if is_red(colours, parent) {
         return turn_below(nodes, colours, count, root, index, parent);
     }
-    Turn::Done(root)
+    Turn::Done(root, 0)
 }
 
-// Repairs the tree from the red slot `index` upward; the answer is the root. Each turn that goes on goes up two levels, so in
-// a store that passes the check 32 turns are enough.
+// Repairs the tree from the red slot `index` upward. Each turn that goes on goes up two levels, so in a store that passes the
+// check 32 turns are enough.
 pub(crate) fn insert_repair(
     nodes: &mut [u64],
     colours: &mut [u8],
     count: u64,
     root: u64,
     index: u64,
-) -> u64
+) -> Repaired
     requires { ⌜ (count * 8 ≤ length (now nodes)) × (count ≤ length (now colours) * 8) × (index < count) ⌝ }
-    ensures { λ r. ⌜ store (now (nodes .exit)) (now (colours .exit)) r ≡ ending (mend count 32 (now (nodes .entry)) (now (colours .entry)) root index) ⌝ }
+    ensures { λ r. ⌜ (store (now (nodes .exit)) (now (colours .exit)) (r .root) ≡ ending (mend count 32 (now (nodes .entry)) (now (colours .entry)) root index))
+        × (r .reach ≡ changes count (mendHulls count 32 (now (nodes .entry)) (now (colours .entry)) root index)) ⌝ }
 {
     let mut at = index;
     let mut top = root;
+    let mut reach: u64 = 0;
     let mut turns: u64 = 32;
     while turns > 0 {
         match one_turn(nodes, colours, count, top, at) {
-            Turn::Done(r) => return r,
-            Turn::Again(r, i) => {
+            Turn::Done(r, k) => {
+                return Repaired {
+                    root: r,
+                    reach: reach + k,
+                };
+            }
+            Turn::Again(r, i, k) => {
                 top = r;
                 at = i;
+                reach += k;
                 turns -= 1;
             }
         }
     }
-    top
+    Repaired { root: top, reach }
 }

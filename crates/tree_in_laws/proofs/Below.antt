@@ -1,8 +1,8 @@
 -- "Slots from count up are not read", of an insertion on any words with room for it: on two stores that agree below the count it leaves stores, one
--- root among them, that agree up to the new slot.
+-- root among them, that agree up to the new slot, and as many hulls change.
 use mathlib.Core.Path.{_≡_, refl, sym, ap, _∙_}
 use mathlib.Core.Bool.{Bool, true, false, cond, not}
-use mathlib.Core.List.{List}
+use mathlib.Core.List.{List, []}
 use Prim.Native.Nat.{ℕ, zero, suc, _+_, _*_, _<_, _≤_}
 use native.Mathlib.Omega.{arith}
 use lib.ListN.{length}
@@ -17,14 +17,17 @@ use Rattle.words.proofs.Nodes.{entry-putNode, hull-putNode, kid-putNode, par-pu
 use Rattle.bitvec.specs.Colours.{red, redAt, dye}
 use Rattle.bitvec.proofs.Bytes.{length-setBit, bitAt-same, bitAt-other}
 use Rattle.tree.proofs.Cases.{compare}
-use Rattle.tree_rm_laws.specs.Repair.{Next, done, again, goOn}
+use Rattle.tree_rm_laws.specs.Repair.{turn, Next, done, again, goOn}
+use Rattle.tree_rm_laws.specs.Remove.{ending}
+use Rattle.tree_rm_laws.specs.Reach.{Work, changes, upHulls}
 use Rattle.tree.specs.Below.{Agree, Hued}
 use Rattle.tree_rm_laws.specs.Below.{Alike}
 use Rattle.tree_rm_laws.proofs.Mended.{red-slot}
-use Rattle.tree_rm_laws.proofs.Below.{link-same, same-redAt, agree-put, agree-putNode, agree-fix, agree-fixUp, agree-turn, same-rootAfter, Both, both-dye, SameNext, same-ending}
+use Rattle.tree_rm_laws.proofs.Below.{link-same, same-redAt, agree-put, agree-putNode, agree-fix, agree-fixUp, agree-turn, same-rootAfter, Both, both-dye, SameNext, AlikeIn, same-ending, Sums, sums-append, sums-both, sums-up, sums-onward}
 use Rattle.tree_in_laws.specs.Descent.{goesLeft, descend, under}
 use Rattle.tree_in_laws.specs.Mend.{rotated, outer, inner, recoloured, mendAt, mendBelow, mendStep, mend}
 use Rattle.tree_in_laws.specs.Insert.{own, hungNode, hungWords, hungRoot, hung, mended, insertRule}
+use Rattle.tree_in_laws.specs.Reach.{rotatedHulls, outerHulls, innerHulls, mendAtHulls, mendBelowHulls, mendStepHulls, mendHulls, mendedHulls, insertHulls}
 
 -- the repair of n entries
 module _ (n : ℕ) where
@@ -103,6 +106,56 @@ module _ (n : ℕ) where
       go rec (again W C r i) (done X D q) h = absurd h
       go rec (again W C r i) (again X D q j) h = rw (← (h .2), ← (h .3)) (rec W X C D r i (h .0) (h .1) (h .4))
 
+  -- the hulls that are worked out: as many of them change
+  sums-rotated : (W X : List ℕ) (b : Bool) (P S : ℕ) → P < n → S < n → Agree n W X → Sums n (rotatedHulls n W b P S) (rotatedHulls n X b P S)
+  unfolding rotatedHulls
+  sums-rotated W X b P S lp ls A = sums-both n (turn n W b P S) (turn n X b P S) P S lp ls (agree-turn n W X b P S lp ls A)
+
+  sums-inner : (W X : List ℕ) (x : ℕ) (b : Bool) (P G : ℕ) → x < n → P < n → G < n → Agree n W X
+      → Sums n (innerHulls n W x b P G) (innerHulls n X x b P G)
+  unfolding innerHulls outerHulls
+  sums-inner W X x b P G lx lp lg A =
+      sums-append n (rotatedHulls n W b P x) _ (rotatedHulls n X b P x) _ (sums-rotated W X b P x lp lx A)
+      (sums-rotated (rotated n W b P x) (rotated n X b P x) (not b) G x lg lx (agree-rotated W X A b P x lp lx))
+
+  module _ (W X C D : List ℕ) (A : Agree n W X) (B : Both n C D) (x : ℕ) (lx : x < n) where
+    sums-mendAt : (P G : ℕ) (b : Bool) → P < n → G < n → Sums n (mendAtHulls n W C x P G b) (mendAtHulls n X D x P G b)
+    unfolding mendAtHulls outerHulls
+    sums-mendAt P G b lp lg =
+        rw (A .1 (Child (not b)) G lg, A .1 (Child (not b)) P lp, same-redAt n C D (kid X (not b) G) (B .1))
+        (go (redAt n D (kid X (not b) G)) (eqb (kid X (not b) P) x))
+      where
+        go : (t u : Bool) → Sums n (cond t [] (cond u (innerHulls n W x b P G) (outerHulls n W b P G)))
+            (cond t [] (cond u (innerHulls n X x b P G) (outerHulls n X b P G)))
+        go true u = refl
+        go false true = sums-inner W X x b P G lx lp lg A
+        go false false = sums-rotated W X (not b) G P lg lp A
+
+    sums-mendBelow : (P : ℕ) → P < n → Sums n (mendBelowHulls n W C x P) (mendBelowHulls n X D x P)
+    unfolding mendBelowHulls
+    sums-mendBelow P lp =
+        rw (A .1 Parent P lp)
+        (link-same n {A = List Work} (Sums n) (par X P) (λ G. mendAtHulls n W C x P G (eqb (kid W true G) P)) (λ G. mendAtHulls n X D x P G (eqb (kid X true G) P)) [] []
+        (λ lg. rw (A .1 (Child true) (par X P) lg) (sums-mendAt P (par X P) (eqb (kid X true (par X P)) P) lp lg)) refl)
+
+    sums-mendStep : Sums n (mendStepHulls n W C x) (mendStepHulls n X D x)
+    unfolding mendStepHulls
+    sums-mendStep =
+        rw (A .1 Parent x lx)
+        (link-same n {A = List Work} (Sums n) (par X x) (λ P. cond (red C P) (mendBelowHulls n W C x P) []) (λ P. cond (red D P) (mendBelowHulls n X D x P) []) [] []
+        (λ lp. rw (B .1 .1 (par X x) lp) (go (par X x) lp (red D (par X x)))) refl)
+      where
+        go : (P : ℕ) → P < n → (t : Bool) → Sums n (cond t (mendBelowHulls n W C x P) []) (cond t (mendBelowHulls n X D x P) [])
+        go P lp true = sums-mendBelow P lp
+        go P lp false = refl
+
+  sums-mend : (turns : ℕ) (W X C D : List ℕ) (r x : ℕ) → Agree n W X → Both n C D → x < n → Sums n (mendHulls n turns W C r x) (mendHulls n turns X D r x)
+  unfolding mendHulls
+  sums-mend zero W X C D r x A B l = refl
+  sums-mend (suc turns) W X C D r x A B l =
+      sums-append n (mendStepHulls n W C x) _ (mendStepHulls n X D x) _ (sums-mendStep W X C D A B x l)
+      (sums-onward n (λ X D q i. mendHulls n turns X D q i) (sums-mend turns) (mendStep n W C r x) (mendStep n X D r x) (same-mendStep W X C D A B r x l))
+
   -- the way down
   module _ (W X : List ℕ) (A : Agree n W X) (x : Interval) where
     same-goesLeft : (k : ℕ) → k < n → goesLeft W x k ≡ goesLeft X x k
@@ -169,14 +222,34 @@ module _ (W X C D : List ℕ) (n r : ℕ) (e : Entry) (room : (n + 1) * 8 ≤ le
     ),
   )
 
+  -- after the repair
+  same-repaired : (p : ℕ)
+      → AlikeIn (n + 1) (ending (mend (n + 1) 32 (hungWords W n e p) (dye C n true) (hungRoot n r p) n))
+      (ending (mend (n + 1) 32 (hungWords X n e p) (dye D n true) (hungRoot n r p) n))
+  same-repaired p =
+      same-ending (n + 1) (mend (n + 1) 32 (hungWords W n e p) (dye C n true) (hungRoot n r p) n)
+      (mend (n + 1) 32 (hungWords X n e p) (dye D n true) (hungRoot n r p) n)
+      (same-mend (n + 1) 32 (hungWords W n e p) (hungWords X n e p) (dye C n true) (dye D n true) (hungRoot n r p) n (agree-hungWords p) both-hung (omega arith))
+
   same-mended : (p : ℕ) → Alike (n + 1) (mended (hung W C n r e p) (n + 1) n) (mended (hung X D n r e p) (n + 1) n)
   unfolding mended hung
-  same-mended p =
-      let m = same-ending (n + 1) (mend (n + 1) 32 (hungWords W n e p) (dye C n true) (hungRoot n r p) n)
-      (mend (n + 1) 32 (hungWords X n e p) (dye D n true) (hungRoot n r p) n)
-      (same-mend (n + 1) 32 (hungWords W n e p) (hungWords X n e p) (dye C n true) (dye D n true) (hungRoot n r p) n (agree-hungWords p) both-hung (omega arith)) in
-      (agree-fixUp (n + 1) 32 _ _ n (m .0), m .1 .1, m .2)
+  same-mended p = let m = same-repaired p in (agree-fixUp (n + 1) 32 _ _ n (m .0), m .1 .1, m .2)
+
+  sums-mended : (p : ℕ) → Sums (n + 1) (mendedHulls (hung W C n r e p) (n + 1) n) (mendedHulls (hung X D n r e p) (n + 1) n)
+  unfolding mendedHulls hung
+  sums-mended p =
+      let Y : List ℕ = hungWords W n e p in
+      let Z : List ℕ = hungWords X n e p in
+      let q : ℕ = hungRoot n r p in
+      sums-append (n + 1) (mendHulls (n + 1) 32 Y (dye C n true) q n) (upHulls (n + 1) 32 (ending (mend (n + 1) 32 Y (dye C n true) q n) .words) n)
+      (mendHulls (n + 1) 32 Z (dye D n true) q n) (upHulls (n + 1) 32 (ending (mend (n + 1) 32 Z (dye D n true) q n) .words) n)
+      (sums-mend (n + 1) 32 (hungWords W n e p) (hungWords X n e p) (dye C n true) (dye D n true) (hungRoot n r p) n (agree-hungWords p) both-hung (omega arith))
+      (sums-up (n + 1) 32 _ _ n (same-repaired p .0))
 
   pub inserted-below : Alike (n + 1) (insertRule W C n r e) (insertRule X D n r e)
   unfolding insertRule
   inserted-below = rw (same-under n W X A (own e) r) (same-mended (under n X r (own e)))
+
+  pub reach-below : changes (n + 1) (insertHulls W C n r e) ≡ changes (n + 1) (insertHulls X D n r e)
+  unfolding insertHulls
+  reach-below = rw (same-under n W X A (own e) r) (sums-mended (under n X r (own e)))

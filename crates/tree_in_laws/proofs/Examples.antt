@@ -1,18 +1,20 @@
--- Insertions worked out by the rule: each store is the one that tests/model.py leaves.
+-- Insertions worked out by the rule: each store is the one that tests/model.py leaves, and so is the sum of changed hulls.
 use mathlib.Core.Path.{_≡_, refl}
 use mathlib.Core.List.{List, [], _∷_, map}
 use Prim.Native.Nat.{ℕ}
 use lib.ListN.{replicate}
 use Rattle.words.specs.Ix.{U, onLink}
-use Rattle.words.specs.Nodes.{word, put, putEntry, putHull, joined, hullOf, fix, putNode}
+use Rattle.words.specs.Nodes.{word, put, putEntry, putHull, joined, hullOf, altered, fix, putNode}
 use Rattle.words.specs.declared.node.Entry.{Entry}
 use Rattle.bitvec.specs.Bits.{bit, put as putBit, bitAt, setBit}
 use Rattle.tree_rm_laws.specs.Links.{adopt, setChild, redirected, redirect, replaced, rootAfter, fixUp}
 use Rattle.tree_rm_laws.specs.Repair.{turn}
 use Rattle.tree_rm_laws.specs.Remove.{Store, store}
+use Rattle.tree_rm_laws.specs.Reach.{differs, changes, upHulls}
 use Rattle.tree_in_laws.specs.Descent.{goesLeft, descend, under}
 use Rattle.tree_in_laws.specs.Mend.{rotated, outer, inner, recoloured, mendAt, mendBelow, mendStep, mend}
 use Rattle.tree_in_laws.specs.Insert.{hungNode, hungWords, hungRoot, hung, mended, insertRule}
+use Rattle.tree_in_laws.specs.Reach.{rotatedHulls, outerHulls, innerHulls, mendAtHulls, mendBelowHulls, mendStepHulls, mendHulls, mendedHulls, insertHulls}
 use Rattle.tree_in_laws.specs.Sequence.{insert, run}
 
 -- what the rows compute with
@@ -27,6 +29,10 @@ linking = record {}
 inserting : Unit {0}
 unfolding goesLeft descend under rotated outer inner recoloured mendAt mendBelow mendStep mend hungNode hungWords hungRoot hung mended insertRule
 inserting = record {}
+
+reaching : Unit {0}
+unfolding altered differs upHulls rotatedHulls outerHulls innerHulls mendAtHulls mendBelowHulls mendStepHulls mendHulls mendedHulls insertHulls
+reaching = record {}
 
 abbrev entryOf : ℕ → ℕ → ℕ → Entry
 entryOf a b v = record { start = a; end = b; value = v }
@@ -121,3 +127,13 @@ pub uncle-in-A : filled storeA 5 (entryOf 10 30 6 ∷ entryOf 10 25 7 ∷ []) �
     (74 ∷ []) 2
 unfolding reading linking inserting
 uncle-in-A = refl
+
+-- how many hulls change: [12, 14) goes between [10, 15) red and [20, 30), by two rotations. The hulls of slots 1 and 2, then those of slots 0 and 2: all but
+-- that of slot 1; and none on the way up.
+pub inner-reach : changes 3 (insertHulls
+    (20 ∷ 30 ∷ 1 ∷ 10 ∷ 30 ∷ 1 ∷ U ∷ U ∷
+    10 ∷ 15 ∷ 2 ∷ 10 ∷ 15 ∷ U ∷ U ∷ 0 ∷
+    0 ∷ 0 ∷ 0 ∷ 0 ∷ 0 ∷ 0 ∷ 0 ∷ 0 ∷ [])
+    (2 ∷ []) 2 0 (entryOf 12 14 3)) ≡ 3
+unfolding reading linking inserting reaching
+inner-reach = refl

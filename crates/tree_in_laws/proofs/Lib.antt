@@ -11,5 +11,6 @@ pub mod HungWords
 pub mod Hang
 pub mod Inside
 pub mod Insertion
+pub mod Reached
 pub mod Sequence
 pub mod Below

@@ -1,5 +1,6 @@
 pub mod Descent
 pub mod Mend
 pub mod Insert
+pub mod Reach
 pub mod Inserted
 pub mod Sequence

@@ -12,13 +12,13 @@ use Rattle.tree_rm.specs.declared.remove.Removed.{Removed}
 use Rattle.tree_rm.proofs.remove.remove_at.Reads as reads
 use Rattle.tree_rm.proofs.remove.remove_at.Kinds as kinds
 
-pub removal-told : (a b : Removed) (W X C D : List ℕ) → removal a W C ≡ removal b X D → (a ≡ b) × (W ≡ X) × (C ≡ D)
-removal-told a b W X C D e = (
-  λ t. record { value = e t .value; root = e t .store .root; pairs = e t .pairs },
+pub removal-told : (a b : Removed) (W X C D : List ℕ) → removal a W C ≡ removal b X D → a .reach ≡ b .reach → (a ≡ b) × (W ≡ X) × (C ≡ D)
+removal-told a b W X C D e f = (
+  λ t. record { value = e t .value; root = e t .store .root; pairs = e t .pairs; reach = f t },
   ap (λ (R : Removal). R .store .words) e,
   ap (λ (R : Removal). R .store .colours) e,
 )
 
 pub remove-at-determined : (κs : Lfts 2) (a : K.Dens κs kinds.ps) (r r′ : K.resT kinds.r κs .Denot) (s s′ : AtExit (K.endedOf 2 kinds.ps kinds.r) κs)
     → reads.Post κs a r s → reads.Post κs a r′ s′ → (r ≡ r′) × (now (s .0) ≡ now (s′ .0)) × (now (s .1 .0) ≡ now (s′ .1 .0))
-remove-at-determined κs a r r′ s s′ p q = removal-told r r′ (now (s .0)) (now (s′ .0)) (now (s .1 .0)) (now (s′ .1 .0)) (p ∙ sym q)
+remove-at-determined κs a r r′ s s′ p q = removal-told r r′ (now (s .0)) (now (s′ .0)) (now (s .1 .0)) (now (s′ .1 .0)) (p .0 ∙ sym (q .0)) (p .1 ∙ sym (q .1))

@@ -2,7 +2,7 @@
 use mathlib.Core.Path.{_≡_, refl, ap, _∙_}
 use mathlib.Core.Bool.{Bool, true, false, cond, _||_}
 use mathlib.Core.List.{List}
-use Prim.Native.Nat.{ℕ, zero, suc, _-_, _<_, min}
+use Prim.Native.Nat.{ℕ, zero, suc, _+_, _-_, _<_, _≤_, min}
 use native.Mathlib.Omega.{arith}
 use native.Mathlib.Numerals.{sub-one}
 use lib.Dec.{eqb, leb}
@@ -19,24 +19,9 @@ use Rattle.tree_rm_laws.specs.declared.pairs.Pairs.{Pairs}
 use Rattle.tree_rm_laws.specs.Links.{adopt, removeChild, redirect, fixUp}
 use Rattle.tree_rm_laws.specs.Pairs.{instead, emptied, moved}
 use Rattle.tree_rm_laws.specs.Remove.{leftmost, vacated, store, restructure, exchanged, child, handed, above, cutWords, cutRoot, copied, relinked, cleared, swapRemove, Removal, finish, removeFrom, removeRule}
-use Rattle.tree_rm_links.proofs.LinkLaws.{slot-is, nil-is, read-linked}
-
--- the leftmost slot
-module _ (n : ℕ) (W : List ℕ) (k : ℕ) where
-  pub left-low : (h : ℕ) → h ≡ 0 → k ≡ leftmost n h W k
-  unfolding leftmost
-  left-low zero e = refl
-  left-low (suc h) e = absurd (omega arith)
-
-  pub left-ends : (h w : ℕ) (l : Link) → w ≡ kid W true k → l ≡ linkOf n w → l ≡ Nil → k ≡ leftmost n h W k
-  unfolding leftmost onLink
-  left-ends zero w l e p q = refl
-  left-ends (suc h) w l e p q = rw (← e, le-leb n w (nil-is n w l p q))
-
-  pub left-on : (h w s r : ℕ) (l : Link) → (h ≡ 0 → ⊥) → w ≡ kid W true k → l ≡ linkOf n w → l ≡ Slot s → r ≡ leftmost n (h - 1) W s → r ≡ leftmost n h W k
-  unfolding leftmost
-  left-on zero w s r l z e p q d = absurd (z refl)
-  left-on (suc h) w s r l z e p q d = read-linked r n (kid W true k) w l (λ (x : ℕ). leftmost n h W x) k e p s q (rw (sub-one (suc h)) at d)
+use Rattle.tree_rm_laws.specs.Reach.{changes, upHulls, cutHulls, restructureHulls, vacateHulls, removeHullsFrom, removeHulls}
+use Rattle.tree_rm_laws.proofs.Reached.{changes-append, cut-most, restructure-most}
+use Rattle.tree_rm_links.proofs.LinkLaws.{slot-is, nil-is, read-linked, hulls-linked}
 
 -- the test of the right link, which stands there twice
 once : (t u : Bool) → (t || t) ≡ u → t ≡ u
@@ -93,6 +78,61 @@ module _ (n : ℕ) (W : List ℕ) (x y : ℕ) (l : Link) (e : l ≡ linkOf n y) 
       let k : y < n = rw i at (slot-live n y s l e z) in
       rw (lt-leb n y k, lt-leb n x h) (cc)
 
+-- how many hulls change
+pub cut-changes : (n g w s v : ℕ) (W X : List ℕ) (l : Link) (k : ℕ) → w ≡ g → l ≡ linkOf n w → l ≡ Slot s → X ≡ removeChild W s v → k ≡ changes n (upHulls n 32 X s)
+    → k ≡ changes n (cutHulls n W g v)
+unfolding cutHulls
+cut-changes n g w s v W X l k e p q f h =
+    hulls-linked k n g w l (λ (x : ℕ). upHulls n 32 (removeChild W x v) x) e p s q (h ∙ ap (λ (Z : List ℕ). changes n (upHulls n 32 Z s)) f)
+
+module _ (n : ℕ) (W : List ℕ) (x y : ℕ) (l : Link) (e : l ≡ linkOf n y) where
+  pub leaf-changes : (k : ℕ) → l ≡ Nil → k ≡ changes n (cutHulls n W (par W x) x) → k ≡ changes n (cutHulls n (handed n W x y) (above n W x y) (emptied n x y))
+  unfolding above handed emptied
+  leaf-changes k z d =
+      rw (
+        ← unlinked (par W x) n y l (λ (s : ℕ). x) (par W x) e z refl,
+        ← unlinked W n y l (λ (s : ℕ). swap W x s) W e z refl,
+        ← unlinked x n y l (λ (s : ℕ). s) x e z refl,
+      )
+      d
+
+  pub child-changes : (s : ℕ) (X Y : List ℕ) (k : ℕ) → l ≡ Slot s → x < n → X ≡ swap W x s → Y ≡ removeChild X x s → k ≡ changes n (upHulls n 32 Y x)
+      → k ≡ changes n (cutHulls n (handed n W x y) (above n W x y) (emptied n x y))
+  unfolding above handed emptied cutHulls onLink
+  child-changes s X Y k z h f g d =
+      let i : s ≡ y = slot-is n y s l e z in
+      let j : y < n = rw i at (slot-live n y s l e z) in
+      rw (lt-leb n y j, lt-leb n x h) (cc)
+
+pub cut-fits : (n : ℕ) (W : List ℕ) (g v b k : ℕ) → b ≤ 144 → k ≡ changes n (cutHulls n W g v) → b + k < 18446744073709551616
+cut-fits n W g v b k h e = omega (arith, cut-most n W g v)
+
+pub mended-most : (n : ℕ) (W C : List ℕ) (r x y k : ℕ) → k ≡ changes n (restructureHulls n W C r x y) → k ≤ 144
+mended-most n W C r x y k e = omega (arith, restructure-most n W C r x y)
+
+pub sum-is : (b k x : ℕ) → k ≡ x → b + k ≡ b + x
+sum-is b k x e = rw e
+
+pub vacate-changes : (n r x y top b k : ℕ) (W C W₁ C₁ : List ℕ) → store W₁ C₁ top ≡ restructure n W C r x y
+    → b ≡ changes n (restructureHulls n W C r x y) → k ≡ b + changes n (cutHulls n (handed n W₁ x y) (above n W₁ x y) (emptied n x y))
+    → k ≡ changes n (vacateHulls n W C r x y)
+unfolding vacateHulls
+vacate-changes n r x y top b k W C W₁ C₁ h i j =
+    rw (← h, changes-append n (restructureHulls n W C r x y) (cutHulls n (handed n W₁ x y) (above n W₁ x y) (emptied n x y)), ← i) j
+
+pub vacate-is : (n r s x y top : ℕ) (W C W₁ C₁ : List ℕ) (R : Removal) → store W₁ C₁ top ≡ restructure n W C r x y
+    → R ≡ finish (store W₁ C₁ top) n s x y → R ≡ finish (restructure n W C r x y) n s x y
+vacate-is n r s x y top W C W₁ C₁ R h i = rw (← h) i
+
+pub from-changes : (n r s x y k : ℕ) (W C X : List ℕ) → X ≡ exchanged W s x → y ≡ child X x → k ≡ changes n (vacateHulls n X C r x y)
+    → k ≡ changes n (removeHullsFrom W C n r s x)
+unfolding removeHullsFrom
+from-changes n r s x y k W C X f g h = rw (← f, ← g) h
+
+pub remove-changes : (n r s x k : ℕ) (W C : List ℕ) → x ≡ vacated n W s → k ≡ changes n (removeHullsFrom W C n r s x) → k ≡ changes n (removeHulls W C n r s)
+unfolding removeHulls
+remove-changes n r s x k W C e i = rw (← e) i
+
 -- the last slot moves
 pub copied-is : (W X : List ℕ) (z v left right up : ℕ) (e : Entry) (h : Interval) → left ≡ kid W true z → right ≡ kid W false z → up ≡ par W z
     → e ≡ entry W z → h ≡ hull W z → X ≡ putNode W v e h left right up → X ≡ copied W z v
@@ -122,10 +162,10 @@ finish-is n s x y W C W₁ W₂ C₂ r v top item q P e f g h i j =
     let k : W₁ ≡ cutWords n (handed n W x y) (above n W x y) v = rw e g in
     rw (← e, ← f, ← k, ← h, ← i, ← j)
 
-pub from-is : (n r s x y top : ℕ) (W C X W₁ C₁ : List ℕ) (R : Removal) → X ≡ exchanged W s x → y ≡ child X x → store W₁ C₁ top ≡ restructure n X C r x y
-    → R ≡ finish (store W₁ C₁ top) n s x y → R ≡ removeFrom W C n r s x
+pub from-is : (n r s x y : ℕ) (W C X : List ℕ) (R : Removal) → X ≡ exchanged W s x → y ≡ child X x → R ≡ finish (restructure n X C r x y) n s x y
+    → R ≡ removeFrom W C n r s x
 unfolding removeFrom
-from-is n r s x y top W C X W₁ C₁ R f g h i = rw (← f, ← g, ← h) i
+from-is n r s x y W C X R f g h = rw (← f, ← g) h
 
 pub remove-is : (n r s x : ℕ) (W C : List ℕ) (R : Removal) → x ≡ vacated n W s → R ≡ removeFrom W C n r s x → R ≡ removeRule W C n r s
 unfolding removeRule

@@ -2,6 +2,7 @@
 use tree_rm_laws::pairs::Pairs;
 use tree_rm_links::adopt_child;
 use tree_rm_links::fix_intervals_up;
+use tree_rm_links::leftmost_from;
 use tree_rm_links::remove_child;
 use tree_rm_links::replace_child_at;
 use tree_rm_pairs::after_move;
@@ -26,7 +27,8 @@ ghost use Prim.Native.Nat.{_+_, _-_, _*_, _<_, _≤_};
 ghost use lib.ListN.{length};
 ghost use Rattle.words.specs.Nodes.{par, value, swap};
 ghost use Rattle.tree_rm_laws.specs.Pairs.{emptied};
-ghost use Rattle.tree_rm_laws.specs.Remove.{leftmost, vacated, exchanged, child, store, handed, above, cutWords, cutRoot, copied, relinked, cleared, swapRemove, finish, removeFrom, removeRule};
+ghost use Rattle.tree_rm_laws.specs.Remove.{vacated, exchanged, child, store, restructure, handed, above, cutWords, cutRoot, copied, relinked, cleared, swapRemove, finish, removeFrom, removeRule};
+ghost use Rattle.tree_rm_laws.specs.Reach.{changes, cutHulls, vacateHulls, removeHullsFrom, removeHulls};
 ghost use Rattle.tree_rm.specs.Answers.{removal};
 
 // Swap values and intervals for `i`-th and `j`-th nodes.
@@ -100,20 +102,6 @@ fn swap_remove(nodes: &mut [u64], colours: &mut [u8], count: u64, root: u64, ix:
     after_move(last, ix, root)
 }
 
-// The leftmost slot from slot k down, `height` links at the most.
-fn leftmost_from(nodes: &[u64], count: u64, k: u64, height: u64) -> u64
-    requires { ⌜ (count * 8 ≤ length (now nodes)) × (k < count) ⌝ }
-    ensures { λ r. ⌜ (r ≡ leftmost count height (now (nodes .entry)) k) × (r < count) ⌝ }
-{
-    if height == 0 {
-        return k;
-    }
-    let Link::Slot(left) = Link::new(child_of(nodes, k, true), count) else {
-        return k;
-    };
-    leftmost_from(nodes, count, left, height - 1)
-}
-
 // The slot to vacate for slot ix: the minimal node in the right subtree, where there is one. Document 01 keeps the file's
 // doubled test of the right link; that a test of both links gives the same store is `harmless` of tree_rm_laws.
 fn slot_to_vacate(nodes: &[u64], count: u64, ix: u64) -> u64
@@ -146,47 +134,60 @@ fn least_child(nodes: &[u64], rm: u64) -> u64
     smaller(child_of(nodes, rm, true), child_of(nodes, rm, false))
 }
 
-// The slot that is vacated, and the root.
+// The slot that is vacated, the root, and how many hulls changed.
 struct Cut {
     slot: u64,
     root: u64,
+    reach: u64,
 }
 
 // Removed node has no child, just cut off the node.
 fn cut_leaf(nodes: &mut [u64], count: u64, root: u64, rm: u64) -> Cut
     requires { ⌜ (count * 8 ≤ length (now nodes)) × (rm < count) ⌝ }
-    ensures { λ r. ⌜ (r .slot ≡ rm) × (r .root ≡ cutRoot count root (par (now (nodes .entry)) rm)) × (now (nodes .exit) ≡ cutWords count (now (nodes .entry)) (par (now (nodes .entry)) rm) rm) ⌝ }
+    ensures { λ r. ⌜ (r .slot ≡ rm) × (r .root ≡ cutRoot count root (par (now (nodes .entry)) rm)) × (now (nodes .exit) ≡ cutWords count (now (nodes .entry)) (par (now (nodes .entry)) rm) rm)
+        × (r .reach ≡ changes count (cutHulls count (now (nodes .entry)) (par (now (nodes .entry)) rm) rm)) ⌝ }
 {
     let Link::Slot(parent_ix) = Link::new(parent_of(nodes, rm), count) else {
-        return Cut { slot: rm, root: U };
+        return Cut {
+            slot: rm,
+            root: U,
+            reach: 0,
+        };
     };
     remove_child(nodes, parent_ix, rm);
-    fix_intervals_up(nodes, count, parent_ix);
-    Cut { slot: rm, root }
+    let reach = fix_intervals_up(nodes, count, parent_ix);
+    Cut {
+        slot: rm,
+        root,
+        reach,
+    }
 }
 
 // Slot rm is vacated. A child that is there gives its interval and value to rm and is cut off instead.
 fn cut_off(nodes: &mut [u64], count: u64, root: u64, rm: u64, child: u64) -> Cut
     requires { ⌜ (count * 8 ≤ length (now nodes)) × (rm < count) ⌝ }
-    ensures { λ r. ⌜ (r .slot ≡ emptied count rm child) × (r .slot < count) × (r .root ≡ cutRoot count root (above count (now (nodes .entry)) rm child)) × (now (nodes .exit) ≡ cutWords count (handed count (now (nodes .entry)) rm child) (above count (now (nodes .entry)) rm child) (emptied count rm child)) ⌝ }
+    ensures { λ r. ⌜ (r .slot ≡ emptied count rm child) × (r .slot < count) × (r .root ≡ cutRoot count root (above count (now (nodes .entry)) rm child)) × (now (nodes .exit) ≡ cutWords count (handed count (now (nodes .entry)) rm child) (above count (now (nodes .entry)) rm child) (emptied count rm child))
+        × (r .reach ≡ changes count (cutHulls count (handed count (now (nodes .entry)) rm child) (above count (now (nodes .entry)) rm child) (emptied count rm child))) ⌝ }
 {
     let Link::Slot(child_ix) = Link::new(child, count) else {
         return cut_leaf(nodes, count, root, rm);
     };
     swap_nodes(nodes, rm, child_ix);
     remove_child(nodes, rm, child_ix);
-    fix_intervals_up(nodes, count, rm);
+    let reach = fix_intervals_up(nodes, count, rm);
     Cut {
         slot: child_ix,
         root,
+        reach,
     }
 }
 
-// The removed value, the root and the moved pairs.
+// The removed value, the root, the moved pairs, and how many hulls changed.
 pub struct Removed {
     pub value: u64,
     pub root: u64,
     pub pairs: Pairs,
+    pub reach: u64,
 }
 
 // Slot rm with its child link is vacated, for the entry of slot ix.
@@ -198,9 +199,11 @@ fn finish_rm(
     ix: u64,
     rm: u64,
     child: u64,
+    before: u64,
 ) -> Removed
-    requires { ⌜ (count * 8 ≤ length (now nodes)) × (count ≤ length (now colours) * 8) × (rm < count) ⌝ }
-    ensures { λ r. ⌜ removal r (now (nodes .exit)) (now (colours .exit)) ≡ finish (store (now (nodes .entry)) (now (colours .entry)) root) count ix rm child ⌝ }
+    requires { ⌜ (count * 8 ≤ length (now nodes)) × (count ≤ length (now colours) * 8) × (rm < count) × (before ≤ 144) ⌝ }
+    ensures { λ r. ⌜ (removal r (now (nodes .exit)) (now (colours .exit)) ≡ finish (store (now (nodes .entry)) (now (colours .entry)) root) count ix rm child)
+        × (r .reach ≡ before + changes count (cutHulls count (handed count (now (nodes .entry)) rm child) (above count (now (nodes .entry)) rm child) (emptied count rm child))) ⌝ }
 {
     let cut = cut_off(nodes, count, root, rm, child);
     let value = value_of(nodes, cut.slot);
@@ -210,7 +213,35 @@ fn finish_rm(
         value,
         root: top,
         pairs,
+        reach: before + cut.reach,
     }
+}
+
+// Slot rm with its child link is made ready and vacated, for the entry of slot ix.
+fn vacate(
+    nodes: &mut [u64],
+    colours: &mut [u8],
+    count: u64,
+    root: u64,
+    ix: u64,
+    rm: u64,
+    child: u64,
+) -> Removed
+    requires { ⌜ (count * 8 ≤ length (now nodes)) × (count ≤ length (now colours) * 8) × (rm < count) ⌝ }
+    ensures { λ r. ⌜ (removal r (now (nodes .exit)) (now (colours .exit)) ≡ finish (restructure count (now (nodes .entry)) (now (colours .entry)) root rm child) count ix rm child)
+        × (r .reach ≡ changes count (vacateHulls count (now (nodes .entry)) (now (colours .entry)) root rm child)) ⌝ }
+{
+    let mended = restructure_rm(nodes, colours, count, root, rm, child);
+    finish_rm(
+        nodes,
+        colours,
+        count,
+        mended.root,
+        ix,
+        rm,
+        child,
+        mended.reach,
+    )
 }
 
 // The entry of slot ix is removed, and slot rm vacated for it.
@@ -223,18 +254,19 @@ fn remove_from(
     rm: u64,
 ) -> Removed
     requires { ⌜ (count * 8 ≤ length (now nodes)) × (count ≤ length (now colours) * 8) × (ix < count) × (rm < count) ⌝ }
-    ensures { λ r. ⌜ removal r (now (nodes .exit)) (now (colours .exit)) ≡ removeFrom (now (nodes .entry)) (now (colours .entry)) count root ix rm ⌝ }
+    ensures { λ r. ⌜ (removal r (now (nodes .exit)) (now (colours .exit)) ≡ removeFrom (now (nodes .entry)) (now (colours .entry)) count root ix rm)
+        × (r .reach ≡ changes count (removeHullsFrom (now (nodes .entry)) (now (colours .entry)) count root ix rm)) ⌝ }
 {
     exchange(nodes, ix, rm);
     let child = least_child(nodes, rm);
-    let top = restructure_rm(nodes, colours, count, root, rm, child);
-    finish_rm(nodes, colours, count, top, ix, rm, child)
+    vacate(nodes, colours, count, root, ix, rm, child)
 }
 
 // The entry of slot ix is removed; the count is one less.
 pub fn remove_at(nodes: &mut [u64], colours: &mut [u8], count: u64, root: u64, ix: u64) -> Removed
     requires { ⌜ (count * 8 ≤ length (now nodes)) × (count ≤ length (now colours) * 8) × (ix < count) ⌝ }
-    ensures { λ r. ⌜ removal r (now (nodes .exit)) (now (colours .exit)) ≡ removeRule (now (nodes .entry)) (now (colours .entry)) count root ix ⌝ }
+    ensures { λ r. ⌜ (removal r (now (nodes .exit)) (now (colours .exit)) ≡ removeRule (now (nodes .entry)) (now (colours .entry)) count root ix)
+        × (r .reach ≡ changes count (removeHulls (now (nodes .entry)) (now (colours .entry)) count root ix)) ⌝ }
 {
     let rm = slot_to_vacate(nodes, count, ix);
     remove_from(nodes, colours, count, root, ix, rm)

@@ -1,16 +1,16 @@
--- "Slots from count up are not read", of a removal on any words: on two stores that agree below the count it answers the same value, pairs and
--- root, and leaves stores that agree below the count.
+-- "Slots from count up are not read", of a removal on any words: on two stores that agree below the count it answers the same value, pairs,
+-- root and sum of changed hulls, and leaves stores that agree below the count.
 use mathlib.Core.Path.{_≡_, refl, sym, _∙_}
 use mathlib.Core.Bool.{Bool, true, false, cond, not}
-use mathlib.Core.List.{List, [], _∷_}
+use mathlib.Core.List.{List, [], _∷_, _++_}
 use Prim.Native.Nat.{ℕ, zero, suc, _+_, _-_, _*_, _<_, _≤_}
 use native.Mathlib.Omega.{arith}
 use lib.ListN.{length, getD, set}
 use lib.Dec.{eqb, leb}
 use borrow.Author.Tests.{eqb-true, eqb-false, leb-false}
 use Rattle.words.specs.Ix.{U, onLink}
-use Rattle.words.specs.Intervals.{extended}
-use Rattle.words.specs.Nodes.{place, word, put, value, kid, par, interval, hull, entry, putPar, putEntry, putHull, swap, joined, hullOf, fix, putNode}
+use Rattle.words.specs.Intervals.{eq, extended}
+use Rattle.words.specs.Nodes.{place, word, put, value, kid, par, interval, hull, entry, putPar, putEntry, putHull, swap, joined, hullOf, altered, fix, putNode}
 use Rattle.words.specs.declared.interval.Interval.{Interval}
 use Rattle.words.specs.declared.node.Entry.{Entry}
 use Rattle.words.specs.declared.node.Field.{Field}
@@ -22,11 +22,13 @@ use Rattle.tree_rm_laws.specs.Links.{adopt, setChild, redirected, remove
 use Rattle.tree_rm_laws.specs.Repair.{turn, turn-2, turn-4, dyeAt, Case, one, two, three, four, five, choose, Next, done, again, act, turnOf, turnAt, step, goOn, repair}
 use Rattle.tree_rm_laws.specs.Pairs.{instead, emptied}
 use Rattle.tree_rm_laws.specs.Remove.{leftmost, vacated, exchanged, child, Store, store, ending, restructure, handed, above, cutWords, cutRoot, copied, relinked, cleared, swapRemove, Removal, finish, removeFrom, removeRule}
+use Rattle.tree_rm_laws.specs.Reach.{Work, differs, changes, bothHulls, upHulls, actHulls, turnOfHulls, turnAtHulls, stepHulls, onward, repairHulls, restructureHulls, cutHulls, vacateHulls, removeHullsFrom, removeHulls}
 use Rattle.tree.specs.Below.{Agree, Hued}
 use Rattle.tree_rm_laws.specs.Below.{Alike}
 use Rattle.tree_rm_laws.proofs.Steps.{emptied-live}
 use Rattle.tree_rm_laws.proofs.Mended.{red-slot, four-close}
 use Rattle.tree_rm_laws.proofs.Inside.{vacated-live}
+use Rattle.tree_rm_laws.proofs.Reached.{changes-append}
 
 -- one word is written in both lists
 set-same : (W X : List ℕ) (i j v : ℕ) → length W ≡ length X → getD W j 0 ≡ getD X j 0 → getD (set W i v) j 0 ≡ getD (set X i v) j 0
@@ -353,6 +355,109 @@ module _ (n : ℕ) where
         refl,
       )
 
+  -- the hulls that are worked out: as many of them change
+  abbrev pub Sums : List Work → List Work → Type 0
+  Sums l m = changes n l ≡ changes n m
+
+  pub sums-append : (l m j k : List Work) → Sums l j → Sums m k → Sums (l ++ m) (j ++ k)
+  sums-append l m j k e f = changes-append n l m ∙ (λ t. e t + f t) ∙ sym (changes-append n j k)
+
+  same-differs : (W X : List ℕ) (s : ℕ) → s < n → Agree n W X → differs n W s ≡ differs n X s
+  unfolding differs altered
+  same-differs W X s l A = λ t. cond (not (eq (same-hull W X A s l t) (same-hullOf W X A s l t))) 1 0
+
+  pub sums-both : (W X : List ℕ) (a b : ℕ) → a < n → b < n → Agree n W X → Sums (bothHulls n W a b) (bothHulls n X a b)
+  sums-both W X a b la lb A = λ t. same-differs W X a la A t + (same-differs (fix n W a) (fix n X a) b lb (agree-fix W X a la A) t + 0)
+
+  pub sums-up : (height : ℕ) (W X : List ℕ) (k : ℕ) → Agree n W X → Sums (upHulls n height W k) (upHulls n height X k)
+  unfolding upHulls
+  sums-up zero W X k A = refl
+  sums-up (suc height) W X k A =
+      link-same {A = List Work} Sums k _ _ [] []
+      (λ h. let up = sums-up height (fix n W k) (fix n X k) (par X k) (agree-fix W X k h A) in
+      rw (A .1 Parent k h) (λ t. same-differs W X k h A t + up t)) refl
+
+  pub sums-onward : (f : List ℕ → List ℕ → ℕ → ℕ → List Work)
+      → ((W X C D : List ℕ) (r i : ℕ) → Agree n W X → Both C D → i < n → Sums (f W C r i) (f X D r i))
+      → (s t : Next) → SameNext s t → Sums (onward s f) (onward t f)
+  sums-onward f rec (done W C r) (done X D q) h = refl
+  sums-onward f rec (done W C r) (again X D q j) h = absurd h
+  sums-onward f rec (again W C r i) (done X D q) h = absurd h
+  sums-onward f rec (again W C r i) (again X D q j) h = rw (← (h .2), ← (h .3)) (rec W X C D r i (h .0) (h .1) (h .4))
+
+  module _ (W X C D : List ℕ) (A : Agree n W X) (B : Both C D) where
+    sums-act : (k : Case) (b : Bool) (P S c : ℕ) → P < n → S < n → (k ≡ four → c < n) → Sums (actHulls n k W b P S c) (actHulls n k X b P S c)
+    sums-act one b P S c lp ls lc = refl
+    sums-act two b P S c lp ls lc = refl
+    sums-act three b P S c lp ls lc = refl
+    sums-act four b P S c lp ls lc =
+        sums-both (turn-4 n W b P S c) (turn-4 n X b P S c) S c ls (lc refl) (agree-turn-4 W X b P S lp ls A c (lc refl))
+    sums-act five b P S c lp ls lc = refl
+
+    sums-turnOf : (P : ℕ) (b : Bool) (S : ℕ) → P < n → S < n → Sums (turnOfHulls n W C P b S) (turnOfHulls n X D P b S)
+    unfolding turnOfHulls
+    sums-turnOf P b S lp ls =
+        let k : Case = choose (red D P) (red D S) (redAt n D (kid X b S)) (redAt n D (kid X (not b) S)) in
+        rw (
+          A .1 (Child b) S ls,
+          A .1 (Child (not b)) S ls,
+          B .1 .1 P lp,
+          B .1 .1 S ls,
+          same-redAt C D (kid X b S) (B .1),
+          same-redAt C D (kid X (not b) S) (B .1),
+        )
+        (sums-act k b P S (kid X b S) lp ls
+        (λ e. red-slot n D (kid X b S) (four-close n (red D P) (red D S) (redAt n D (kid X b S)) (redAt n D (kid X (not b) S)) e)))
+
+    sums-turnAt : (P : ℕ) (b : Bool) → P < n → Sums (turnAtHulls n W C P b) (turnAtHulls n X D P b)
+    unfolding turnAtHulls
+    sums-turnAt P b lp =
+        rw (A .1 (Child (not b)) P lp)
+        (link-same {A = List Work} Sums (kid X (not b) P) (λ S. turnOfHulls n W C P b S) (λ S. turnOfHulls n X D P b S) [] []
+        (λ ls. sums-turnOf P b (kid X (not b) P) lp ls) refl)
+
+    sums-step : (ix : ℕ) → ix < n → Sums (stepHulls n W C ix) (stepHulls n X D ix)
+    unfolding stepHulls
+    sums-step ix li =
+        rw (A .1 Parent ix li)
+        (link-same {A = List Work} Sums (par X ix) (λ P. turnAtHulls n W C P (eqb (kid W true P) ix)) (λ P. turnAtHulls n X D P (eqb (kid X true P) ix)) [] []
+        (λ lp. rw (A .1 (Child true) (par X ix) lp) (sums-turnAt (par X ix) (eqb (kid X true (par X ix)) ix) lp)) refl)
+
+    sums-cut : (g v : ℕ) → Sums (cutHulls n W g v) (cutHulls n X g v)
+    unfolding cutHulls removeChild
+    sums-cut g v =
+        link-same {A = List Work} Sums g (λ s. upHulls n 32 (redirected W s v U) s) (λ s. upHulls n 32 (redirected X s v U) s) [] []
+        (λ h. sums-up 32 (redirected W g v U) (redirected X g v U) g (agree-redirected W X g v U h A)) refl
+
+  sums-repair : (turns : ℕ) (W X C D : List ℕ) (r ix : ℕ) → Agree n W X → Both C D → ix < n → Sums (repairHulls n turns W C r ix) (repairHulls n turns X D r ix)
+  unfolding repairHulls
+  sums-repair zero W X C D r ix A B l = refl
+  sums-repair (suc turns) W X C D r ix A B l =
+      sums-append (stepHulls n W C ix) _ (stepHulls n X D ix) _ (sums-step W X C D A B ix l)
+      (sums-onward (λ X D q i. repairHulls n turns X D q i) (sums-repair turns) (step n W C r ix) (step n X D r ix) (same-step W X C D A B r ix l))
+
+  sums-restructure : (W X C D : List ℕ) (r x y : ℕ) → Agree n W X → Both C D → x < n → Sums (restructureHulls n W C r x y) (restructureHulls n X D r x y)
+  unfolding restructureHulls
+  sums-restructure W X C D r x y A B l = rw (B .1 .1 x l, same-redAt C D y (B .1)) (go (red D x) (redAt n D y))
+    where
+      go : (t u : Bool) → Sums (cond t [] (cond u [] (repairHulls n 36 W C r x))) (cond t [] (cond u [] (repairHulls n 36 X D r x)))
+      go true u = refl
+      go false true = refl
+      go false false = sums-repair 36 W X C D r x A B l
+
+  sums-vacate : (W X C D : List ℕ) (r x y : ℕ) → Agree n W X → Both C D → x < n → Sums (vacateHulls n W C r x y) (vacateHulls n X D r x y)
+  unfolding vacateHulls
+  sums-vacate W X C D r x y A B l =
+      let S : Store = restructure n W C r x y in
+      let T : Store = restructure n X D r x y in
+      let h : AlikeIn S T = same-restructure W X C D r x y A B l in
+      let v : ℕ = emptied n x y in
+      let g : ℕ = above n (T .words) x y in
+      let eg : above n (S .words) x y ≡ g = same-above (S .words) (T .words) (h .0) x y l in
+      sums-append (restructureHulls n W C r x y) _ (restructureHulls n X D r x y) _ (sums-restructure W X C D r x y A B l)
+      (rw eg
+      (sums-cut (handed n (S .words) x y) (handed n (T .words) x y) C D (agree-handed (S .words) (T .words) (h .0) x y l) B g v))
+
 -- a removal's answer and what it leaves
 pub record SameRemoval (n : ℕ) (R Q : Removal) : Type 0 where
   pub stores : Alike n (R .store) (Q .store)
@@ -385,3 +490,13 @@ module _ (W X C D : List ℕ) (n r s : ℕ) (bits : n ≤ length C * 8) (ls : s 
       rw (same-vacated n W X A s ls, same-child n (exchanged W s x) (exchanged X s x) E x lx)
       (same-finish _ _ x (child (exchanged X s x) x)
       (same-restructure n (exchanged W s x) (exchanged X s x) C D r x (child (exchanged X s x) x) E (bits, H) lx) lx)
+
+  -- and as many hulls change
+  pub reach-below : changes n (removeHulls W C n r s) ≡ changes n (removeHulls X D n r s)
+  unfolding removeHulls removeHullsFrom
+  reach-below =
+      let x : ℕ = vacated n X s in
+      let lx : x < n = vacated-live n X s ls in
+      let E : Agree n (exchanged W s x) (exchanged X s x) = agree-exchanged n W X A s x ls lx in
+      rw (same-vacated n W X A s ls, same-child n (exchanged W s x) (exchanged X s x) E x lx)
+      (sums-vacate n (exchanged W s x) (exchanged X s x) C D r x (child (exchanged X s x) x) E (bits, H) lx)

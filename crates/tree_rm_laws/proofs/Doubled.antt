@@ -1,4 +1,5 @@
--- The doubled test of `remove_at` is harmless: read as a test of both links it gives the same store, value and pairs.
+-- The doubled test of `remove_at` is harmless: read as a test of both links it gives the same store, value and pairs, and works out the same
+-- hulls.
 -- The readings part only at a node with a right child alone. That child is red and bare, so either way it is the slot that is cut off.
 use mathlib.Core.Path.{_≡_, refl, sym, _∙_}
 use mathlib.Core.Logic.{_≢_}
@@ -23,8 +24,10 @@ use Rattle.tree.proofs.Frames.{unplug-shape}
 use Rattle.tree.proofs.Checked.{slot-once, tree-low}
 use Rattle.tree_rm_laws.specs.Pairs.{none, instead, home, named, lower, upper, sorted, moved}
 use Rattle.tree_rm_laws.specs.Remove.{leftmost, vacated, vacated′, exchanged, child, cutWords, cutRoot, swapRemove, Removal, finish, removeFrom, removeRule, removeRule′}
+use Rattle.tree_rm_laws.specs.Reach.{cutHulls, restructureHulls, vacateHulls, removeHullsFrom, removeHulls, removeHulls′}
 use Rattle.tree_rm_laws.specs.declared.pairs.Pair.{Pair}
 use Rattle.tree_rm_laws.specs.declared.pairs.Pairs.{Pairs}
+use Rattle.tree_rm_laws.proofs.Links.{on-slot}
 use Rattle.tree_rm_laws.proofs.Moves.{find}
 use Rattle.tree_rm_laws.proofs.Rows.{instead-here, instead-other, instead-self}
 use Rattle.tree_rm_laws.proofs.Beside.{hulls-by}
@@ -123,6 +126,41 @@ module _ (W C : List ℕ) (n r s y : ℕ) (ls : s < n) (ly : y < n) (small : n �
   either : removeFrom W C n r s s ≡ removeFrom W C n r s y
   either = from-s ∙ rw (setBit-idle C y true ry, moved-both n (n - 1) s y small (omega arith) ls ly ys) (sym from-y)
 
+  -- and the hulls
+  hulls-s : removeHullsFrom W C n r s s ≡ cutHulls n (swap W s y) s y
+  unfolding removeHullsFrom vacateHulls restructureHulls exchanged
+  hulls-s =
+      rw (
+        eq-eqb s s refl,
+        ks,
+        restructure-child n W C r s y bs ly ry,
+        bs,
+        on-slot n y ly (λ k. red C k) false,
+        ry,
+        emptied-slot n s y ly,
+        above-slot n W s y ly,
+        handed-slot n W s y ly,
+      ) refl
+
+  hulls-y : removeHullsFrom W C n r s y ≡ cutHulls n (swap W s y) s y
+  unfolding removeHullsFrom vacateHulls restructureHulls exchanged
+  hulls-y =
+      let X : List ℕ = swap W s y in
+      rw (
+        ne-eqb y s ys,
+        ky,
+        restructure-red n X C r y U ry,
+        ry,
+        emptied-none n y U (omega arith),
+        above-none n X y U (omega arith),
+        handed-none n X y U (omega arith),
+        word-swap W s y Parent y refl,
+        up,
+      ) refl
+
+  either-hulls : removeHullsFrom W C n r s s ≡ removeHullsFrom W C n r s y
+  either-hulls = hulls-s ∙ sym hulls-y
+
 or-right : (i j : Bool) → j ≡ true → i || j ≡ true
 or-right true j e = refl
 or-right false j e = e
@@ -137,55 +175,65 @@ module _ (W C : List ℕ) (n r s : ℕ) (small : n ≤ 65535) (fit : n * 8 ≤ l
   tall : height t ≤ 32
   tall = tree-low W C n r h small
 
-  -- a right child alone
-  lone : (d : List Frame) (l : Tree) (y : ℕ) (l′ : Tree) → t ≡ plug d (node leaf s (node l y l′)) → removeFrom W C n r s s ≡ removeFrom W C n r s (vacated n W s)
-  unfolding vacated child
-  lone d l y l′ e =
-      let low : height (plug d (node leaf s (node l y l′))) ≤ 32 = rw e at tall in
-      let i : Spot W C n r s false d (node l y l′) = record {
-        small = small;
-        fit = fit;
-        bits = bits;
-        shape = rw e at (h .shape);
-        once = λ a. rw e at (most a);
-        tall = low;
-        hues = rw e at (h .hues);
-        top = rw e at (h .top);
-        hulls = hulls-by W d (node leaf s (node l y l′)) (rw e at (h .hulls)) .0;
-      } in
-      let at = at-y W C n r s false d (node l y l′) i l y l′ refl in
-      let (el, er) = bare-y W C n r s false d (node l y l′) i l y l′ refl in
-      let left : kid W true y ≡ U = rw el at (at .left) in
-      let right : kid W false y ≡ U = rw er at (at .right) in
-      let sy : s ≢ y = x≢y W C n r s false d (node l y l′) i l y l′ refl in
-      let both : removeFrom W C n r s s ≡ removeFrom W C n r s y =
-      either W C n r s y ls (at .live) small
-      (child-y W C n r s false d (node l y l′) i l y l′ refl)
-      (rw (word-swap W s y (Child true) y refl, word-swap W s y (Child false) y refl, left, right) refl) (at .up)
-      (black-x W C n r s false d (node l y l′) i l y l′ refl) (red-y W C n r s false d (node l y l′) i l y l′ refl)
-      (λ q. sy (sym q)) in
-      leftmost-at W n small 32 s (kid W false s) l y l′ at (omega (arith, way-height d (node leaf s (node l y l′)))) (λ m i w rest f g o.
-      let me : m ≡ y = sym (first-is m rest (rw (el, er) at o)) in
-      rw (lt-leb n (kid W false s) (rw (at .here) (at .live)), g, me) both)
-    where
-      first-is : (m : ℕ) (rest : List ℕ) → slots (Bare y) ≡ m ∷ rest → y ≡ m
-      first-is m rest e = cc
+  -- what is the same for s as for its only child y is the same for both slots to vacate
+  module _ {A : Type 0} (f : ℕ → A)
+      (same : (y : ℕ) → y < n → child W s ≡ y → child (swap W s y) y ≡ U → par W y ≡ s → red C s ≡ false → red C y ≡ true → y ≢ s → f s ≡ f y) where
+    -- a right child alone
+    lone : (d : List Frame) (l : Tree) (y : ℕ) (l′ : Tree) → t ≡ plug d (node leaf s (node l y l′)) → f s ≡ f (vacated n W s)
+    unfolding vacated child
+    lone d l y l′ e =
+        let low : height (plug d (node leaf s (node l y l′))) ≤ 32 = rw e at tall in
+        let i : Spot W C n r s false d (node l y l′) = record {
+          small = small;
+          fit = fit;
+          bits = bits;
+          shape = rw e at (h .shape);
+          once = λ a. rw e at (most a);
+          tall = low;
+          hues = rw e at (h .hues);
+          top = rw e at (h .top);
+          hulls = hulls-by W d (node leaf s (node l y l′)) (rw e at (h .hulls)) .0;
+        } in
+        let at = at-y W C n r s false d (node l y l′) i l y l′ refl in
+        let (el, er) = bare-y W C n r s false d (node l y l′) i l y l′ refl in
+        let left : kid W true y ≡ U = rw el at (at .left) in
+        let right : kid W false y ≡ U = rw er at (at .right) in
+        let sy : s ≢ y = x≢y W C n r s false d (node l y l′) i l y l′ refl in
+        let both : f s ≡ f y =
+        same y (at .live) (child-y W C n r s false d (node l y l′) i l y l′ refl)
+        (rw (word-swap W s y (Child true) y refl, word-swap W s y (Child false) y refl, left, right) refl) (at .up)
+        (black-x W C n r s false d (node l y l′) i l y l′ refl) (red-y W C n r s false d (node l y l′) i l y l′ refl)
+        (λ q. sy (sym q)) in
+        leftmost-at W n small 32 s (kid W false s) l y l′ at (omega (arith, way-height d (node leaf s (node l y l′)))) (λ m i w rest f g o.
+        let me : m ≡ y = sym (first-is m rest (rw (el, er) at o)) in
+        rw (lt-leb n (kid W false s) (rw (at .here) (at .live)), g, me) both)
+      where
+        first-is : (m : ℕ) (rest : List ℕ) → slots (Bare y) ≡ m ∷ rest → y ≡ m
+        first-is m rest e = cc
+
+    either-way : f (vacated′ n W s) ≡ f (vacated n W s)
+    unfolding vacated vacated′
+    either-way = find s t [] (omega (arith, h .once s ls)) go
+      where
+        go : (d : List Frame) (l r′ : Tree) → t ≡ plug d (node l s r′)
+            → f (cond (gone n (kid W true s) || gone n (kid W false s)) s (leftmost n 32 W (kid W false s)))
+            ≡ f (cond (gone n (kid W false s)) s (leftmost n 32 W (kid W false s)))
+        go d l leaf e =
+            let (p, k, a, sh) = unplug-shape W n r d (node l s leaf) (rw e at (h .shape)) in
+            let q : gone n (kid W false s) ≡ true = le-leb n (kid W false s) (omega (arith, sh .right)) in
+            rw (or-right (gone n (kid W true s)) (gone n (kid W false s)) q, q) refl
+        go d (node i j k₀) (node l y l′) e =
+            let (p, k, a, sh) = unplug-shape W n r d (node (node i j k₀) s (node l y l′)) (rw e at (h .shape)) in
+            let q : gone n (kid W true s) ≡ false = lt-leb n (kid W true s) (rw (sh .left .here) (sh .left .live)) in
+            rw q refl
+        go d leaf (node l y l′) e =
+            let (p, k, a, sh) = unplug-shape W n r d (node leaf s (node l y l′)) (rw e at (h .shape)) in
+            rw (le-leb n (kid W true s) (omega (arith, sh .left))) (lone d l y l′ e)
 
   pub harmless : removeRule′ W C n r s ≡ removeRule W C n r s
-  unfolding removeRule removeRule′ vacated vacated′
-  harmless = find s t [] (omega (arith, h .once s ls)) go
-    where
-      go : (d : List Frame) (l r′ : Tree) → t ≡ plug d (node l s r′)
-          → removeFrom W C n r s (cond (gone n (kid W true s) || gone n (kid W false s)) s (leftmost n 32 W (kid W false s)))
-          ≡ removeFrom W C n r s (cond (gone n (kid W false s)) s (leftmost n 32 W (kid W false s)))
-      go d l leaf e =
-          let (p, k, a, sh) = unplug-shape W n r d (node l s leaf) (rw e at (h .shape)) in
-          let q : gone n (kid W false s) ≡ true = le-leb n (kid W false s) (omega (arith, sh .right)) in
-          rw (or-right (gone n (kid W true s)) (gone n (kid W false s)) q, q) refl
-      go d (node i j k₀) (node l y l′) e =
-          let (p, k, a, sh) = unplug-shape W n r d (node (node i j k₀) s (node l y l′)) (rw e at (h .shape)) in
-          let q : gone n (kid W true s) ≡ false = lt-leb n (kid W true s) (rw (sh .left .here) (sh .left .live)) in
-          rw q refl
-      go d leaf (node l y l′) e =
-          let (p, k, a, sh) = unplug-shape W n r d (node leaf s (node l y l′)) (rw e at (h .shape)) in
-          rw (le-leb n (kid W true s) (omega (arith, sh .left))) (lone d l y l′ e)
+  unfolding removeRule removeRule′
+  harmless = either-way (λ x. removeFrom W C n r s x) (λ y ly ks ky up bs ry ys. either W C n r s y ls ly small ks ky up bs ry ys)
+
+  pub harmless-reach : removeHulls′ W C n r s ≡ removeHulls W C n r s
+  unfolding removeHulls removeHulls′
+  harmless-reach = either-way (λ x. removeHullsFrom W C n r s x) (λ y ly ks ky up bs ry ys. either-hulls W C n r s y ls ly small ks ky up bs ry ys)

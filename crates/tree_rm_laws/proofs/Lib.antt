@@ -30,6 +30,8 @@ pub mod Unique
 pub mod Low
 pub mod Mended
 pub mod Inside
+pub mod Reached
+pub mod Examples
 pub mod Sequence
 pub mod Below
 pub mod Told

@@ -2,6 +2,7 @@ pub mod Links
 pub mod Repair
 pub mod Pairs
 pub mod Remove
+pub mod Reach
 pub mod Names
 pub mod Removed
 pub mod With

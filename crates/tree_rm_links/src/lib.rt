@@ -10,7 +10,10 @@ ghost use mathlib.Core.Path.{_≡_};
 ghost use Prim.Native.Nat.{_+_, _*_, _<_, _≤_};
 ghost use lib.ListN.{length};
 ghost use Rattle.words.specs.Ix.{onLink};
+ghost use Rattle.words.specs.Nodes.{fix};
 ghost use Rattle.tree_rm_laws.specs.Links.{adopt, setChild, redirected, removeChild, redirect, replaced, rootAfter, fixUp};
+ghost use Rattle.tree_rm_laws.specs.Remove.{leftmost};
+ghost use Rattle.tree_rm_laws.specs.Reach.{differs, changes, bothHulls, upHulls};
 
 // A child that is there gets `parent` for its parent.
 pub fn adopt_child(nodes: &mut [u64], count: u64, child: u64, parent: u64)
@@ -58,6 +61,20 @@ pub fn set_child(nodes: &mut [u64], count: u64, parent: u64, child: u64, left_si
     put_child(nodes, parent, left_side, child);
 }
 
+// The leftmost slot from slot k down, `height` links at the most.
+pub fn leftmost_from(nodes: &[u64], count: u64, k: u64, height: u64) -> u64
+    requires { ⌜ (count * 8 ≤ length (now nodes)) × (k < count) ⌝ }
+    ensures { λ r. ⌜ (r ≡ leftmost count height (now (nodes .entry)) k) × (r < count) ⌝ }
+{
+    if height == 0 {
+        return k;
+    }
+    let Link::Slot(left) = Link::new(child_of(nodes, k, true), count) else {
+        return k;
+    };
+    leftmost_from(nodes, count, left, height - 1)
+}
+
 // The root after `new` has taken the place of a slot below the link word `parent`.
 fn root_below(count: u64, root: u64, parent: u64, new: u64) -> u64
     ensures { λ r. ⌜ r ≡ onLink count parent (λ s. root) new ⌝ }
@@ -80,19 +97,40 @@ pub fn replace_children(nodes: &mut [u64], count: u64, root: u64, old: u64, new:
     root_below(count, root, parent, new)
 }
 
-// The hulls from the link word `from` up to the root. No way up is longer than 32 in a store that passes the check.
-pub fn fix_intervals_up(nodes: &mut [u64], count: u64, from: u64)
+// Works the hull of slot ix out: 1 where either end changed, else 0.
+pub fn rework_hull(nodes: &mut [u64], count: u64, ix: u64) -> u64
+    requires { ⌜ (count * 8 ≤ length (now nodes)) × (ix < count) ⌝ }
+    ensures { λ r. ⌜ (r ≡ differs count (now (nodes .entry)) ix) × (now (nodes .exit) ≡ fix count (now (nodes .entry)) ix) ⌝ }
+{
+    update_subtree_interval(nodes, count, ix) as u64
+}
+
+// Works the hull of slot `first` out, then that of slot `second`; the answer is how many of the two changed.
+pub fn rework_both(nodes: &mut [u64], count: u64, first: u64, second: u64) -> u64
+    requires { ⌜ (count * 8 ≤ length (now nodes)) × (first < count) × (second < count) ⌝ }
+    ensures { λ r. ⌜ (r ≡ changes count (bothHulls count (now (nodes .entry)) first second)) × (now (nodes .exit) ≡ fix count (fix count (now (nodes .entry)) first) second) ⌝ }
+{
+    let changed = rework_hull(nodes, count, first);
+    let again = rework_hull(nodes, count, second);
+    changed + again
+}
+
+// The hulls from the link word `from` up to the root; the answer is how many changed. No way up is longer than 32 in a store
+// that passes the check.
+pub fn fix_intervals_up(nodes: &mut [u64], count: u64, from: u64) -> u64
     requires { ⌜ count * 8 ≤ length (now nodes) ⌝ }
-    ensures { λ _. ⌜ now (nodes .exit) ≡ fixUp count 32 (now (nodes .entry)) from ⌝ }
+    ensures { λ r. ⌜ (r ≡ changes count (upHulls count 32 (now (nodes .entry)) from)) × (now (nodes .exit) ≡ fixUp count 32 (now (nodes .entry)) from) ⌝ }
 {
     let mut at = from;
+    let mut reach: u64 = 0;
     let mut height: u64 = 32;
     while height > 0 {
         let Link::Slot(ix) = Link::new(at, count) else {
-            return;
+            return reach;
         };
-        update_subtree_interval(nodes, count, ix);
+        reach += rework_hull(nodes, count, ix);
         at = parent_of(nodes, ix);
         height -= 1;
     }
+    reach
 }

@@ -1,8 +1,8 @@
 -- The turns of the repair, in the form that `search` takes.
 use mathlib.Core.Path.{_≡_, refl, sym, ap, _∙_}
 use mathlib.Core.Bool.{Bool, true, false, cond, not, _&&_, Bool·not-not, true≢false}
-use mathlib.Core.List.{List}
-use Prim.Native.Nat.{ℕ, _*_, _<_, _≤_}
+use mathlib.Core.List.{List, []}
+use Prim.Native.Nat.{ℕ, _+_, _*_, _<_, _≤_}
 use native.Mathlib.Omega.{arith}
 use lib.ListN.{length}
 use lib.Dec.{eqb, leb}
@@ -18,8 +18,10 @@ use Rattle.tree_rm_laws.specs.Remove.{Store, store, ending, restructure}
 use Rattle.tree_rm_repair.specs.Answers.{caseOf}
 use Rattle.tree_rm_repair.specs.declared.Case as K
 use Rattle.tree_rm_repair.specs.declared.Case.the-variants as ks
-use Rattle.tree_rm_links.proofs.LinkLaws.{read-linked}
-use Rattle.tree_rm_repair.proofs.Loops.{Loop, link-stays}
+use Rattle.tree_rm_laws.specs.Reach.{Work, changes, bothHulls, actHulls, turnOfHulls, turnAtHulls, stepHulls, repairHulls, restructureHulls}
+use Rattle.tree_rm_laws.proofs.Reached.{turn-le}
+use Rattle.tree_rm_links.proofs.LinkLaws.{read-linked, hulls-linked}
+use Rattle.tree_rm_repair.proofs.Loops.{Loop, Counted, link-stays}
 
 -- the choice among the cases, by which of the four are black
 pub choose-black : (p s c d : Bool)
@@ -81,9 +83,35 @@ module _ (n : ℕ) (W C : List ℕ) (r ix : ℕ) (b : Bool) (P S c d : ℕ) (k :
   pub as-five : (N : Next) → k ≡ ks.Five → N ≡ act n five W C r 0 b P S 0 d → N ≡ act n (caseOf k) W C r ix b P S c d
   as-five N e q = rw e q
 
-pub four-is : (n : ℕ) (W C : List ℕ) (r ix : ℕ) (b : Bool) (P S c : ℕ) (C₁ C₂ W₁ W₂ W₃ : List ℕ) → C₁ ≡ dye C c false → C₂ ≡ dye C₁ S true
-    → W₁ ≡ turn-4 n W b P S c → W₂ ≡ fix n W₁ S → W₃ ≡ fix n W₂ c → again W₃ C₂ r ix ≡ act n four W C r ix b P S c 0
-four-is n W C r ix b P S c C₁ C₂ W₁ W₂ W₃ e f g h i = rw (← e, ← f, ← g, ← h, ← i)
+-- and how many hulls change in it
+module _ (n : ℕ) (W : List ℕ) (b : Bool) (P S c : ℕ) (k : K.Case) where
+  pub quiet-one : k ≡ ks.One → 0 ≡ changes n (actHulls n (caseOf k) W b P S c)
+  quiet-one e = rw e refl
+
+  pub quiet-two : (x : ℕ) → k ≡ ks.Two → x ≡ 0 → x ≡ changes n (actHulls n (caseOf k) W b P S c)
+  quiet-two x e q = rw e q
+
+  pub quiet-three : k ≡ ks.Three → 0 ≡ changes n (actHulls n (caseOf k) W b P S c)
+  quiet-three e = rw e refl
+
+  pub loud-four : (x : ℕ) → k ≡ ks.Four → x ≡ changes n (actHulls n four W b P S c) → x ≡ changes n (actHulls n (caseOf k) W b P S c)
+  loud-four x e q = rw e q
+
+  pub quiet-five : (x : ℕ) → k ≡ ks.Five → x ≡ 0 → x ≡ changes n (actHulls n (caseOf k) W b P S c)
+  quiet-five x e q = rw e q
+
+pub four-changes : (n : ℕ) (W W₁ : List ℕ) (b : Bool) (P S c x : ℕ) → W₁ ≡ turn-4 n W b P S c → x ≡ changes n (bothHulls n W₁ S c)
+    → x ≡ changes n (actHulls n four W b P S c)
+four-changes n W W₁ b P S c x e h = rw (← e) h
+
+pub turn-changes : (n : ℕ) (W C : List ℕ) (P : ℕ) (b : Bool) (S c d : ℕ) (k : K.Case) (x : ℕ) → c ≡ kid W b S → d ≡ kid W (not b) S
+    → caseOf k ≡ choose (red C P) (red C S) (redAt n C c) (redAt n C d) → x ≡ changes n (actHulls n (caseOf k) W b P S c) → x ≡ changes n (turnOfHulls n W C P b S)
+unfolding turnOfHulls
+turn-changes n W C P b S c d k x e f g h = rw (← e, ← f, ← g) h
+
+pub four-is : (n : ℕ) (W C : List ℕ) (r ix : ℕ) (b : Bool) (P S c : ℕ) (C₁ C₂ W₁ W₂ : List ℕ) → C₁ ≡ dye C c false → C₂ ≡ dye C₁ S true
+    → W₁ ≡ turn-4 n W b P S c → W₂ ≡ fix n (fix n W₁ S) c → again W₂ C₂ r ix ≡ act n four W C r ix b P S c 0
+four-is n W C r ix b P S c C₁ C₂ W₁ W₂ e f g h = rw (← e, ← f, ← g, ← h)
 
 pub five-is : (n : ℕ) (W C : List ℕ) (r : ℕ) (b : Bool) (P S d : ℕ) (C₁ C₂ C₃ X : List ℕ) (top : ℕ) → C₁ ≡ dye C S (red C P) → C₂ ≡ dye C₁ P false
     → C₃ ≡ dyeAt n C₂ d false → top ≡ rootAfter n W r P S → X ≡ turn n W b P S → done X C₃ top ≡ act n five W C r 0 b P S 0 d
@@ -99,6 +127,16 @@ pub at-side : (F : ℕ → Bool → Next) (z : Next) (n : ℕ) (W : List ℕ) (i
     → l ≡ Slot p → x ≡ kid W true p → N ≡ F p (eqb x ix) → N ≡ onLink n (par W ix) (λ P. F P (eqb (kid W true P) ix)) z
 at-side F z n W ix N w p x l e q k f h =
     read-linked N n (par W ix) w l (λ (P : ℕ). F P (eqb (kid W true P) ix)) z e q p k (h ∙ ap (λ (y : ℕ). F p (eqb y ix)) f)
+
+pub side-changes : (F : ℕ → Bool → List Work) (n : ℕ) (W : List ℕ) (ix x w p t : ℕ) (l : Link) → w ≡ par W ix → l ≡ linkOf n w → l ≡ Slot p → t ≡ kid W true p
+    → x ≡ changes n (F p (eqb t ix)) → x ≡ changes n (onLink n (par W ix) (λ (P : ℕ). F P (eqb (kid W true P) ix)) [])
+side-changes F n W ix x w p t l e q k f h =
+    hulls-linked x n (par W ix) w l (λ (P : ℕ). F P (eqb (kid W true P) ix)) e q p k (h ∙ ap (λ (y : ℕ). changes n (F p (eqb y ix))) f)
+
+pub parent-changes : (n : ℕ) (W C : List ℕ) (ix x w p t : ℕ) (l : Link) → w ≡ par W ix → l ≡ linkOf n w → l ≡ Slot p → t ≡ kid W true p
+    → x ≡ changes n (turnAtHulls n W C p (eqb t ix)) → x ≡ changes n (stepHulls n W C ix)
+unfolding stepHulls
+parent-changes n W C ix x w p t l e q k f h = side-changes (λ (P : ℕ) (b : Bool). turnAtHulls n W C P b) n W ix x w p t l e q k f h
 
 pub at-parent : (n : ℕ) (W C : List ℕ) (r ix : ℕ) (N : Next) (w p x : ℕ) (l : Link) → w ≡ par W ix → l ≡ linkOf n w → l ≡ Slot p
     → x ≡ kid W true p → N ≡ turnAt n W C r ix p (eqb x ix) → N ≡ step n W C r ix
@@ -131,6 +169,10 @@ pub repairs : (n : ℕ) → Loop (step n) (repair n)
 unfolding repair
 repairs n = record { stops = λ W C r ix. refl; turns = λ f W C r ix. refl }
 
+pub repair-hulls : (n : ℕ) → Counted n (step n) (stepHulls n) (repairHulls n)
+unfolding repairHulls
+repair-hulls n = record { stops = λ W C r ix. refl; turns = λ f W C r ix. refl; most = λ W C ix. omega (arith, turn-le n W C ix) }
+
 -- before a slot is vacated
 pub red-child : (w a t : Bool) → w ≡ not a → not w ≡ t → a ≡ t
 red-child w a t f z = sym (Bool·not-not a) ∙ ap not (sym f) ∙ z
@@ -142,6 +184,19 @@ module _ (n : ℕ) (W C : List ℕ) (r x y : ℕ) (v : Bool) (e : v ≡ red C x)
   pub ready-red : v ≡ true → store W C r ≡ restructure n W C r x y
   unfolding restructure
   ready-red q = rw (sym e ∙ q)
+
+  pub still-red : v ≡ true → 0 ≡ changes n (restructureHulls n W C r x y)
+  unfolding restructureHulls
+  still-red q = rw (sym e ∙ q)
+
+  pub still-child : (w : Bool) → v ≡ false → w ≡ not (redAt n C y) → not w ≡ true → 0 ≡ changes n (restructureHulls n W C r x y)
+  unfolding restructureHulls
+  still-child w q f z = rw (sym e ∙ q, red-child w (redAt n C y) true f z)
+
+  pub repair-changes : (w : Bool) (k : ℕ) → v ≡ false → w ≡ not (redAt n C y) → not w ≡ false → k ≡ changes n (repairHulls n 36 W C r x)
+      → k ≡ changes n (restructureHulls n W C r x y)
+  unfolding restructureHulls
+  repair-changes w k q f z d = rw (sym e ∙ q, red-child w (redAt n C y) false f z) d
 
   pub ready-child : (w : Bool) (D : List ℕ) → v ≡ false → w ≡ not (redAt n C y) → not w ≡ true → D ≡ dye C y true → store W D r ≡ restructure n W C r x y
   unfolding restructure

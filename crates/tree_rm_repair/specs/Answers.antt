@@ -1,4 +1,4 @@
--- What the code's answers stand for. Both definitions tell any two answers apart.
+-- What the code's answers stand for. Together the definitions tell any two answers apart.
 use mathlib.Core.List.{List}
 use Prim.Native.Nat.{ℕ}
 use Rattle.tree_rm_laws.specs.Repair as rule
@@ -16,5 +16,10 @@ caseOf Five = rule.five
 
 -- a turn's answer, with the words and the colours that it leaves
 abbrev pub next : Turn → List ℕ → List ℕ → rule.Next
-next (Done r) W C = rule.done W C r
-next (Again r ix) W C = rule.again W C r ix
+next (Done r k) W C = rule.done W C r
+next (Again r ix k) W C = rule.again W C r ix
+
+-- how many hulls changed in it
+abbrev pub reach : Turn → ℕ
+reach (Done r k) = k
+reach (Again r ix k) = k

@@ -5,20 +5,21 @@ use bitvec::colours::is_red;
 use bitvec::colours::set_black;
 use bitvec::colours::set_red;
 use tree_rm_links::replace_children;
+use tree_rm_links::rework_both;
 use tree_rm_links::set_child;
 use words::ix::Link;
 use words::node::child_of;
 use words::node::parent_of;
-use words::node::update_subtree_interval;
 ghost use mathlib.Core.Path.{_≡_};
 ghost use mathlib.Core.Bool.{true, false, not};
-ghost use Prim.Native.Nat.{_*_, _<_, _≤_};
+ghost use Prim.Native.Nat.{_+_, _*_, _<_, _≤_};
 ghost use lib.ListN.{length};
 ghost use Rattle.bitvec.specs.Colours.{red, redAt, dye};
 ghost use Rattle.tree_rm_laws.specs.Links.{rootAfter};
 ghost use Rattle.tree_rm_laws.specs.Repair.{turn, turn-2, turn-4, dyeAt, two, four, five, choose, act, turnOf, turnAt, step, repair};
 ghost use Rattle.tree_rm_laws.specs.Remove.{store, ending, restructure};
-ghost use Rattle.tree_rm_repair.specs.Answers.{caseOf, next};
+ghost use Rattle.tree_rm_repair.specs.Answers.{caseOf, next, reach};
+ghost use Rattle.tree_rm_laws.specs.Reach.{changes, actHulls, turnOfHulls, turnAtHulls, stepHulls, repairHulls, restructureHulls};
 
 pub enum Case {
     // Node has black parent and black sibling, both nephews are black.
@@ -33,10 +34,16 @@ pub enum Case {
     Five,
 }
 
-// The root; and where the loop goes on, the slot that it stands at.
+// The root; where the loop goes on, the slot that it stands at; and how many hulls changed in this turn.
 pub enum Turn {
-    Done(u64),
-    Again(u64, u64),
+    Done(u64, u64),
+    Again(u64, u64, u64),
+}
+
+// The root after a repair, and how many hulls changed in it.
+pub struct Repaired {
+    pub root: u64,
+    pub reach: u64,
 }
 
 // Which of parent, sibling, close and distant nephew are black decides the case.
@@ -159,12 +166,12 @@ fn case_two(
     sibling: u64,
 ) -> Turn
     requires { ⌜ (count * 8 ≤ length (now nodes)) × (count ≤ length (now colours) * 8) × (parent < count) × (sibling < count) ⌝ }
-    ensures { λ r. ⌜ next r (now (nodes .exit)) (now (colours .exit)) ≡ act count two (now (nodes .entry)) (now (colours .entry)) root ix «node_is_left» parent sibling 0 0 ⌝ }
+    ensures { λ r. ⌜ (next r (now (nodes .exit)) (now (colours .exit)) ≡ act count two (now (nodes .entry)) (now (colours .entry)) root ix «node_is_left» parent sibling 0 0) × (reach r ≡ 0) ⌝ }
 {
     set_red(colours, parent);
     set_black(colours, sibling);
     let top = turn_two(nodes, count, root, node_is_left, parent, sibling);
-    Turn::Again(top, ix)
+    Turn::Again(top, ix, 0)
 }
 
 fn case_four(
@@ -179,14 +186,13 @@ fn case_four(
     close: u64,
 ) -> Turn
     requires { ⌜ (count * 8 ≤ length (now nodes)) × (count ≤ length (now colours) * 8) × (parent < count) × (sibling < count) × (close < count) ⌝ }
-    ensures { λ r. ⌜ next r (now (nodes .exit)) (now (colours .exit)) ≡ act count four (now (nodes .entry)) (now (colours .entry)) root ix «node_is_left» parent sibling close 0 ⌝ }
+    ensures { λ r. ⌜ (next r (now (nodes .exit)) (now (colours .exit)) ≡ act count four (now (nodes .entry)) (now (colours .entry)) root ix «node_is_left» parent sibling close 0) × (reach r ≡ changes count (actHulls count four (now (nodes .entry)) «node_is_left» parent sibling close)) ⌝ }
 {
     set_black(colours, close);
     set_red(colours, sibling);
     turn_four(nodes, count, node_is_left, parent, sibling, close);
-    update_subtree_interval(nodes, count, sibling);
-    update_subtree_interval(nodes, count, close);
-    Turn::Again(root, ix)
+    let changed = rework_both(nodes, count, sibling, close);
+    Turn::Again(root, ix, changed)
 }
 
 fn case_five(
@@ -200,13 +206,13 @@ fn case_five(
     distant: u64,
 ) -> Turn
     requires { ⌜ (count * 8 ≤ length (now nodes)) × (count ≤ length (now colours) * 8) × (parent < count) × (sibling < count) ⌝ }
-    ensures { λ r. ⌜ next r (now (nodes .exit)) (now (colours .exit)) ≡ act count five (now (nodes .entry)) (now (colours .entry)) root 0 «node_is_left» parent sibling 0 distant ⌝ }
+    ensures { λ r. ⌜ (next r (now (nodes .exit)) (now (colours .exit)) ≡ act count five (now (nodes .entry)) (now (colours .entry)) root 0 «node_is_left» parent sibling 0 distant) × (reach r ≡ 0) ⌝ }
 {
     copy_colour(colours, parent, sibling);
     set_black(colours, parent);
     set_black_at(colours, count, distant);
     let top = turn_up(nodes, count, root, node_is_left, parent, sibling);
-    Turn::Done(top)
+    Turn::Done(top, 0)
 }
 
 // What the case writes, for the node ix with its parent, its sibling and the link words of the nephews.
@@ -224,12 +230,13 @@ fn act_on(
     case: Case,
 ) -> Turn
     requires { ⌜ (count * 8 ≤ length (now nodes)) × (count ≤ length (now colours) * 8) × (parent < count) × (sibling < count) × (caseOf case ≡ four → close < count) ⌝ }
-    ensures { λ r. ⌜ next r (now (nodes .exit)) (now (colours .exit)) ≡ act count (caseOf case) (now (nodes .entry)) (now (colours .entry)) root ix «node_is_left» parent sibling close distant ⌝ }
+    ensures { λ r. ⌜ (next r (now (nodes .exit)) (now (colours .exit)) ≡ act count (caseOf case) (now (nodes .entry)) (now (colours .entry)) root ix «node_is_left» parent sibling close distant)
+        × (reach r ≡ changes count (actHulls count (caseOf case) (now (nodes .entry)) «node_is_left» parent sibling close)) ⌝ }
 {
     match case {
         Case::One => {
             set_red(colours, sibling);
-            Turn::Again(root, parent)
+            Turn::Again(root, parent, 0)
         }
         Case::Two => case_two(
             nodes,
@@ -244,7 +251,7 @@ fn act_on(
         Case::Three => {
             set_black(colours, parent);
             set_red(colours, sibling);
-            Turn::Done(root)
+            Turn::Done(root, 0)
         }
         Case::Four => case_four(
             nodes,
@@ -282,7 +289,8 @@ fn turn_of(
     sibling: u64,
 ) -> Turn
     requires { ⌜ (count * 8 ≤ length (now nodes)) × (count ≤ length (now colours) * 8) × (parent < count) × (sibling < count) ⌝ }
-    ensures { λ r. ⌜ next r (now (nodes .exit)) (now (colours .exit)) ≡ turnOf count (now (nodes .entry)) (now (colours .entry)) root ix parent «node_is_left» sibling ⌝ }
+    ensures { λ r. ⌜ (next r (now (nodes .exit)) (now (colours .exit)) ≡ turnOf count (now (nodes .entry)) (now (colours .entry)) root ix parent «node_is_left» sibling)
+        × (reach r ≡ changes count (turnOfHulls count (now (nodes .entry)) (now (colours .entry)) parent «node_is_left» sibling)) ⌝ }
 {
     let close = child_of(nodes, sibling, node_is_left);
     let distant = child_of(nodes, sibling, !node_is_left);
@@ -313,10 +321,11 @@ fn turn_at(
     node_is_left: bool,
 ) -> Turn
     requires { ⌜ (count * 8 ≤ length (now nodes)) × (count ≤ length (now colours) * 8) × (parent < count) ⌝ }
-    ensures { λ r. ⌜ next r (now (nodes .exit)) (now (colours .exit)) ≡ turnAt count (now (nodes .entry)) (now (colours .entry)) root ix parent «node_is_left» ⌝ }
+    ensures { λ r. ⌜ (next r (now (nodes .exit)) (now (colours .exit)) ≡ turnAt count (now (nodes .entry)) (now (colours .entry)) root ix parent «node_is_left»)
+        × (reach r ≡ changes count (turnAtHulls count (now (nodes .entry)) (now (colours .entry)) parent «node_is_left»)) ⌝ }
 {
     let Link::Slot(sibling) = Link::new(child_of(nodes, parent, !node_is_left), count) else {
-        return Turn::Done(root);
+        return Turn::Done(root, 0);
     };
     turn_of(
         nodes,
@@ -332,44 +341,53 @@ fn turn_at(
 
 fn one_turn(nodes: &mut [u64], colours: &mut [u8], count: u64, root: u64, ix: u64) -> Turn
     requires { ⌜ (count * 8 ≤ length (now nodes)) × (count ≤ length (now colours) * 8) × (ix < count) ⌝ }
-    ensures { λ r. ⌜ next r (now (nodes .exit)) (now (colours .exit)) ≡ step count (now (nodes .entry)) (now (colours .entry)) root ix ⌝ }
+    ensures { λ r. ⌜ (next r (now (nodes .exit)) (now (colours .exit)) ≡ step count (now (nodes .entry)) (now (colours .entry)) root ix)
+        × (reach r ≡ changes count (stepHulls count (now (nodes .entry)) (now (colours .entry)) ix)) ⌝ }
 {
     // Case (terminal): Node is the root of the tree.
     let Link::Slot(parent) = Link::new(parent_of(nodes, ix), count) else {
-        return Turn::Done(root);
+        return Turn::Done(root, 0);
     };
     let node_is_left = child_of(nodes, parent, true) == ix;
     turn_at(nodes, colours, count, root, ix, parent, node_is_left)
 }
 
-// Restructure the tree before removing ix; the answer is the root. In a store that passes the check 36 turns suffice.
+// Restructure the tree before removing ix. In a store that passes the check 36 turns suffice.
 fn restructure_rm_complex_cases(
     nodes: &mut [u64],
     colours: &mut [u8],
     count: u64,
     root: u64,
     ix: u64,
-) -> u64
+) -> Repaired
     requires { ⌜ (count * 8 ≤ length (now nodes)) × (count ≤ length (now colours) * 8) × (ix < count) ⌝ }
-    ensures { λ r. ⌜ store (now (nodes .exit)) (now (colours .exit)) r ≡ ending (repair count 36 (now (nodes .entry)) (now (colours .entry)) root ix) ⌝ }
+    ensures { λ r. ⌜ (store (now (nodes .exit)) (now (colours .exit)) (r .root) ≡ ending (repair count 36 (now (nodes .entry)) (now (colours .entry)) root ix))
+        × (r .reach ≡ changes count (repairHulls count 36 (now (nodes .entry)) (now (colours .entry)) root ix)) ⌝ }
 {
     let mut at = ix;
     let mut top = root;
+    let mut reach: u64 = 0;
     let mut turns: u64 = 36;
     while turns > 0 {
         match one_turn(nodes, colours, count, top, at) {
-            Turn::Done(r) => return r,
-            Turn::Again(r, i) => {
+            Turn::Done(r, k) => {
+                return Repaired {
+                    root: r,
+                    reach: reach + k,
+                };
+            }
+            Turn::Again(r, i, k) => {
                 top = r;
                 at = i;
+                reach += k;
                 turns -= 1;
             }
         }
     }
-    top
+    Repaired { root: top, reach }
 }
 
-// Restructure the tree before removing ix with the child link `child`; the answer is the root.
+// Restructure the tree before removing ix with the child link `child`.
 pub fn restructure_rm(
     nodes: &mut [u64],
     colours: &mut [u8],
@@ -377,17 +395,18 @@ pub fn restructure_rm(
     root: u64,
     ix: u64,
     child: u64,
-) -> u64
+) -> Repaired
     requires { ⌜ (count * 8 ≤ length (now nodes)) × (count ≤ length (now colours) * 8) × (ix < count) ⌝ }
-    ensures { λ r. ⌜ store (now (nodes .exit)) (now (colours .exit)) r ≡ restructure count (now (nodes .entry)) (now (colours .entry)) root ix child ⌝ }
+    ensures { λ r. ⌜ (store (now (nodes .exit)) (now (colours .exit)) (r .root) ≡ restructure count (now (nodes .entry)) (now (colours .entry)) root ix child)
+        × (r .reach ≡ changes count (restructureHulls count (now (nodes .entry)) (now (colours .entry)) root ix child)) ⌝ }
 {
     if is_red(colours, ix) {
-        return root;
+        return Repaired { root, reach: 0 };
     }
     if !is_black_or_nil(colours, count, child) {
         // The child will be removed later.
         set_red(colours, child);
-        return root;
+        return Repaired { root, reach: 0 };
     }
     restructure_rm_complex_cases(nodes, colours, count, root, ix)
 }

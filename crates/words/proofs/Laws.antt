@@ -1,12 +1,14 @@
 -- What the code's tests say of a rule, in the form that `search` takes.
 use mathlib.Core.Path.{_≡_, refl, sym, ap, _∙_}
-use mathlib.Core.Bool.{Bool, true, false, cond}
+use mathlib.Core.Bool.{Bool, true, false, cond, not}
+use mathlib.Core.List.{List}
 use Prim.Native.Nat.{ℕ, _+_, _*_, _<_, _≤_}
 use native.Mathlib.Omega.{arith}
 use lib.Dec.{leb}
 use borrow.Author.Tests.{le-leb, lt-leb, leb-false}
 use Rattle.words.specs.Ix.{gone, linkOf, onLink}
-use Rattle.words.specs.Intervals.{extended}
+use Rattle.words.specs.Intervals.{eq, extended}
+use Rattle.words.specs.Nodes.{hull, hullOf, altered, fix, putHull}
 use Rattle.words.specs.declared.interval.Interval.{Interval}
 use Rattle.words.specs.declared.ix.Link.{Link}
 use Rattle.words.specs.declared.ix.Link.the-variants.{Slot, Nil}
@@ -52,3 +54,13 @@ extended-by r d h x e q = q ∙ ap (λ (i : Interval). extended d i) e
 
 pub slot-below : (n k s len : ℕ) (l : Link) → l ≡ linkOf n k → l ≡ Slot s → n ≤ len → s < len
 slot-below n k s len l e q h = omega (arith, slot-live n k s l e q)
+
+-- a hull that is worked out
+module _ (n : ℕ) (W : List ℕ) (s : ℕ) (h : Interval) (e : h ≡ hullOf n W s) where
+  pub altered-is : (o : Interval) (t : Bool) → o ≡ hull W s → t ≡ eq o h → not t ≡ altered n W s
+  unfolding altered
+  altered-is o t f q = rw (q, f, e)
+
+  pub fixed-is : (X : List ℕ) → X ≡ putHull W s h → X ≡ fix n W s
+  unfolding fix
+  fixed-is X q = rw (← e) q

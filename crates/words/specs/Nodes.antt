@@ -1,10 +1,10 @@
 -- "Nodes: eight 64-bit words a slot: start, end, value, hull start, hull end, left, right, parent."
-use mathlib.Core.Bool.{Bool, true, false}
+use mathlib.Core.Bool.{Bool, true, false, not}
 use mathlib.Core.List.{List}
 use Prim.Native.Nat.{ℕ, _+_, _*_, _/_, min}
 use lib.ListN.{getD, set}
 use Rattle.words.specs.Ix.{onLink}
-use Rattle.words.specs.Intervals.{extended}
+use Rattle.words.specs.Intervals.{eq, extended}
 use Rattle.words.specs.declared.interval.Interval.{Interval}
 use Rattle.words.specs.declared.node.Entry.{Entry}
 use Rattle.words.specs.declared.node.Field.{Field}
@@ -82,6 +82,10 @@ joined n W k d = onLink n k (λ s. extended d (hull W s)) d
 -- the hull from the slot's own interval and its children's hulls
 unfoldable pub hullOf : ℕ → List ℕ → ℕ → Interval
 hullOf n W s = joined n W (kid W false s) (joined n W (kid W true s) (interval W s))
+
+-- document 02, item 9: working a hull out changes either end
+unfoldable pub altered : ℕ → List ℕ → ℕ → Bool
+altered n W s = not (eq (hull W s) (hullOf n W s))
 
 -- `update_subtree_interval`
 unfoldable pub fix : ℕ → List ℕ → ℕ → List ℕ

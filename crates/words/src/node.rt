@@ -5,7 +5,7 @@ use crate::ix::Link;
 ghost use mathlib.Core.Path.{_≡_};
 ghost use Prim.Native.Nat.{_+_, _*_, _<_, _≤_};
 ghost use lib.ListN.{length};
-ghost use Rattle.words.specs.Nodes.{place, word, put, start, stop, value, lo, hi, kid, par, interval, hull, entry, putKid, putPar, putEntry, putHull, putNode, swap, joined, hullOf, fix, room};
+ghost use Rattle.words.specs.Nodes.{place, word, put, start, stop, value, lo, hi, kid, par, interval, hull, entry, putKid, putPar, putEntry, putHull, putNode, swap, joined, hullOf, altered, fix, room};
 
 // How many words a node has: where the words of a store can be cut between two slots.
 pub const NODE_WORDS: usize = 8;
@@ -227,10 +227,13 @@ pub fn subtree_interval(nodes: &[u64], count: u64, index: u64) -> Interval
     extend_by(nodes, count, child_of(nodes, index, false), left)
 }
 
-pub fn update_subtree_interval(nodes: &mut [u64], count: u64, index: u64)
+// Works the hull of slot `index` out afresh, and says whether either end changed.
+pub fn update_subtree_interval(nodes: &mut [u64], count: u64, index: u64) -> bool
     requires { ⌜ (count * 8 ≤ length (now nodes)) × (index < count) ⌝ }
-    ensures { λ _. ⌜ now (nodes .exit) ≡ fix count (now (nodes .entry)) index ⌝ }
+    ensures { λ r. ⌜ (r ≡ altered count (now (nodes .entry)) index) × (now (nodes .exit) ≡ fix count (now (nodes .entry)) index) ⌝ }
 {
+    let old = hull_at(nodes, index);
     let h = subtree_interval(nodes, count, index);
     put_hull(nodes, index, h);
+    !old.eq(h)
 }

@@ -14,8 +14,8 @@ pub(crate) fn fits(numbers: &[u64]) -> bool {
 // A refused build has the map of no entries.
 fn reply_of(a: Built) -> Reply {
     match a {
-        Built::Done(map) => Reply::new(0, map, 0, 2),
-        Built::Refused(why) => Reply::new(why.number(), Map::new(), 0, 2),
+        Built::Done(map) => Reply::new(0, map, 0, 0, 2),
+        Built::Refused(why) => Reply::new(why.number(), Map::new(), 0, 0, 2),
     }
 }
 

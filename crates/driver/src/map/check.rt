@@ -11,5 +11,5 @@ fn number_of(a: Checked) -> u64 {
 }
 
 pub(crate) fn check(m: Map, nodes: &[u64], colours: &[u8]) -> Reply {
-    Reply::new(number_of(m.check(nodes, colours)), m, 0, 0)
+    Reply::new(number_of(m.check(nodes, colours)), m, 0, 0, 0)
 }

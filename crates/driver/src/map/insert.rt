@@ -8,8 +8,8 @@ use words::ix::U;
 // A refusal answers the map as given, and no slot.
 fn reply_of(a: Insertion, m: Map) -> Reply {
     match a {
-        Insertion::Done(added) => Reply::new(0, added.map, added.slot, 3),
-        Insertion::Refused(why) => Reply::new(why.number(), m, U, 3),
+        Insertion::Done(added) => Reply::new(0, added.map, added.slot, added.reach, 3),
+        Insertion::Refused(why) => Reply::new(why.number(), m, U, 0, 3),
     }
 }
 

@@ -31,17 +31,19 @@ fn removed(g: Gone) -> Reply {
         no: 0,
         count: m.count,
         root: m.root,
+        reach: g.reach,
         numbers: numbers_of(g),
         n: 9,
     }
 }
 
-// A refusal answers value 0, the map as given and no pairs.
+// A refusal answers value 0, the map as given, no pairs and no changed hulls.
 fn refused(no: u64, m: Map) -> Reply {
     Reply {
         no,
         count: m.count,
         root: m.root,
+        reach: 0,
         numbers: [0, m.count, m.root, U, U, U, U, U, U],
         n: 9,
     }

@@ -1,23 +1,25 @@
 // What a call on the map answers.
 use iset::Map;
 
-// The refusal's number, 0 for none; the map after the call; and the numbers that are printed after the first, of which
-// there are n.
+// The refusal's number, 0 for none; the map after the call; how many hulls changed; and the numbers that are printed after
+// the first, of which there are n.
 pub struct Reply {
     pub no: u64,
     pub count: u64,
     pub root: u64,
+    pub reach: u64,
     pub numbers: [u64; 9],
     pub n: usize,
 }
 
 impl Reply {
     // One that prints the first n of the count, the root and this slot.
-    pub(crate) fn new(no: u64, map: Map, slot: u64, n: usize) -> Reply {
+    pub(crate) fn new(no: u64, map: Map, slot: u64, reach: u64, n: usize) -> Reply {
         Reply {
             no,
             count: map.count,
             root: map.root,
+            reach,
             numbers: [map.count, map.root, slot, 0, 0, 0, 0, 0, 0],
             n,
         }

@@ -1,4 +1,4 @@
-use Rattle.tree_in.proofs.Inserts.{insert-is}
+use Rattle.tree_in.proofs.Inserts.{insert-is, insert-changes}
 use borrow.Author.Needs.{needs}
 use Rattle.tree_in.proofs.force_insert.Statement.{statement}
 use Rattle.tree_in.proofs.force_insert.Tie as tie
@@ -14,4 +14,4 @@ force-insert-spec =
     (λ c κs. search needs)
     (λ c. search needs)
     (λ c. search needs)
-    (λ c. search insert-is))
+    (λ c. (search insert-is, search insert-changes)))

@@ -1,3 +1,4 @@
+use mathlib.Core.Path.{refl}
 use Rattle.tree_rm_repair.proofs.Turns.{five-is}
 use borrow.Author.Needs.{needs}
 use Rattle.tree_rm_repair.proofs.case_five.Statement.{statement}
@@ -13,4 +14,4 @@ case-five-spec =
     (λ c κs. search needs)
     (λ c. search needs)
     (λ c. search needs)
-    (λ c. search five-is))
+    (λ c. (search five-is, refl)))

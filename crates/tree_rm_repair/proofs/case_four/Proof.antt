@@ -1,4 +1,4 @@
-use Rattle.tree_rm_repair.proofs.Turns.{four-is}
+use Rattle.tree_rm_repair.proofs.Turns.{four-is, four-changes}
 use borrow.Author.Needs.{needs}
 use Rattle.tree_rm_repair.proofs.case_four.Statement.{statement}
 use Rattle.tree_rm_repair.proofs.case_four.Tie as tie
@@ -11,7 +11,6 @@ case-four-spec =
     (λ c κs. search needs)
     (λ c κs. search needs)
     (λ c κs. search needs)
-    (λ c κs. search needs)
     (λ c. search needs)
     (λ c. search needs)
-    (λ c. search four-is))
+    (λ c. (search four-is, search four-changes)))

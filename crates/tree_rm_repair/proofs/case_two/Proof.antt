@@ -1,3 +1,4 @@
+use mathlib.Core.Path.{refl}
 use borrow.Author.Needs.{needs}
 use Rattle.tree_rm_repair.proofs.case_two.Statement.{statement}
 use Rattle.tree_rm_repair.proofs.case_two.Tie as tie
@@ -14,4 +15,4 @@ case-two-spec =
     (λ c. let links = c .before .before in
     let black = links .before .before .before .before in
     let red = black .before .before .before .before in
-    rw (links .turn-two .ensures .0, links .turn-two .ensures .1, black .set-black .ensures, red .set-red .ensures)))
+    (rw (links .turn-two .ensures .0, links .turn-two .ensures .1, black .set-black .ensures, red .set-red .ensures), refl)))

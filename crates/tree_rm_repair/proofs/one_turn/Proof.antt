@@ -1,5 +1,6 @@
-use Rattle.tree_rm_links.proofs.LinkLaws.{read-unlinked}
-use Rattle.tree_rm_repair.proofs.Turns.{at-parent}
+use Rattle.tree_rm_laws.specs.Reach.{stepHulls}
+use Rattle.tree_rm_links.proofs.LinkLaws.{hulls-unlinked, read-unlinked}
+use Rattle.tree_rm_repair.proofs.Turns.{at-parent, parent-changes}
 use Rattle.tree_rm_laws.specs.Repair.{step}
 use Rattle.words.proofs.Laws.{slot-live, slot-room}
 use borrow.Author.Needs.{needs}
@@ -8,7 +9,7 @@ use Rattle.tree_rm_repair.proofs.one_turn.Statement.{statement}
 use Rattle.tree_rm_repair.proofs.one_turn.Tie as tie
 
 pub one-turn-spec : {M : Type 1} → statement M
-unfolding step
+unfolding step stepHulls
 one-turn-spec =
     tie.close
     (tie.spec
@@ -17,9 +18,9 @@ one-turn-spec =
     (λ c. search needs)
     (λ c. search needs)
     (λ c. search needs)
-    (λ c. search read-unlinked)
+    (λ c. (search read-unlinked, search hulls-unlinked))
     (λ c κs. search slot-room)
     (λ c κs. (omega arith, omega arith, search slot-live))
     (λ c. search needs)
     (λ c. search needs)
-    (λ c. search at-parent))
+    (λ c. (search at-parent, search parent-changes)))

@@ -1,4 +1,4 @@
-use Rattle.tree_rm_repair.proofs.Turns.{ready-child, ready-red, ready-repair, red-fits}
+use Rattle.tree_rm_repair.proofs.Turns.{ready-child, ready-red, ready-repair, red-fits, still-red, still-child, repair-changes}
 use borrow.Author.Needs.{needs}
 use native.Mathlib.Omega.{arith}
 use Rattle.tree_rm_repair.proofs.restructure_rm.Statement.{statement}
@@ -10,12 +10,12 @@ restructure-rm-spec =
     (tie.spec
     (λ c κs. search needs)
     (λ c. search needs)
-    (λ c. search ready-red)
+    (λ c. (search ready-red, search still-red))
     (λ c κs. search needs)
     (λ c κs. red-fits _ _ _ _ (omega arith) (c .before .before .is-black-or-nil .ensures) (c .before .if2 .taken))
     (λ c. search needs)
-    (λ c. search ready-child)
+    (λ c. (search ready-child, search still-child))
     (λ c κs. search needs)
     (λ c. search needs)
     (λ c. search needs)
-    (λ c. search ready-repair))
+    (λ c. (search ready-repair, search repair-changes)))

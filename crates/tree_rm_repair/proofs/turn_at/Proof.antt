@@ -1,4 +1,5 @@
-use Rattle.tree_rm_links.proofs.LinkLaws.{read-linked, read-unlinked}
+use Rattle.tree_rm_laws.specs.Reach.{turnAtHulls}
+use Rattle.tree_rm_links.proofs.LinkLaws.{hulls-linked, hulls-unlinked, read-linked, read-unlinked}
 use Rattle.tree_rm_laws.specs.Repair.{turnAt}
 use Rattle.words.proofs.Laws.{slot-live}
 use borrow.Author.Needs.{needs}
@@ -7,7 +8,7 @@ use Rattle.tree_rm_repair.proofs.turn_at.Statement.{statement}
 use Rattle.tree_rm_repair.proofs.turn_at.Tie as tie
 
 pub turn-at-spec : {M : Type 1} → statement M
-unfolding turnAt
+unfolding turnAt turnAtHulls
 turn-at-spec =
     tie.close
     (tie.spec
@@ -16,8 +17,8 @@ turn-at-spec =
     (λ c. search needs)
     (λ c. search needs)
     (λ c. search needs)
-    (λ c. search read-unlinked)
+    (λ c. (search read-unlinked, search hulls-unlinked))
     (λ c κs. (omega arith, omega arith, omega arith, search slot-live))
     (λ c. search needs)
     (λ c. search needs)
-    (λ c. search read-linked))
+    (λ c. (search read-linked, search hulls-linked)))

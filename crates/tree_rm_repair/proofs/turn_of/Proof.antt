@@ -1,4 +1,4 @@
-use Rattle.tree_rm_repair.proofs.Turns.{close-there, turn-is}
+use Rattle.tree_rm_repair.proofs.Turns.{close-there, turn-is, turn-changes}
 use borrow.Author.Needs.{needs}
 use native.Mathlib.Omega.{arith}
 use Rattle.tree_rm_repair.proofs.turn_of.Statement.{statement}
@@ -14,4 +14,4 @@ turn-of-spec =
     (λ c κs. (omega arith, omega arith, omega arith, omega arith, λ e. close-there _ _ _ _ _ _ _ (c .before .before .case-at .ensures) e))
     (λ c. search needs)
     (λ c. search needs)
-    (λ c. search turn-is))
+    (λ c. (search turn-is, search turn-changes)))

@@ -1,4 +1,4 @@
-use Rattle.tree_in.proofs.Mends.{parent-black, parent-red, root-black}
+use Rattle.tree_in.proofs.Mends.{parent-black, parent-red, root-black, root-changes, below-changes, quiet-black}
 use Rattle.words.proofs.Laws.{slot-below, slot-live}
 use native.Mathlib.Omega.{arith}
 use borrow.Author.Needs.{needs}
@@ -16,12 +16,12 @@ one-turn-spec =
     (λ c κs. search needs)
     (λ c. search needs)
     (λ c. search needs)
-    (λ c. search root-black)
+    (λ c. (search root-black, search root-changes))
     (λ c κs. search slot-below)
     (λ c κs. (omega arith, omega arith, omega arith, search slot-live))
     (λ c. search needs)
     (λ c. search needs)
-    (λ c. search parent-red)
+    (λ c. (search parent-red, search below-changes))
     (λ c. search needs)
     (λ c. search needs)
-    (λ c. search parent-black))
+    (λ c. (search parent-black, search quiet-black)))

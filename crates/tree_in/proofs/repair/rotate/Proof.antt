@@ -1,4 +1,4 @@
-use Rattle.tree_in.proofs.Mends.{rotated-is}
+use Rattle.tree_in.proofs.Mends.{rotated-is, rotated-changes}
 use borrow.Author.Needs.{needs}
 use Rattle.tree_in.proofs.repair.rotate.Statement.{statement}
 use Rattle.tree_in.proofs.repair.rotate.Tie as tie
@@ -9,6 +9,5 @@ rotate-spec =
     (tie.spec
     (λ c κs. search needs)
     (λ c κs. search needs)
-    (λ c κs. search needs)
     (λ c. search needs)
-    (λ c. (search needs, search rotated-is)))
+    (λ c. (search needs, search rotated-is, search rotated-changes)))

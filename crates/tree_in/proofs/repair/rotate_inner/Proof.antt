@@ -1,4 +1,5 @@
-use Rattle.tree_in.proofs.Mends.{inner-is}
+use Rattle.tree_in.proofs.Mends.{inner-is, inner-changes, rotated-most}
+use native.Mathlib.Omega.{arith}
 use borrow.Author.Needs.{needs}
 use Rattle.tree_in.proofs.repair.rotate_inner.Statement.{statement}
 use Rattle.tree_in.proofs.repair.rotate_inner.Tie as tie
@@ -8,7 +9,7 @@ rotate-inner-spec =
     tie.close
     (tie.spec
     (λ c κs. search needs)
-    (λ c κs. search needs)
+    (λ c κs. (omega arith, omega arith, omega arith, omega arith, search rotated-most))
     (λ c. search needs)
     (λ c. search needs)
-    (λ c. search inner-is))
+    (λ c. (search inner-is, search inner-changes)))

@@ -1,4 +1,4 @@
-use Rattle.tree_in.proofs.Mends.{outer-is}
+use Rattle.tree_in.proofs.Mends.{outer-is, outer-changes, rotated-fits}
 use borrow.Author.Needs.{needs}
 use Rattle.tree_in.proofs.repair.rotate_outer.Statement.{statement}
 use Rattle.tree_in.proofs.repair.rotate_outer.Tie as tie
@@ -10,6 +10,7 @@ rotate-outer-spec =
     (λ c κs. search needs)
     (λ c κs. search needs)
     (λ c κs. search needs)
+    (λ c. search rotated-fits)
     (λ c. search needs)
     (λ c. search needs)
-    (λ c. search outer-is))
+    (λ c. (search outer-is, search outer-changes)))

@@ -1,4 +1,4 @@
-use Rattle.tree_in.proofs.Mends.{uncle-black, uncle-fits, uncle-red}
+use Rattle.tree_in.proofs.Mends.{uncle-black, uncle-fits, uncle-red, black-changes, red-changes}
 use native.Mathlib.Omega.{arith}
 use borrow.Author.Needs.{needs}
 use Rattle.tree_in.proofs.repair.turn_at.Statement.{statement}
@@ -13,8 +13,8 @@ turn-at-spec =
     (λ c κs. search needs)
     (λ c. search needs)
     (λ c. search needs)
-    (λ c. search uncle-black)
+    (λ c. (search uncle-black, search black-changes))
     (λ c κs. (omega arith, uncle-fits _ _ _ _ (c .before .before .is-black-or-nil .ensures) (omega arith) (c .before .if1 .left), omega arith))
     (λ c. search needs)
     (λ c. search needs)
-    (λ c. search uncle-red))
+    (λ c. (search uncle-red, search red-changes)))

@@ -1,4 +1,4 @@
-use Rattle.tree_in.proofs.Mends.{read-equal, read-unequal}
+use Rattle.tree_in.proofs.Mends.{read-equal, read-unequal, equal-changes, unequal-changes}
 use borrow.Author.Needs.{needs}
 use Rattle.tree_in.proofs.repair.turn_rotated.Statement.{statement}
 use Rattle.tree_in.proofs.repair.turn_rotated.Tie as tie
@@ -11,8 +11,8 @@ turn-rotated-spec =
     (λ c κs. search needs)
     (λ c. search needs)
     (λ c. search needs)
-    (λ c. search read-equal)
+    (λ c. (search read-equal, search equal-changes))
     (λ c κs. search needs)
     (λ c. search needs)
     (λ c. search needs)
-    (λ c. search read-unequal))
+    (λ c. (search read-unequal, search unequal-changes)))

@@ -1,5 +1,6 @@
-use Rattle.tree_rm_links.proofs.LinkLaws.{read-linked, read-unlinked}
-use Rattle.tree_rm.proofs.Removes.{cut-is}
+use Rattle.tree_rm_laws.specs.Reach.{cutHulls}
+use Rattle.tree_rm_links.proofs.LinkLaws.{hulls-unlinked, read-linked, read-unlinked}
+use Rattle.tree_rm.proofs.Removes.{cut-is, cut-changes}
 use Rattle.tree_rm_laws.specs.Remove.{cutRoot, cutWords}
 use Rattle.words.proofs.Laws.{slot-room}
 use borrow.Author.Needs.{needs}
@@ -8,7 +9,7 @@ use Rattle.tree_rm.proofs.remove.cut_leaf.Statement.{statement}
 use Rattle.tree_rm.proofs.remove.cut_leaf.Tie as tie
 
 pub cut-leaf-spec : {M : Type 1} → statement M
-unfolding cutRoot cutWords
+unfolding cutRoot cutWords cutHulls
 cut-leaf-spec =
     tie.close
     (tie.spec
@@ -17,8 +18,8 @@ cut-leaf-spec =
     (λ c. search needs)
     (λ c. search needs)
     (λ c. search needs)
-    (λ c. (refl, search read-unlinked, search read-unlinked))
+    (λ c. (refl, search read-unlinked, search read-unlinked, search hulls-unlinked))
     (λ c κs. search slot-room)
     (λ c κs. search needs)
     (λ c. search needs)
-    (λ c. (refl, search read-linked, search cut-is)))
+    (λ c. (refl, search read-linked, search cut-is, search cut-changes)))

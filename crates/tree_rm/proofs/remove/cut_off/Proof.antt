@@ -1,4 +1,4 @@
-use Rattle.tree_rm.proofs.Removes.{child-root, child-words, leaf-root, leaf-words}
+use Rattle.tree_rm.proofs.Removes.{child-root, child-words, leaf-root, leaf-words, leaf-changes, child-changes}
 use Rattle.tree_rm_laws.specs.Pairs.{emptied}
 use Rattle.words.proofs.Laws.{linked, slot-live, slot-room, unlinked}
 use borrow.Author.Needs.{needs}
@@ -16,9 +16,9 @@ cut-off-spec =
     (λ c. search needs)
     (λ c κs. search needs)
     (λ c. search needs)
-    (λ c. (search unlinked, omega arith, search leaf-root, search leaf-words))
+    (λ c. (search unlinked, omega arith, search leaf-root, search leaf-words, search leaf-changes))
     (λ c κs. (omega arith, search slot-room))
     (λ c κs. search needs)
     (λ c κs. search needs)
     (λ c. search needs)
-    (λ c. (search linked, search slot-live, search child-root, search child-words)))
+    (λ c. (search linked, search slot-live, search child-root, search child-words, search child-changes)))

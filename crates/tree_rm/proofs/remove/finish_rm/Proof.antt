@@ -1,4 +1,4 @@
-use Rattle.tree_rm.proofs.Removes.{finish-is}
+use Rattle.tree_rm.proofs.Removes.{finish-is, sum-is, cut-fits}
 use borrow.Author.Needs.{needs}
 use Rattle.tree_rm.proofs.remove.finish_rm.Statement.{statement}
 use Rattle.tree_rm.proofs.remove.finish_rm.Tie as tie
@@ -12,6 +12,7 @@ finish-rm-spec =
     (λ c κs. search needs)
     (λ c. search needs)
     (λ c κs. search needs)
+    (λ c. search cut-fits)
     (λ c. search needs)
     (λ c. search needs)
-    (λ c. search finish-is))
+    (λ c. (search finish-is, search sum-is)))

@@ -6,12 +6,12 @@ use native.Mathlib.Omega.{arith}
 use Rattle.words.proofs.Laws.{slot-live}
 use Rattle.words.proofs.ix.Link.new.Reads as new-reads
 use Rattle.words.proofs.node.child_of.Reads as child-of-reads
-use Rattle.tree_rm.proofs.Removes.{left-ends, left-low, left-on}
-use Rattle.tree_rm.proofs.remove.leftmost_from.Reads as leftmost-from
-use Rattle.tree_rm.proofs.remove.leftmost_from.Kinds as leftmost-from-kinds
-use Rattle.tree_rm.proofs.remove.+leftmost_from.Lts-leftmost_from as leftmost-from-lts
-use Rattle.tree_rm.proofs.remove.+leftmost_from.{statement}
-use Rattle.tree_rm.proofs.remove.+leftmost_from.Tie.{close}
+use Rattle.tree_rm_links.proofs.LinkLaws.{left-ends, left-low, left-on}
+use Rattle.tree_rm_links.proofs.leftmost_from.Reads as leftmost-from
+use Rattle.tree_rm_links.proofs.leftmost_from.Kinds as leftmost-from-kinds
+use Rattle.tree_rm_links.proofs.+leftmost_from.Lts-leftmost_from as leftmost-from-lts
+use Rattle.tree_rm_links.proofs.+leftmost_from.{statement}
+use Rattle.tree_rm_links.proofs.+leftmost_from.Tie.{close}
 
 abbrev μ-leftmost-from : Measures 1 leftmost-from-kinds.ps ℕ
 μ-leftmost-from κs a = a .1 .1 .1 .0

@@ -1,0 +1,12 @@
+// `last`: the version of the map that the last request left, and how many hulls changed in it. A map has no version yet: it is 0.
+use crate::answer;
+use crate::state::Left;
+use crate::state::State;
+
+pub(crate) fn request(s: State, out: &mut [u8]) -> State {
+    let left = s.left;
+    match left {
+        Left::Store(_, _, reach, _, _) => answer::line(s, 0, &[reach], 1, out),
+        _ => answer::what(s, out),
+    }
+}

@@ -1,0 +1,11 @@
+-- What the code's answer stands for.
+use mathlib.Core.List.{List}
+use Prim.Native.Nat.{ℕ}
+use lib.ListN.{length}
+use Rattle.iter.specs.Walk.{Rules}
+use Rattle.plain_laws.specs.Tour.{entries, plain}
+use Rattle.plain.specs.declared.Tally.{Tally}
+
+-- how many hits, and how many entries were gone through
+abbrev pub tally : ℕ → List ℕ → Rules → ℕ → Tally
+tally n W Q r = record { hits = length (plain n W Q r); entered = length (entries n W r) }

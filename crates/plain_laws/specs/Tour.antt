@@ -1,0 +1,39 @@
+-- Document 02, item 5: "goes through every entry in tree order by links alone, without stack or hulls".
+use mathlib.Core.Bool.{true, false, cond}
+use mathlib.Core.List.{List, [], _∷_}
+use Prim.Native.Nat.{ℕ, zero, suc}
+use lib.Dec.{eqb}
+use Rattle.words.specs.Ix.{U, onLink}
+use Rattle.words.specs.Nodes.{kid, par}
+use Rattle.tree_rm_laws.specs.Remove.{leftmost}
+use Rattle.iter.specs.Lists.{those}
+use Rattle.iter.specs.Walk.{Rules}
+
+-- the first slot above s that s is to the left of, at most `height` links up; U where there is none
+unfoldable pub ascend : ℕ → ℕ → List ℕ → ℕ → ℕ
+ascend n zero W s = U
+ascend n (suc height) W s =
+    let up : ℕ = ascend n height W (par W s) in
+    onLink n (par W s) (λ p. cond (eqb (kid W true p) s) p up) U
+
+-- the slot after s: "the leftmost of its right subtree", or that one above
+unfoldable pub nextOf : ℕ → List ℕ → ℕ → ℕ
+nextOf n W s = onLink n (kid W false s) (λ k. leftmost n 32 W k) (ascend n 32 W s)
+
+-- the first slot from the root r
+unfoldable pub firstOf : ℕ → List ℕ → ℕ → ℕ
+firstOf n W r = onLink n r (λ k. leftmost n 32 W k) U
+
+-- the slots from the link k on, at most `left` of them
+unfoldable pub tour : ℕ → ℕ → List ℕ → ℕ → List ℕ
+tour n zero W k = []
+tour n (suc left) W k =
+    let rest : List ℕ = tour n left W (nextOf n W k) in
+    onLink n k (λ s. k ∷ rest) []
+
+-- all of them, and "tests each": those that are looked for
+unfoldable pub entries : ℕ → List ℕ → ℕ → List ℕ
+entries n W r = tour n n W (firstOf n W r)
+
+unfoldable pub plain : ℕ → List ℕ → Rules → ℕ → List ℕ
+plain n W Q r = those (Q .match) (entries n W r)

@@ -1,0 +1,54 @@
+-- Removals worked out by the rule: how many hulls change. tests/model.py counts the same.
+use mathlib.Core.Path.{_≡_, refl}
+use mathlib.Core.Bool.{true}
+use mathlib.Core.List.{List, [], _∷_}
+use Prim.Native.Nat.{ℕ}
+use Rattle.words.specs.Ix.{U, onLink}
+use Rattle.words.specs.Nodes.{word, put, putEntry, putHull, swap, joined, hullOf, altered, fix}
+use Rattle.bitvec.specs.Bits.{bit, put as putBit, bitAt, setBit}
+use Rattle.tree_rm_laws.specs.Links.{adopt, setChild, redirected, removeChild, redirect, replaced, rootAfter, fixUp}
+use Rattle.tree_rm_laws.specs.Repair.{turn, turn-2, turn-4, four, dyeAt, turnOf, turnAt, step, repair}
+use Rattle.tree_rm_laws.specs.Pairs.{emptied}
+use Rattle.tree_rm_laws.specs.Remove.{leftmost, vacated, exchanged, child, restructure, handed, above}
+use Rattle.tree_rm_laws.specs.Reach.{differs, changes, upHulls, actHulls, turnOfHulls, turnAtHulls, stepHulls, repairHulls, restructureHulls, cutHulls, vacateHulls, removeHullsFrom, removeHulls}
+
+-- what the rows compute with
+reading : Unit {0}
+unfolding onLink word put putEntry putHull swap joined hullOf altered fix bit putBit bitAt setBit
+reading = record {}
+
+repairing : Unit {0}
+unfolding adopt setChild redirected removeChild redirect replaced rootAfter fixUp turn turn-2 turn-4 dyeAt turnOf turnAt step repair
+repairing = record {}
+
+reaching : Unit {0}
+unfolding leftmost vacated exchanged child restructure handed above emptied differs upHulls turnOfHulls turnAtHulls stepHulls repairHulls restructureHulls cutHulls vacateHulls removeHullsFrom removeHulls
+reaching = record {}
+
+-- [0, 5) black in slot 0, and [10, 15) red to its right. Slot 0 is removed: the entry of slot 1 goes there, and its hull, which stayed, changes. Had the
+-- two exchanged their hulls too, it would be found as it is.
+pub reach-two : changes 2 (removeHulls
+    (0 ∷ 5 ∷ 1 ∷ 0 ∷ 15 ∷ U ∷ 1 ∷ U ∷
+    10 ∷ 15 ∷ 2 ∷ 10 ∷ 15 ∷ U ∷ U ∷ 0 ∷ [])
+    (2 ∷ []) 2 0 0) ≡ 1
+unfolding reading repairing reaching
+reach-two = refl
+
+-- The walk from slot 0, which holds [0, 100), is below slot 2 and has a hull that is right: it goes on, and the hull of slot 2, which came up over it
+-- in a turn, changes.
+pub reach-past : changes 4 (upHulls 4 32
+    (0 ∷ 100 ∷ 1 ∷ 0 ∷ 100 ∷ U ∷ U ∷ 2 ∷
+    0 ∷ 50 ∷ 2 ∷ 0 ∷ 50 ∷ U ∷ U ∷ 0 ∷
+    20 ∷ 30 ∷ 3 ∷ 20 ∷ 50 ∷ 0 ∷ 3 ∷ U ∷
+    40 ∷ 50 ∷ 4 ∷ 40 ∷ 50 ∷ U ∷ U ∷ 2 ∷ []) 0) ≡ 1
+unfolding reading reaching
+reach-past = refl
+
+-- The close nephew's case: slot 3 comes up over slot 2, to the right of slot 0, and both hulls change.
+pub reach-nephew : changes 4 (actHulls 4 four
+    (10 ∷ 20 ∷ 1 ∷ 0 ∷ 60 ∷ 1 ∷ 2 ∷ U ∷
+    0 ∷ 5 ∷ 2 ∷ 0 ∷ 5 ∷ U ∷ U ∷ 0 ∷
+    50 ∷ 60 ∷ 3 ∷ 30 ∷ 60 ∷ 3 ∷ U ∷ 0 ∷
+    30 ∷ 40 ∷ 4 ∷ 30 ∷ 40 ∷ U ∷ U ∷ 2 ∷ []) true 0 2 3) ≡ 2
+unfolding reading repairing reaching
+reach-nephew = refl

@@ -1,0 +1,222 @@
+-- Between the hulls that a removal works out, one after the other, no hull changes before its last step. On any words.
+use mathlib.Core.Path.{_≡_, refl, _∙_}
+use mathlib.Core.Bool.{Bool, true, false, cond, not}
+use mathlib.Core.List.{List, [], _∷_, _++_}
+use Prim.Native.Nat.{ℕ, zero, suc, _+_, _*_, _≤_}
+use native.Mathlib.Omega.{arith}
+use lib.ListN.{length, length-append}
+use lib.Dec.{eqb, leb}
+use Rattle.words.specs.Ix.{U, onLink}
+use Rattle.words.specs.Nodes.{kid, par, hull, altered, fix, swap, putKid}
+use Rattle.words.specs.declared.node.Field.the-variants.{HullStart, HullEnd, Child}
+use Rattle.words.proofs.Nodes.{word-swap, word-put-field, inLinks}
+use Rattle.bitvec.specs.Colours.{red, redAt, dye}
+use Rattle.tree_rm_laws.specs.Links.{removeChild, redirected, fixUp}
+use Rattle.tree_rm_laws.specs.Pairs.{emptied}
+use Rattle.tree_rm_laws.specs.Repair.{turn, turn-2, turn-4, Case, one, two, three, four, five, choose, Next, done, again, act, turnOf, turnAt, step, goOn, repair}
+use Rattle.tree_rm_laws.specs.Remove.{vacated, exchanged, child, Store, store, ending, restructure, handed, above, cutWords, finish, removeFrom, removeRule}
+use Rattle.tree_rm_laws.specs.Reach.{Work, work, changes, differs, upHulls, actHulls, turnOfHulls, turnAtHulls, stepHulls, onward, repairHulls, restructureHulls, cutHulls, vacateHulls, removeHullsFrom, removeHulls, cutFrom, lastStep, Stays, Follows}
+use Rattle.tree_rm_laws.proofs.Carried.{Kept}
+use Rattle.tree_rm_laws.proofs.Links.{by-link, kept-turn, kept-turn-2, kept-turn-4}
+
+pub kept-hull : (W X : List ℕ) (a : ℕ) → Kept W X a → hull X a ≡ hull W a
+kept-hull W X a f = λ t. record { start = f HullStart refl t; end = f HullEnd refl t }
+
+pub kept-stays : (W X : List ℕ) → ((a : ℕ) → Kept W X a) → Stays W X
+kept-stays W X f a = kept-hull W X a (f a)
+
+module _ (n : ℕ) where
+  -- one after the other
+  from : (W X : List ℕ) (l : List Work) (Z : List ℕ) → Stays W X → Follows n X l Z → Follows n W l Z
+  from W X [] Z f g = λ a. g a ∙ f a
+  from W X (w ∷ l) Z f g = (λ a. g .0 a ∙ f a, g .1)
+
+  pub then : (W X : List ℕ) (l m : List Work) (Z : List ℕ) → Follows n W l X → Follows n X m Z → Follows n W (l ++ m) Z
+  then W X [] m Z f g = from W X m Z f g
+  then W X (w ∷ l) m Z f g = (f .0, then (fix n (w .words) (w .slot)) X l m Z (f .1) g)
+
+  -- a link word by cases, in the list and in the words
+  linked : (W : List ℕ) (k : ℕ) (l : ℕ → List Work) (X : ℕ → List ℕ) → Follows n W (l k) (X k) → Follows n W (onLink n k l []) (onLink n k X W)
+  unfolding onLink
+  linked W k l X f = go (leb n k)
+    where
+      go : (t : Bool) → Follows n W (cond t [] (l k)) (cond t W (X k))
+      go true = λ a. refl
+      go false = f
+
+  -- the walk upward
+  pub follows-up : (height : ℕ) (W : List ℕ) (k : ℕ) → Follows n W (upHulls n height W k) (fixUp n height W k)
+  unfolding upHulls fixUp
+  follows-up zero W k = λ a. refl
+  follows-up (suc height) W k =
+      linked W k (λ s. work W k ∷ upHulls n height (fix n W k) (par W k)) (λ s. fixUp n height (fix n W k) (par W k))
+      (λ a. refl, follows-up height (fix n W k) (par W k))
+
+  -- a turn of the repair
+  follows-act : (k : Case) (W C : List ℕ) (r ix : ℕ) (b : Bool) (P S c d : ℕ)
+      → Follows n W (actHulls n k W b P S c) (ending (act n k W C r ix b P S c d) .words)
+  follows-act one W C r ix b P S c d = λ a. refl
+  follows-act two W C r ix b P S c d = kept-stays W (turn-2 n W b P S) (kept-turn-2 n W b P S)
+  follows-act three W C r ix b P S c d = λ a. refl
+  follows-act four W C r ix b P S c d = (kept-stays W (turn-4 n W b P S c) (kept-turn-4 n W b P S c), (λ a. refl, λ a. refl))
+  follows-act five W C r ix b P S c d = kept-stays W (turn n W b P S) (kept-turn n W b P S)
+
+  linked-next : (W C : List ℕ) (r k : ℕ) (l : ℕ → List Work) (X : ℕ → Next) → Follows n W (l k) (ending (X k) .words)
+      → Follows n W (onLink n k l []) (ending (onLink n k X (done W C r)) .words)
+  unfolding onLink
+  linked-next W C r k l X f = go (leb n k)
+    where
+      go : (t : Bool) → Follows n W (cond t [] (l k)) (ending (cond t (done W C r) (X k)) .words)
+      go true = λ a. refl
+      go false = f
+
+  follows-step : (W C : List ℕ) (r ix : ℕ) → Follows n W (stepHulls n W C ix) (ending (step n W C r ix) .words)
+  unfolding stepHulls turnAtHulls turnOfHulls step turnAt turnOf
+  follows-step W C r ix =
+      linked-next W C r (par W ix) (λ P. turnAtHulls n W C P (eqb (kid W true P) ix)) (λ P. turnAt n W C r ix P (eqb (kid W true P) ix))
+      (at (par W ix) (eqb (kid W true (par W ix)) ix))
+    where
+      at : (P : ℕ) (b : Bool) → Follows n W (turnAtHulls n W C P b) (ending (turnAt n W C r ix P b) .words)
+      at P b =
+          linked-next W C r (kid W (not b) P) (λ S. turnOfHulls n W C P b S) (λ S. turnOf n W C r ix P b S)
+          (follows-act (choose (red C P) (red C (kid W (not b) P)) (redAt n C (kid W b (kid W (not b) P))) (redAt n C (kid W (not b) (kid W (not b) P))))
+          W C r ix b P (kid W (not b) P) (kid W b (kid W (not b) P)) (kid W (not b) (kid W (not b) P)))
+
+  follows-repair : (turns : ℕ) (W C : List ℕ) (r ix : ℕ) → Follows n W (repairHulls n turns W C r ix) (ending (repair n turns W C r ix) .words)
+  unfolding repairHulls repair
+  follows-repair zero W C r ix = λ a. refl
+  follows-repair (suc turns) W C r ix = go (follows-repair turns) (step n W C r ix) (follows-step W C r ix)
+    where
+      go : ((X D : List ℕ) (q i : ℕ) → Follows n X (repairHulls n turns X D q i) (ending (repair n turns X D q i) .words)) → (s : Next)
+          → Follows n W (stepHulls n W C ix) (ending s .words)
+          → Follows n W (stepHulls n W C ix ++ onward s (λ X D q i. repairHulls n turns X D q i)) (ending (goOn s (λ X D q i. repair n turns X D q i)) .words)
+      go rec (done X D q) f = then W X (stepHulls n W C ix) [] X f (λ a. refl)
+      go rec (again X D q i) f = then W X (stepHulls n W C ix) (repairHulls n turns X D q i) (ending (repair n turns X D q i) .words) f (rec X D q i)
+
+  follows-restructure : (W C : List ℕ) (r x y : ℕ) → Follows n W (restructureHulls n W C r x y) (restructure n W C r x y .words)
+  unfolding restructureHulls restructure
+  follows-restructure W C r x y = go (red C x) (redAt n C y)
+    where
+      go : (i j : Bool) → Follows n W (cond i [] (cond j [] (repairHulls n 36 W C r x)))
+          (cond i (store W C r) (cond j (store W (dye C y true) r) (ending (repair n 36 W C r x))) .words)
+      go true j = λ a. refl
+      go false true = λ a. refl
+      go false false = follows-repair 36 W C r x
+
+  follows-cut : (W : List ℕ) (g v : ℕ) → Follows n W (cutHulls n W g v) (cutWords n W g v)
+  unfolding cutHulls cutWords removeChild redirected
+  follows-cut W g v =
+      linked W g (λ s. upHulls n 32 (putKid W (eqb (kid W true s) v) s U) s) (λ s. fixUp n 32 (putKid W (eqb (kid W true s) v) s U) s)
+      (from W (putKid W (eqb (kid W true g) v) g U) (upHulls n 32 (putKid W (eqb (kid W true g) v) g U) g) (fixUp n 32 (putKid W (eqb (kid W true g) v) g U) g)
+      (kept-stays W (putKid W (eqb (kid W true g) v) g U) (λ a f q. word-put-field W (Child (eqb (kid W true g) v)) g U inLinks f a refl q))
+      (follows-up 32 (putKid W (eqb (kid W true g) v) g U) g))
+
+  swap-stays : (W : List ℕ) (i j : ℕ) → Stays W (swap W i j)
+  swap-stays W i j a = λ t. record { start = word-swap W i j HullStart a refl t; end = word-swap W i j HullEnd a refl t }
+
+  exchanged-stays : (W : List ℕ) (s x : ℕ) → Stays W (exchanged W s x)
+  unfolding exchanged
+  exchanged-stays W s x = go (eqb x s)
+    where
+      go : (t : Bool) → Stays W (cond t W (swap W s x))
+      go true = λ a. refl
+      go false = swap-stays W s x
+
+  handed-stays : (W : List ℕ) (x y : ℕ) → Stays W (handed n W x y)
+  unfolding handed
+  handed-stays W x y = by-link n y (λ X. Stays W X) (λ s. swap W x s) W (λ h. swap-stays W x y) (λ h a. refl)
+
+-- on any words: up to the move of the last slot, the hulls that are worked out are all that change
+pub reached : (W C : List ℕ) (n r s : ℕ) → Follows n W (removeHulls W C n r s) (cutFrom W C n r s (vacated n W s))
+unfolding removeHulls removeHullsFrom vacateHulls cutFrom
+reached W C n r s =
+    let x : ℕ = vacated n W s in
+    let X : List ℕ = exchanged W s x in
+    let y : ℕ = child X x in
+    let t : Store = restructure n X C r x y in
+    let H : List ℕ = handed n (t .words) x y in
+    let g : ℕ = above n (t .words) x y in
+    let v : ℕ = emptied n x y in
+    from n W X (restructureHulls n X C r x y ++ cutHulls n H g v) (cutWords n H g v) (exchanged-stays n W s x)
+    (then n X (t .words) (restructureHulls n X C r x y) (cutHulls n H g v) (cutWords n H g v) (follows-restructure n X C r x y)
+    (from n (t .words) H (cutHulls n H g v) (cutWords n H g v) (handed-stays n (t .words) x y) (follows-cut n H g v)))
+
+-- and the last step is made in these words
+pub cut-then-moved : (W C : List ℕ) (n r s : ℕ)
+    → removeRule W C n r s .store ≡ lastStep (cutFrom W C n r s (vacated n W s)) W C n r s (vacated n W s)
+unfolding removeRule removeFrom finish cutFrom lastStep
+cut-then-moved W C n r s = refl
+
+-- how much it can be, on any words
+module _ (n : ℕ) where
+  pub differs-le : (W : List ℕ) (s : ℕ) → differs n W s ≤ 1
+  unfolding differs
+  differs-le W s = go (altered n W s)
+    where
+      go : (t : Bool) → cond t 1 0 ≤ 1
+      go true = omega arith
+      go false = omega arith
+
+  pub changes-append : (l m : List Work) → changes n (l ++ m) ≡ changes n l + changes n m
+  changes-append [] m = omega arith
+  changes-append (w ∷ l) m = omega (arith, changes-append l m)
+
+  pub changes-le : (l : List Work) → changes n l ≤ length l
+  changes-le [] = omega arith
+  changes-le (w ∷ l) = omega (arith, differs-le (w .words) (w .slot), changes-le l)
+
+  -- a turn works out two hulls at the most
+  step-two : (W C : List ℕ) (ix : ℕ) → length (stepHulls n W C ix) ≤ 2
+  unfolding stepHulls turnAtHulls turnOfHulls
+  step-two W C ix =
+      by-link n (par W ix) (λ l. length l ≤ 2) (λ P. turnAtHulls n W C P (eqb (kid W true P) ix)) []
+      (λ h. by-link n (kid W (not (side)) (par W ix)) (λ l. length l ≤ 2) (λ S. turnOfHulls n W C (par W ix) side S) []
+      (λ i. few (choose _ _ _ _) W side (par W ix) (kid W (not side) (par W ix)) (kid W side (kid W (not side) (par W ix))))
+      (λ i. omega arith))
+      (λ h. omega arith)
+    where
+      side : Bool
+      side = eqb (kid W true (par W ix)) ix
+
+      few : (k : Case) (W : List ℕ) (b : Bool) (P S c : ℕ) → length (actHulls n k W b P S c) ≤ 2
+      few one W b P S c = omega arith
+      few two W b P S c = omega arith
+      few three W b P S c = omega arith
+      few four W b P S c = omega arith
+      few five W b P S c = omega arith
+
+  pub turn-le : (W C : List ℕ) (ix : ℕ) → changes n (stepHulls n W C ix) ≤ 2
+  turn-le W C ix = omega (arith, changes-le (stepHulls n W C ix), step-two W C ix)
+
+  pub up-most : (height : ℕ) (W : List ℕ) (k : ℕ) → length (upHulls n height W k) ≤ height
+  unfolding upHulls
+  up-most zero W k = omega arith
+  up-most (suc height) W k =
+      by-link n k (λ l. length l ≤ suc height) (λ s. work W k ∷ upHulls n height (fix n W k) (par W k)) []
+      (λ h. omega (arith, up-most height (fix n W k) (par W k))) (λ h. omega arith)
+
+  pub cut-most : (W : List ℕ) (g v : ℕ) → changes n (cutHulls n W g v) ≤ 32
+  unfolding cutHulls
+  cut-most W g v =
+      by-link n g (λ l. changes n l ≤ 32) (λ s. upHulls n 32 (removeChild W s v) s) []
+      (λ h. omega (arith, changes-le (upHulls n 32 (removeChild W g v) g), up-most 32 (removeChild W g v) g)) (λ h. omega arith)
+
+  repair-most : (turns : ℕ) (W C : List ℕ) (r ix : ℕ) → length (repairHulls n turns W C r ix) ≤ turns * 2
+  unfolding repairHulls
+  repair-most zero W C r ix = omega arith
+  repair-most (suc turns) W C r ix =
+      rw length-append (go (repair-most turns) (step n W C r ix))
+    where
+      go : ((X D : List ℕ) (q i : ℕ) → length (repairHulls n turns X D q i) ≤ turns * 2) → (s : Next)
+          → length (stepHulls n W C ix) + length (onward s (λ X D q i. repairHulls n turns X D q i)) ≤ suc turns * 2
+      go rec (done X D q) = omega (arith, step-two W C ix)
+      go rec (again X D q i) = omega (arith, step-two W C ix, rec X D q i)
+
+  pub restructure-most : (W C : List ℕ) (r x y : ℕ) → changes n (restructureHulls n W C r x y) ≤ 144
+  unfolding restructureHulls
+  restructure-most W C r x y = go (red C x) (redAt n C y)
+    where
+      go : (i j : Bool) → changes n (cond i [] (cond j [] (repairHulls n 36 W C r x))) ≤ 144
+      go true j = omega arith
+      go false true = omega arith
+      go false false = omega (arith, changes-le (repairHulls n 36 W C r x), repair-most 36 W C r x)
