@@ -1,13 +1,16 @@
 /* The crate iset 0.3.3 and this library in one program on the same inputs. Each case is run in rounds, the two sides one after the other in
    each round, and the ratio of their times (this library's over the other's) is taken in each round; printed are the median, the least and the
    greatest ratio, and how this library's time for one entry or one lookup grows from the least size on. Both sides' answers are compared on the
-   way. */
+   way. This library's calls are the exports: the opened ones, from C and through the Rust type `Store`, and of the public ones the check, the build and,
+   where it says so, the point lookups, each of which checks the whole store. */
 #include <stdbool.h>
 #include <stdint.h>
 #include <stdio.h>
 #include <stdlib.h>
 #include <string.h>
 #include <time.h>
+
+#include "iset_open.h"
 
 typedef struct map map;
 map *rust_build(const uint64_t *list, size_t n);
@@ -22,21 +25,19 @@ uint64_t rust_point(const map *m, uint64_t p);
 uint64_t rust_exact(const map *m, uint64_t start, uint64_t end);
 bool rust_check(const uint64_t *w, size_t wn, const uint8_t *b, size_t bn, uint64_t count, uint64_t root);
 
-uint64_t inner_remove(uint64_t *w, size_t wn, uint8_t *b, size_t bn, uint64_t count, uint64_t root, uint64_t slot, uint64_t *answer, size_t an);
-uint64_t inner_insert(uint64_t *w, size_t wn, uint8_t *b, size_t bn, uint64_t count, uint64_t root, uint64_t start, uint64_t end, uint64_t value);
-uint64_t inner_drain(const uint64_t *w, size_t wn, uint64_t count, uint64_t root, uint64_t kinds, uint64_t lo, uint64_t hi, uint64_t *out,
-                     size_t on);
-uint64_t inner_drain_exact(const uint64_t *w, size_t wn, uint64_t count, uint64_t root, uint64_t start, uint64_t end, uint64_t *out, size_t on);
-bool inner_check(const uint64_t *w, size_t wn, const uint8_t *b, size_t bn, uint64_t count, uint64_t root);
-uint64_t inner_build(const uint64_t *list, size_t ln, uint64_t *w, size_t wn, uint8_t *b, size_t bn);
-uint64_t public_drain(const uint64_t *w, size_t wn, const uint8_t *b, size_t bn, uint64_t count, uint64_t root, uint64_t kinds, uint64_t lo,
-                      uint64_t hi, uint64_t *out, size_t on);
+typedef struct store store;
+store *store_open(uint64_t count, uint64_t root, uint64_t *w, size_t wn, uint8_t *b, size_t bn);
+uint64_t store_close(store *s);
+uint64_t store_remove(store *s, uint64_t slot);
+uint64_t store_insert(store *s, uint64_t start, uint64_t end, uint64_t value);
+uint64_t store_all(const store *s);
+uint64_t store_point(const store *s, uint64_t p);
+uint64_t store_exact(const store *s, uint64_t start, uint64_t end);
 
 /* Rust's libraries name it; nothing here unwinds. */
 void rust_eh_personality(void) {}
 
-enum { ROUNDS = 15, MOST = 65535, LOOKUPS = 10000, INCLUDED_BOTH = 0, UNBOUNDED_BOTH = 8 };
-static const uint64_t NONE = 4294967295;
+enum { ROUNDS = 15, MOST = 65535, LOOKUPS = 10000, PIECE = 64 };
 
 static uint64_t list[3 * MOST], mixed[3 * MOST], words[8 * MOST], spare[8 * MOST], held[8 * MOST], out[MOST], slots[MOST];
 static uint8_t bytes[MOST / 8 + 1], spare_bytes[MOST / 8 + 1], held_bytes[MOST / 8 + 1];
@@ -129,14 +130,30 @@ static uint64_t remove_theirs(void) {
     return sum;
 }
 static uint64_t remove_ours(void) {
-    uint64_t sum = 0, answer[2] = {0, root};
+    uint64_t sum = 0, answer[9] = {0, n, root};
     for (size_t k = 0; k < n; k++) {
-        inner_remove(spare, 8 * n, spare_bytes, colour_bytes, n - k, answer[1], slots[k], answer, 2);
+        iset_open_remove(answer[1], answer[2], spare, 8 * n, spare_bytes, colour_bytes, slots[k], answer, 9);
         sum = 3 * sum + answer[0];
     }
     return sum;
 }
 static void after_removal(void) { rust_free(victim); }
+/* The same by the Rust type `Store`, which checks where it is opened. */
+static store *opened;
+static void before_store_removal(void) {
+    before_removal();
+    opened = store_open(n, root, spare, 8 * n, spare_bytes, colour_bytes);
+}
+static uint64_t remove_by_store(void) {
+    uint64_t sum = 0;
+    for (size_t k = 0; k < n; k++)
+        sum = 3 * sum + store_remove(opened, slots[k]);
+    return sum;
+}
+static void after_store_removal(void) {
+    store_close(opened);
+    after_removal();
+}
 
 /* Insertion of every entry into the map of none, in one order by chance. The two stores are the same, word for word. */
 static map *grown;
@@ -151,9 +168,12 @@ static uint64_t insert_theirs(void) {
     return 0;
 }
 static uint64_t insert_ours(void) {
-    grown_root = NONE;
-    for (size_t k = 0; k < n; k++)
-        grown_root = inner_insert(spare, 8 * n, spare_bytes, colour_bytes, k, grown_root, mixed[3 * k], mixed[3 * k + 1], mixed[3 * k + 2]);
+    uint64_t answer[3] = {0, ISET_U};
+    for (size_t k = 0; k < n; k++) {
+        const uint64_t *entry = mixed + 3 * k;
+        iset_open_insert(answer[0], answer[1], spare, 8 * n, spare_bytes, colour_bytes, entry[0], entry[1], entry[2], answer, 3);
+    }
+    grown_root = answer[1];
     return 0;
 }
 static void after_insertion(void) {
@@ -163,8 +183,37 @@ static void after_insertion(void) {
     rust_free(grown);
 }
 
+static void before_store_insertion(void) {
+    before_insertion();
+    opened = store_open(0, ISET_U, spare, 8 * n, spare_bytes, colour_bytes);
+}
+static uint64_t insert_by_store(void) {
+    for (size_t k = 0; k < n; k++)
+        store_insert(opened, mixed[3 * k], mixed[3 * k + 1], mixed[3 * k + 2]);
+    return 0;
+}
+static void after_store_insertion(void) {
+    grown_root = store_close(opened);
+    after_insertion();
+}
+
+/* A `Store` over the whole map, for lookups. */
+static void open_store(void) { opened = store_open(n, root, words, 8 * n, bytes, colour_bytes); }
+static void close_store(void) { store_close(opened); }
+
 static uint64_t all_theirs(void) { return rust_all(crate); }
-static uint64_t all_ours(void) { return values(inner_drain(words, 8 * n, n, root, UNBOUNDED_BOTH, 0, 0, out, n)); }
+static uint64_t all_by_store(void) { return store_all(opened); }
+static uint64_t all_by(uint64_t piece) {
+    uint64_t sum = 0, answer[5] = {0, 0, root, 1, 0};
+    while (answer[2] != ISET_U) {
+        iset_open_drain(n, root, words, 8 * n, bytes, colour_bytes, ISET_UNBOUNDED, 0, ISET_UNBOUNDED, 0, answer[2], answer[3], answer[4], piece,
+                        out, n, answer, 5);
+        sum += values(answer[0]);
+    }
+    return sum;
+}
+static uint64_t all_at_once(void) { return all_by(n); }
+static uint64_t all_in_pieces(void) { return all_by(PIECE); }
 
 /* Points by chance. Each public lookup checks the whole store, so there may be fewer of them a round. */
 static uint64_t points[LOOKUPS], range_end;
@@ -182,15 +231,30 @@ static uint64_t some_theirs(size_t lookups) {
 static uint64_t points_theirs(void) { return some_theirs(LOOKUPS); }
 static uint64_t publics_theirs(void) { return some_theirs(publics); }
 static uint64_t points_ours(void) {
+    uint64_t sum = 0, answer[5] = {0};
+    for (size_t k = 0; k < LOOKUPS; k++) {
+        iset_open_at(n, root, words, 8 * n, bytes, colour_bytes, points[k], out, PIECE, answer, 5);
+        sum = 3 * sum + values(answer[0]);
+    }
+    return sum;
+}
+static void before_store_points(void) {
+    before_points();
+    open_store();
+}
+static uint64_t points_by_store(void) {
     uint64_t sum = 0;
     for (size_t k = 0; k < LOOKUPS; k++)
-        sum = 3 * sum + values(inner_drain(words, 8 * n, n, root, INCLUDED_BOTH, points[k], points[k], out, 64));
+        sum = 3 * sum + store_point(opened, points[k]);
     return sum;
 }
 static uint64_t points_public(void) {
-    uint64_t sum = 0;
-    for (size_t k = 0; k < publics; k++)
-        sum = 3 * sum + values(public_drain(words, 8 * n, bytes, colour_bytes, n, root, INCLUDED_BOTH, points[k], points[k], out, 64));
+    uint64_t sum = 0, answer[5] = {0};
+    for (size_t k = 0; k < publics; k++) {
+        iset_drain(n, root, words, 8 * n, bytes, colour_bytes, ISET_INCLUDED, points[k], ISET_INCLUDED, points[k], root, 1, 0, PIECE, out, PIECE,
+                   answer, 5);
+        sum = 3 * sum + values(answer[0]);
+    }
     return sum;
 }
 
@@ -202,14 +266,25 @@ static uint64_t exact_theirs(void) {
     return sum;
 }
 static uint64_t exact_ours(void) {
+    uint64_t sum = 0, c[3] = {0}, answer[5] = {0};
+    for (size_t k = 0; k < n; k += 16) {
+        uint64_t start = list[3 * k], end = list[3 * k + 1];
+        iset_open_fresh_exact(n, root, words, 8 * n, bytes, colour_bytes, start, end, c, 3);
+        iset_open_drain_exact(n, root, words, 8 * n, bytes, colour_bytes, start, end, c[0], c[1], c[2], PIECE, out, PIECE, answer, 5);
+        sum = 3 * sum + values(answer[0]);
+    }
+    return sum;
+}
+
+static uint64_t exact_by_store(void) {
     uint64_t sum = 0;
     for (size_t k = 0; k < n; k += 16)
-        sum = 3 * sum + values(inner_drain_exact(words, 8 * n, n, root, list[3 * k], list[3 * k + 1], out, n));
+        sum = 3 * sum + store_exact(opened, list[3 * k], list[3 * k + 1]);
     return sum;
 }
 
 static uint64_t check_theirs(void) { return rust_check(words, 8 * n, bytes, colour_bytes, n, root); }
-static uint64_t check_ours(void) { return inner_check(words, 8 * n, bytes, colour_bytes, n, root); }
+static uint64_t check_ours(void) { return iset_check(n, root, words, 8 * n, bytes, colour_bytes) == ISET_OK; }
 
 /* The words are the same; the crate's colours differ at 65,535 entries, see docs/DIFFERENCES.md. */
 static map *built;
@@ -219,7 +294,9 @@ static uint64_t build_theirs(void) {
     return 0;
 }
 static uint64_t build_ours(void) {
-    built_root = inner_build(list, 3 * n, spare, 8 * n, spare_bytes, colour_bytes);
+    uint64_t answer[2] = {0};
+    iset_build(spare, 8 * n, spare_bytes, colour_bytes, list, 3 * n, answer, 2);
+    built_root = answer[1];
     return 0;
 }
 static void after_build(void) {
@@ -259,19 +336,25 @@ static void start(size_t size, uint64_t equals) {
         grow(crate, list);
     }
     root = rust_store(crate, words, bytes, n);
-    same(inner_check(words, 8 * n, bytes, colour_bytes, n, root), 1, "the crate's store passes the check");
+    same(check_ours(), 1, "the crate's store passes the check");
 }
 
 int main(int words_given, char **given) {
     if (words_given == 2 && atoi(given[1]) < LOOKUPS)
         publics = (size_t)atoi(given[1]);
     static bench_case
-        removal = {"removal of every entry, inner", before_removal, remove_theirs, remove_ours, after_removal, 0},
-        insertion = {"insertion of every entry, inner", before_insertion, insert_theirs, insert_ours, after_insertion, 0},
-        all = {"drain over the whole map, inner", nothing, all_theirs, all_ours, nothing, 0},
-        point = {"point lookups, inner", before_points, points_theirs, points_ours, nothing, 0},
+        removal = {"removal of every entry, opened", before_removal, remove_theirs, remove_ours, after_removal, 0},
+        insertion = {"insertion of every entry, opened", before_insertion, insert_theirs, insert_ours, after_insertion, 0},
+        all = {"drain over the whole map at once, opened", nothing, all_theirs, all_at_once, nothing, 0},
+        pieces = {"drain over the whole map in pieces of 64, opened", nothing, all_theirs, all_in_pieces, nothing, 0},
+        point = {"point lookups, opened", before_points, points_theirs, points_ours, nothing, 0},
         public = {"point lookups, public, with the check", before_points, publics_theirs, points_public, nothing, 0},
-        exact = {"exact lookups, 16 equals each, inner", nothing, exact_theirs, exact_ours, nothing, 0},
+        exact = {"exact lookups, 16 equals each, opened", nothing, exact_theirs, exact_ours, nothing, 0},
+        removal_rust = {"removal of every entry, Store", before_store_removal, remove_theirs, remove_by_store, after_store_removal, 0},
+        insertion_rust = {"insertion of every entry, Store", before_store_insertion, insert_theirs, insert_by_store, after_store_insertion, 0},
+        all_rust = {"all entries, Store", open_store, all_theirs, all_by_store, close_store, 0},
+        point_rust = {"point lookups, Store", before_store_points, points_theirs, points_by_store, close_store, 0},
+        exact_rust = {"exact lookups, 16 equals each, Store", open_store, exact_theirs, exact_by_store, close_store, 0},
         check = {"check, against a plain Rust check", nothing, check_theirs, check_ours, nothing, 0},
         build = {"build, against from_sorted", nothing, build_theirs, build_ours, after_build, 0};
     static const size_t sizes[] = {1000, 16000, 65535};
@@ -280,7 +363,12 @@ int main(int words_given, char **given) {
         measure(&removal, n);
         measure(&insertion, n);
         measure(&all, n);
+        measure(&pieces, n);
         measure(&point, LOOKUPS);
+        measure(&removal_rust, n);
+        measure(&insertion_rust, n);
+        measure(&all_rust, n);
+        measure(&point_rust, LOOKUPS);
         if (publics > 0)
             measure(&public, publics);
         measure(&check, n);
@@ -288,6 +376,7 @@ int main(int words_given, char **given) {
         rust_free(crate);
         start(sizes[k], 16);
         measure(&exact, n / 16);
+        measure(&exact_rust, n / 16);
         rust_free(crate);
     }
     return 0;

@@ -9,14 +9,15 @@
  *
  * Each call returns a refusal's number, or ISET_OK and the answer: it writes the answer's numbers to the front of `answer`, in the order
  * given beside each call, and leaves the places past them. Where it refuses, nothing lent has changed, `answer` neither. Every call takes any
- * numbers and any contents and tests all of it itself, the store too. The refusals that a call can give are listed in their order: the first
- * one that applies is given.
+ * numbers and any contents and tests all of it itself, the store too, which takes a time that grows with the count. The refusals that a call can
+ * give are listed in their order: the first one that applies is given. A host that keeps its arrays to itself may check once, and then make the calls
+ * of iset_open.h.
  *
  * What the caller sees to is what an array is: a pointer holds as many elements as its length says, and no array that a call may write overlaps
  * another one of that call or is in use elsewhere while it runs. An array of length 0 may have any pointer, NULL too.
  *
- * A slot is good until the next removal: that names the entries that changed slot, or look up again. An insertion moves no old entry: every
- * slot stays good. A cursor that is carried over a removal or an insertion is judged against the new store.
+ * A slot is good until the next removal: that names the entries that changed slot (iset_slot_after reads them), or look up again. An insertion
+ * moves no old entry: every slot stays good. A cursor that is carried over a removal or an insertion is judged against the new store.
  *
  * An example, which prints `removed value 1, 4 left; slot 1: [10, 30)`:
  *
@@ -105,6 +106,11 @@ uint64_t iset_build(uint64_t *nodes, size_t nodes_len, uint8_t *colours, size_t 
  * Refusals: SHORT_ANSWER, NO_ROOM, BROKEN, NO_SUCH. */
 uint64_t iset_remove(uint64_t count, uint64_t root, uint64_t *nodes, size_t nodes_len, uint8_t *colours, size_t colours_len, uint64_t slot,
     uint64_t *answer, size_t answer_len);
+
+/* After a removal that was not refused: the slot of the entry that was in slot `kept` before it, ISET_U if that is the entry that was removed. `answer`
+ * has the ISET_REMOVE_ANSWER numbers of that removal, and `removed` is the slot that it was asked to remove. So a host that keeps slots carries each of
+ * them over. It refuses nothing: what it returns is the slot. */
+uint64_t iset_slot_after(const uint64_t *answer, uint64_t removed, uint64_t kept);
 
 /* Adds one entry, in slot count; no other entry changes slot. It comes after the entries that are equal to it, which stay.
  * Answer: count, root, its slot, which is the count before.

@@ -1,6 +1,8 @@
-//! The Rust side of the bench, for a C main: the crate iset 0.3.3 behind C functions, and a plain check of a store.
+//! The Rust side of the bench, for a C main: the crate iset 0.3.3 behind C functions, a plain check of a store, and bindings/rust.
 #![no_std]
 extern crate alloc;
+
+mod store;
 
 use alloc::boxed::Box;
 use core::alloc::{GlobalAlloc, Layout};

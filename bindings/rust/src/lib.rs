@@ -3,11 +3,14 @@
 //!
 //! A [`Map`] is a count and a root by value. Its entries stand in two lent slices: `nodes`, eight words a slot, and `colours`, one bit a slot.
 //! A call takes any numbers and any contents, tests all of it itself and answers, or gives the first [`Refusal`] that applies, and
-//! then nothing lent has changed.
+//! then nothing lent has changed. To test a store takes a time that grows with its count.
+//!
+//! A [`Store`] is a map together with its two slices. It checks once, when it is opened; then nobody else can write the slices, and each call takes
+//! the time of its work alone. A [`StoreRef`] is the same for reading.
 //!
 #![cfg_attr(iset_linked, doc = "```")]
 #![cfg_attr(not(iset_linked), doc = "```no_run")]
-//! use iset_capi::{Map, Query};
+//! use iset_capi::{Map, Query, Store};
 //!
 //! # fn main() -> Result<(), iset_capi::Refusal> {
 //! let list = [10, 20, 1, 10, 30, 2, 25, 40, 3, 40, 50, 4, 45, 60, 5];
@@ -25,6 +28,11 @@
 //!     *place = nodes[slot? as usize * 8 + 2];
 //! }
 //! assert_eq!(values, [3, 4, 0, 0]);
+//!
+//! let mut store = Store::open(removed.map, &mut nodes, &mut colours)?;
+//! let slot = store.insert(45..48, 6)?;
+//! assert!(store.at(47).map(|entry| entry.value).eq([4, 6, 5]));
+//! assert_eq!(store.remove(slot)?.value, 6);
 //! # Ok(())
 //! # }
 //! ```
@@ -34,10 +42,12 @@ pub mod ffi;
 mod hits;
 mod query;
 mod refusal;
+mod store;
 
 pub use hits::Hits;
 pub use query::Query;
 pub use refusal::Refusal;
+pub use store::{Entries, Entry, Store, StoreRef};
 
 /// No slot: the root of the map of no entries, and a link that leads nowhere.
 pub const U: u64 = 4294967295;
@@ -71,6 +81,8 @@ pub struct Map {
 #[derive(Clone, Copy, Debug, PartialEq, Eq)]
 pub struct Removed {
     pub map: Map,
+    /// The slot that was asked for.
+    pub slot: u64,
     /// The value of the entry that was removed.
     pub value: u64,
     /// The other entries that changed slot, as (old slot, new slot), by rising old slot; unused ones are ([`U`], [`U`]).
@@ -81,6 +93,29 @@ impl Removed {
     /// The pairs that are used.
     pub fn moved(&self) -> impl Iterator<Item = (u64, u64)> {
         self.pairs.into_iter().filter(|pair| pair.0 != U)
+    }
+
+    /// The slot of the entry that was in slot `kept` before the removal; `None` if that is the entry that was removed. So a host that keeps
+    /// slots carries each of them over.
+    ///
+    /// ```
+    /// use iset_capi::{Map, Removed, U};
+    ///
+    /// let removed = Removed {
+    ///     map: Map { count: 4, root: 2 },
+    ///     slot: 1,
+    ///     value: 2,
+    ///     pairs: [(0, 1), (4, 0), (U, U)],
+    /// };
+    /// let kept = [0, 1, 2, 4].map(|slot| removed.slot_after(slot));
+    /// assert_eq!(kept, [Some(1), None, Some(2), Some(0)]);
+    /// ```
+    pub fn slot_after(&self, kept: u64) -> Option<u64> {
+        if kept == self.slot {
+            return None;
+        }
+        let moved = self.moved().find(|pair| pair.0 == kept);
+        Some(moved.map_or(kept, |pair| pair.1))
     }
 }
 
@@ -191,10 +226,20 @@ impl Map {
         colours: &mut [u8],
         slot: u64,
     ) -> Result<Removed, Refusal> {
+        self.remove_by(ffi::iset_remove, nodes, colours, slot)
+    }
+
+    fn remove_by(
+        self,
+        call: ffi::Remove,
+        nodes: &mut [u64],
+        colours: &mut [u8],
+        slot: u64,
+    ) -> Result<Removed, Refusal> {
         let mut a = [0; 9];
         // SAFETY: as in `build`.
         let number = unsafe {
-            ffi::iset_remove(
+            call(
                 self.count,
                 self.root,
                 nodes.as_mut_ptr(),
@@ -214,6 +259,7 @@ impl Map {
             number,
             Removed {
                 map,
+                slot,
                 value: a[0],
                 pairs: [(a[3], a[4]), (a[5], a[6]), (a[7], a[8])],
             },
@@ -244,10 +290,22 @@ impl Map {
         end: u64,
         value: u64,
     ) -> Result<Inserted, Refusal> {
+        self.insert_by(ffi::iset_insert, nodes, colours, start, end, value)
+    }
+
+    fn insert_by(
+        self,
+        call: ffi::Insert,
+        nodes: &mut [u64],
+        colours: &mut [u8],
+        start: u64,
+        end: u64,
+        value: u64,
+    ) -> Result<Inserted, Refusal> {
         let mut answer = [0; 3];
         // SAFETY: as in `build`.
         let number = unsafe {
-            ffi::iset_insert(
+            call(
                 self.count,
                 self.root,
                 nodes.as_mut_ptr(),
@@ -290,10 +348,21 @@ impl Map {
         start: u64,
         end: u64,
     ) -> Result<Cursor, Refusal> {
+        self.fresh_exact_by(ffi::iset_fresh_exact, nodes, colours, start, end)
+    }
+
+    fn fresh_exact_by(
+        self,
+        call: ffi::FreshExact,
+        nodes: &[u64],
+        colours: &[u8],
+        start: u64,
+        end: u64,
+    ) -> Result<Cursor, Refusal> {
         let mut answer = [0; 3];
         // SAFETY: as in `build`.
         let number = unsafe {
-            ffi::iset_fresh_exact(
+            call(
                 self.count,
                 self.root,
                 nodes.as_ptr(),
@@ -351,8 +420,23 @@ impl Map {
         limit: u64,
         out: &mut [u64],
     ) -> Result<Drained, Refusal> {
+        let calls = (ffi::iset_drain as _, ffi::iset_drain_exact as _);
+        self.drain_by(calls, nodes, colours, query, from, limit, out)
+    }
+
+    #[allow(clippy::too_many_arguments)]
+    fn drain_by(
+        self,
+        calls: (ffi::Drain, ffi::DrainExact),
+        nodes: &[u64],
+        colours: &[u8],
+        query: Query,
+        from: Cursor,
+        limit: u64,
+        out: &mut [u64],
+    ) -> Result<Drained, Refusal> {
         let mut a = [0; 5];
-        let number = query.drain(self, nodes, colours, from, limit, out, &mut a);
+        let number = query.drain(calls, self, nodes, colours, from, limit, out, &mut a);
         told(
             number,
             Drained {

@@ -86,6 +86,7 @@ impl Query {
     #[allow(clippy::too_many_arguments)]
     pub(crate) fn drain(
         self,
+        (overlap, exact): (ffi::Drain, ffi::DrainExact),
         map: Map,
         nodes: &[u64],
         colours: &[u8],
@@ -98,7 +99,7 @@ impl Query {
         match self {
             Query::Overlap(lo, hi) => unsafe {
                 let (lo, hi) = (numbers(lo), numbers(hi));
-                ffi::iset_drain(
+                overlap(
                     map.count,
                     map.root,
                     nodes.as_ptr(),
@@ -120,7 +121,7 @@ impl Query {
                 )
             },
             Query::Exact { start, end } => unsafe {
-                ffi::iset_drain_exact(
+                exact(
                     map.count,
                     map.root,
                     nodes.as_ptr(),

@@ -9,8 +9,10 @@ use core::fmt;
 /// assert_eq!(Refusal::from_number(3), Some(Refusal::NoSuch));
 /// assert_eq!(Refusal::ShortOutput.number(), 9);
 /// assert_eq!(Refusal::from_number(0), None);
+/// assert_eq!(Refusal::from_number(77), Some(Refusal::Unknown));
 /// ```
 #[derive(Clone, Copy, Debug, PartialEq, Eq, Hash)]
+#[non_exhaustive]
 #[repr(u64)]
 pub enum Refusal {
     /// The slices do not hold the count, the entries to build, or, at an insertion, one entry more.
@@ -37,6 +39,8 @@ pub enum Refusal {
     ShortAnswer = 101,
     /// A bound's kind is none. The functions of this crate give only kinds that are.
     BadBound = 102,
+    /// A number that is none of these: the archive that was linked is not the one that this crate was written for. The call was refused.
+    Unknown = u64::MAX,
 }
 
 const ALL: [Refusal; 12] = [
@@ -55,12 +59,16 @@ const ALL: [Refusal; 12] = [
 ];
 
 impl Refusal {
-    /// The refusal of a number; `None` for 0, which stands for no refusal, and for every other number.
+    /// The refusal of a number: `None` for 0 alone, which stands for no refusal; [`Refusal::Unknown`] for a number that no refusal has.
     pub fn from_number(number: u64) -> Option<Refusal> {
-        ALL.into_iter().find(|why| why.number() == number)
+        if number == 0 {
+            return None;
+        }
+        let known = ALL.into_iter().find(|why| why.number() == number);
+        Some(known.unwrap_or(Refusal::Unknown))
     }
 
-    /// The number that a call returns for it.
+    /// The number that a call returns for it; of [`Refusal::Unknown`] one that no call returns.
     pub fn number(self) -> u64 {
         self as u64
     }

@@ -12,6 +12,8 @@ use Rattle.capi.proofs.iset_remove.Reads as remove-reads
 use Rattle.capi.proofs.iset_remove.Kinds as remove-kinds
 use Rattle.capi.proofs.iset_insert.Reads as insert-reads
 use Rattle.capi.proofs.iset_insert.Kinds as insert-kinds
+use Rattle.capi.proofs.iset_slot_after.Reads as slot-after-reads
+use Rattle.capi.proofs.iset_slot_after.Kinds as slot-after-kinds
 use Rattle.capi.proofs.lookup.iset_fresh.Reads as fresh-reads
 use Rattle.capi.proofs.lookup.iset_fresh.Kinds as fresh-kinds
 use Rattle.capi.proofs.lookup.iset_fresh_exact.Reads as fresh-exact-reads
@@ -32,6 +34,12 @@ pub check-determined :
     (s s′ : AtExit (K.endedOf 2 check-kinds.ps check-kinds.r) κs)
     → check-reads.Post κs a r s → check-reads.Post κs a r′ s′ → r ≡ r′
 check-determined κs a r r′ s s′ p q = p ∙ sym q
+
+pub slot-after-determined :
+    (κs : Lfts 1) (a : K.Dens κs slot-after-kinds.ps) (r r′ : K.resT slot-after-kinds.r κs .Denot)
+    (s s′ : AtExit (K.endedOf 1 slot-after-kinds.ps slot-after-kinds.r) κs)
+    → slot-after-reads.Post κs a r s → slot-after-reads.Post κs a r′ s′ → r ≡ r′
+slot-after-determined κs a r r′ s s′ p q = p ∙ sym q
 
 pub build-determined :
     (κs : Lfts 4) (a : K.Dens κs build-kinds.ps) (r r′ : K.resT build-kinds.r κs .Denot)

@@ -18,11 +18,10 @@ use Rattle.iter.specs.declared.rules.Query.the-variants.{Overlap}
 use Rattle.iter.specs.declared.seek.Step.{Step}
 use Rattle.iter.specs.declared.seek.Step.the-variants.{Hit, End}
 use Rattle.iset.specs.Check.{checkNumber}
-use Rattle.iset.specs.Lookup.{drainOutput}
 use Rattle.iset.specs.declared.Map.{Map}
 use Rattle.iset.specs.declared.Checked.{Checked}
 use Rattle.iset.specs.declared.Checked.the-variants.{Sound, Refused}
-use Rattle.capi.specs.Replies.{Reply, number, handed, left, stepNumbers, foundNumbers, stepTold, drainTold}
+use Rattle.capi.specs.Replies.{Reply, number, handed, left, stepNumbers, foundNumbers}
 use Rattle.capi.specs.Ranges.{ranged}
 
 -- an answer that is too short
@@ -91,24 +90,28 @@ module _ (A : List ℕ) (R : Reply) (b t : Bool) (e : t ≡ b) where
     unfolding handed
     unbounded-handed = rw (← unbounded-number)
 
--- a lookup by a query that a function made
-module _ (A : List ℕ) (m : Map) (W C : List ℕ) (c : Cursor) (made query : Query) (e : made ≡ query) where
-  pub step-number : (n : ℕ) → n ≡ number A (stepTold m W C made c) → n ≡ number A (stepTold m W C query c)
+-- A lookup by a query that a function made: a step, by its reply, and a drain, by its reply and by what it leaves in the output. They serve the public
+-- calls and the opened ones.
+module _ (told : Map → List ℕ → List ℕ → Query → Cursor → Reply)
+    (A : List ℕ) (m : Map) (W C : List ℕ) (c : Cursor) (made query : Query) (e : made ≡ query) where
+  pub step-number : (n : ℕ) → n ≡ number A (told m W C made c) → n ≡ number A (told m W C query c)
   step-number n p = rw (← e) p
 
-  pub step-handed : (X : List ℕ) → X ≡ handed A (stepTold m W C made c) → X ≡ handed A (stepTold m W C query c)
+  pub step-handed : (X : List ℕ) → X ≡ handed A (told m W C made c) → X ≡ handed A (told m W C query c)
   step-handed X p = rw (← e) p
 
-  module _ (limit : ℕ) (out : List ℕ) where
-    pub drain-number : (n : ℕ) → n ≡ number A (drainTold m W C made c limit out) → n ≡ number A (drainTold m W C query c limit out)
-    drain-number n p = rw (← e) p
+module _ (told : Map → List ℕ → List ℕ → Query → Cursor → ℕ → List ℕ → Reply)
+    (A : List ℕ) (m : Map) (W C : List ℕ) (c : Cursor) (made query : Query) (e : made ≡ query) (limit : ℕ) (out : List ℕ) where
+  pub drain-number : (n : ℕ) → n ≡ number A (told m W C made c limit out) → n ≡ number A (told m W C query c limit out)
+  drain-number n p = rw (← e) p
 
-    pub drain-handed : (X : List ℕ) → X ≡ handed A (drainTold m W C made c limit out) → X ≡ handed A (drainTold m W C query c limit out)
-    drain-handed X p = rw (← e) p
+  pub drain-handed : (X : List ℕ) → X ≡ handed A (told m W C made c limit out) → X ≡ handed A (told m W C query c limit out)
+  drain-handed X p = rw (← e) p
 
-pub drain-left : (m : Map) (W C : List ℕ) (c : Cursor) (made query : Query) → made ≡ query → (limit : ℕ) (out X : List ℕ)
-    → X ≡ drainOutput m W C made c limit out → X ≡ drainOutput m W C query c limit out
-drain-left m W C c made query e limit out X p = rw (← e) p
+pub drain-left : (output : Map → List ℕ → List ℕ → Query → Cursor → ℕ → List ℕ → List ℕ)
+    (m : Map) (W C : List ℕ) (c : Cursor) (made query : Query) → made ≡ query → (limit : ℕ) (out X : List ℕ)
+    → X ≡ output m W C made c limit out → X ≡ output m W C query c limit out
+drain-left output m W C c made query e limit out X p = rw (← e) p
 
 -- the numbers of a step that is known to be a hit or the end
 module _ (s : Step) (A X : List ℕ) (c : Cursor) (e : ℕ) where

@@ -2,5 +2,6 @@ pub mod Puts
 pub mod Laws
 pub mod Kept
 pub mod Places
+pub mod After
 pub mod Ends
 pub mod Determined

@@ -3,7 +3,7 @@
 use mathlib.Core.Bool.{cond}
 use mathlib.Core.List.{List, [], _∷_}
 use Prim.Native.Nat.{ℕ}
-use lib.ListN.{length}
+use lib.ListN.{length, getD}
 use lib.Dec.{eqb, ltb}
 use Rattle.words.specs.declared.interval.Interval.{Interval}
 use Rattle.words.specs.declared.node.Entry.{Entry}
@@ -54,6 +54,15 @@ abbrev pub goneNumbers : ℕ → ℕ → ℕ → Pairs → List ℕ
 goneNumbers value count root p =
     value ∷ count ∷ root
     ∷ p .first .old ∷ p .first .new ∷ p .second .old ∷ p .second .new ∷ p .third .old ∷ p .third .new ∷ []
+
+-- the pairs among those numbers
+abbrev pub pairsOf : List ℕ → Pairs
+pairsOf A =
+    record {
+      first = record { old = getD A 3 0; new = getD A 4 0 };
+      second = record { old = getD A 5 0; new = getD A 6 0 };
+      third = record { old = getD A 7 0; new = getD A 8 0 };
+    }
 
 abbrev pub removeReply : RemoveAnswer → Reply
 removeReply a = record { no = a .no; numbers = goneNumbers (a .value) (a .count) (a .root) (a .pairs) }

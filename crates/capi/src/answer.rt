@@ -32,7 +32,7 @@ pub(crate) fn put_map(m: Map, answer: &mut [u64])
     put(&numbers, answer);
 }
 
-pub(crate) fn put_gone(g: Gone, answer: &mut [u64])
+pub fn put_gone(g: Gone, answer: &mut [u64])
     requires { ⌜ 9 ≤ length (now answer) ⌝ }
     ensures { λ _. ⌜ now (answer .exit) ≡ filled (goneNumbers (g .value) (g .map .count) (g .map .root) (g .pairs)) (now (answer .entry)) ⌝ }
 {
@@ -50,7 +50,7 @@ pub(crate) fn put_gone(g: Gone, answer: &mut [u64])
     put(&numbers, answer);
 }
 
-pub(crate) fn put_added(a: Added, answer: &mut [u64])
+pub fn put_added(a: Added, answer: &mut [u64])
     requires { ⌜ 3 ≤ length (now answer) ⌝ }
     ensures { λ _. ⌜ now (answer .exit) ≡ filled (addedNumbers (a .map .count) (a .map .root) (a .slot)) (now (answer .entry)) ⌝ }
 {
@@ -58,7 +58,7 @@ pub(crate) fn put_added(a: Added, answer: &mut [u64])
     put(&numbers, answer);
 }
 
-pub(crate) fn put_cursor(c: Cursor, answer: &mut [u64])
+pub fn put_cursor(c: Cursor, answer: &mut [u64])
     requires { ⌜ 3 ≤ length (now answer) ⌝ }
     ensures { λ _. ⌜ now (answer .exit) ≡ filled (cursorNumbers c) (now (answer .entry)) ⌝ }
 {
@@ -74,7 +74,7 @@ fn put_found(slot: u64, next: Cursor, entered: u64, answer: &mut [u64])
     put(&numbers, answer);
 }
 
-pub(crate) fn put_step(s: Step, answer: &mut [u64])
+pub fn put_step(s: Step, answer: &mut [u64])
     requires { ⌜ 5 ≤ length (now answer) ⌝ }
     ensures { λ _. ⌜ now (answer .exit) ≡ filled (foundNumbers s) (now (answer .entry)) ⌝ }
 {
@@ -84,7 +84,7 @@ pub(crate) fn put_step(s: Step, answer: &mut [u64])
     }
 }
 
-pub(crate) fn put_drained(d: Drained, answer: &mut [u64])
+pub fn put_drained(d: Drained, answer: &mut [u64])
     requires { ⌜ 5 ≤ length (now answer) ⌝ }
     ensures { λ _. ⌜ now (answer .exit) ≡ filled (drainNumbers (d .hits) (d .entered) (d .next)) (now (answer .entry)) ⌝ }
 {

@@ -4,9 +4,9 @@
 // An export returns the refusal's number, 0 for none, and writes the answer's numbers to the front of the slice `answer`. Two
 // refusals are its own and come before those of the call: ShortAnswer where that slice does not hold the numbers, then BadBound where a kind of
 // bound is none. Where anything is refused nothing lent has changed, the answer slice neither.
-mod answer;
+pub mod answer;
 pub mod lookup;
-mod range;
+pub mod range;
 
 use crate::answer::put_added;
 use crate::answer::put_gone;
@@ -15,13 +15,16 @@ use iset::Checked;
 use iset::Map;
 use iset::build::Built;
 use iset::insert::Insertion;
+use iset::remove::Gone;
 use iset::remove::Removal;
+use tree_rm_laws::pairs::Pair;
+use tree_rm_laws::pairs::Pairs;
 ghost use mathlib.Core.Path.{_≡_};
 ghost use Rattle.iset.specs.Check.{checkRule};
 ghost use Rattle.iset.specs.Build.{buildNodes, buildColour};
-ghost use Rattle.iset.specs.Remove.{removeNodes, removeColours};
+ghost use Rattle.iset.specs.Remove.{slotAfter, removeNodes, removeColours};
 ghost use Rattle.iset.specs.Insert.{entryOf, insertNodes, insertColours};
-ghost use Rattle.capi.specs.Replies.{mapOf, number, handed, left, buildTold, removeTold, insertTold};
+ghost use Rattle.capi.specs.Replies.{mapOf, number, handed, left, pairsOf, buildTold, removeTold, insertTold};
 
 // The exports' own refusals. Their numbers leave room for refusals that the map may get after the ten of crate words.
 pub const SHORT_ANSWER: u64 = 101;
@@ -97,6 +100,35 @@ pub extern "C" fn iset_remove(
             0
         }
     }
+}
+
+// After a removal of slot `removed` that gave `answer`: the slot of the entry that was in slot `kept` before it, U for the removed one.
+#[no_mangle]
+pub extern "C" fn iset_slot_after(answer: &[u64; 9], removed: u64, kept: u64) -> u64
+    ensures { λ r. ⌜ r ≡ slotAfter (pairsOf (now (answer .entry))) removed kept ⌝ }
+{
+    let gone = Gone {
+        map: Map {
+            count: answer[1],
+            root: answer[2],
+        },
+        value: answer[0],
+        pairs: Pairs {
+            first: Pair {
+                old: answer[3],
+                new: answer[4],
+            },
+            second: Pair {
+                old: answer[5],
+                new: answer[6],
+            },
+            third: Pair {
+                old: answer[7],
+                new: answer[8],
+            },
+        },
+    };
+    gone.slot_after(removed, kept)
 }
 
 // Adds an entry in slot `count`; no other entry changes slot. Answer: count, root, the entry's slot.

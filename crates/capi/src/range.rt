@@ -6,7 +6,7 @@ ghost use mathlib.Core.Path.{_≡_};
 ghost use Rattle.capi.specs.Ranges.{boundOf, rangeOf, kinds};
 
 // Whether both are kinds: 0 Included, 1 Excluded, 2 Unbounded.
-pub(crate) fn are_kinds(lo_kind: u64, hi_kind: u64) -> bool
+pub fn are_kinds(lo_kind: u64, hi_kind: u64) -> bool
     ensures { λ r. ⌜ r ≡ kinds «lo_kind» «hi_kind» ⌝ }
 {
     (lo_kind <= 2) & (hi_kind <= 2)
@@ -26,7 +26,7 @@ fn bound(kind: u64, x: u64) -> Bound
     }
 }
 
-pub(crate) fn range(lo_kind: u64, lo: u64, hi_kind: u64, hi: u64) -> Query
+pub fn range(lo_kind: u64, lo: u64, hi_kind: u64, hi: u64) -> Query
     ensures { λ r. ⌜ r ≡ rangeOf «lo_kind» lo «hi_kind» hi ⌝ }
 {
     Query::Overlap(Span {

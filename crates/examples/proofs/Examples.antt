@@ -21,11 +21,11 @@ use Rattle.iter.specs.Forms.{onSide, formed, heldForm, formOf}
 use Rattle.iter.specs.Overlap.{meets, shouldGo}
 use Rattle.iter.specs.Exact.{equals, sorted as sortedBy, shouldGoExact, find}
 use Rattle.iter.specs.Queries.{rules}
-use Rattle.iset.specs.Check.{checkRule}
+use Rattle.iset.specs.Check.{countNumber, checkRule}
 use Rattle.iset.specs.Build.{buildNumber, buildRule, buildNodes, buildColour}
-use Rattle.iset.specs.Remove.{removeNumber, removeCall, removeNodes, removeColours}
-use Rattle.iset.specs.Insert.{properNumber, insertNumber, insertCall, insertNodes, insertColours}
-use Rattle.iset.specs.Lookup.{startNumber, stepNumber, drainNumber, startCall, stepCall, drainCall, drainOutput}
+use Rattle.iset.specs.Remove.{removeNumber, removeCall, removeNodes, removeColours, openRemoveNumber}
+use Rattle.iset.specs.Insert.{fullNumber, openInsertNumber, roomThenCheck, insertNumber, insertCall, insertNodes, insertColours}
+use Rattle.iset.specs.Lookup.{startNumber, stepNumber, drainNumber, startCall, stepCall, drainCall, drainOutput, openStartNumber, openStepNumber, openDrainNumber}
 use Rattle.examples.specs.Stores.{buildIn, _minus_, _plus_, treeAt, treeOf, touched, boundOf}
 use Rattle.examples.specs.Rows.{Each, outcome, stepsFrom, foundFrom, leftIn, tell}
 use Rattle.examples.specs.Table.{storeA, storeA′, storeB, storeC, table}
@@ -36,7 +36,7 @@ unfolding onLink word put putEntry putHull swap joined hullOf fix putNode bit pu
 reading = record {}
 
 checking : Unit {0}
-unfolding survey wholeOf checkRule
+unfolding survey wholeOf countNumber checkRule
 checking = record {}
 
 building : Unit {0}
@@ -64,11 +64,11 @@ unfolding stateAt putState top marked pushed popped upTo deeper mark down move e
 walking = record {}
 
 looking : Unit {0}
-unfolding meets shouldGo equals sortedBy shouldGoExact find rules startNumber stepNumber drainNumber startCall stepCall drainCall drainOutput
+unfolding meets shouldGo equals sortedBy shouldGoExact find rules openStartNumber openStepNumber openDrainNumber startNumber stepNumber drainNumber startCall stepCall drainCall drainOutput
 looking = record {}
 
 changing : Unit {0}
-unfolding buildNumber buildRule buildNodes buildColour removeNumber removeCall removeNodes removeColours properNumber insertNumber insertCall insertNodes insertColours
+unfolding buildNumber buildRule buildNodes buildColour openRemoveNumber removeNumber removeCall removeNodes removeColours fullNumber openInsertNumber roomThenCheck insertNumber insertCall insertNodes insertColours
 changing = record {}
 
 telling : Unit {0}

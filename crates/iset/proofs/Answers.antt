@@ -36,7 +36,7 @@ use Rattle.iset.specs.Check.{checkRule}
 use Rattle.iset.specs.Build.{buildNumber, buildPaper, buildRule, buildNodes, buildColour}
 use Rattle.iset.specs.Remove.{removeNumber, removePaper, removeCall, removeNodes, removeColours}
 use Rattle.iset.specs.Insert.{insertNumber, insertPaper, insertCall, insertNodes, insertColours}
-use Rattle.iset.specs.Lookup.{startNumber, startPaper, startCall, stepPaper, stepCall, drainNumber, drainPaper, drainCall, drainOutput}
+use Rattle.iset.specs.Lookup.{startNumber, startPaper, startCall, stepPaper, stepCall, openDrainNumber, drainNumber, drainPaper, drainCall, drainOutput}
 use Rattle.iset.specs.Demands.{removal, insertion}
 use Rattle.iset.specs.declared.Map.{Map}
 use Rattle.iset.specs.declared.build.Built.the-variants as built
@@ -129,11 +129,11 @@ module _ (m : Map) (W C : List ℕ) (x : Interval) (e : startCall m W C x .no �
 -- "limit 0 means 64, for refusal 9 too"
 module _ (m : Map) (W C : List ℕ) (q : Query) (c : Cursor) where
   pub drain-zero : (places : ℕ) → drainCall m W C q c 0 places ≡ drainCall m W C q c 64 places
-  unfolding drainCall drainNumber
+  unfolding drainCall drainNumber openDrainNumber
   drain-zero places = refl
 
   pub drain-zero-output : (out : List ℕ) → drainOutput m W C q c 0 out ≡ drainOutput m W C q c 64 out
-  unfolding drainOutput drainNumber
+  unfolding drainOutput drainNumber openDrainNumber
   drain-zero-output out = refl
 
 -- Said of the code: where an answer r that a call's promise allows from its arguments a is no refusal, its parts are those above.

@@ -35,11 +35,12 @@ use Rattle.iter.specs.declared.rules.Query.the-variants.{Overlap, Exact}
 use Rattle.iset.specs.Check.{checkRule}
 use Rattle.iset.specs.Build.{buildRule}
 use Rattle.iset.specs.Remove.{removeNumber, refusedRemoval, removeCall, removeNodes, removeColours}
-use Rattle.iset.specs.Insert.{properNumber, insertNumber, refusedInsertion, insertDone, insertCall, insertNodes, insertColours}
+use Rattle.iset.specs.Insert.{insertNumber, refusedInsertion, insertDone, insertCall, insertNodes, insertColours}
 use Rattle.iset.specs.Lookup.{beginning, startNumber, stepNumber, drainNumber, startCall, stepCall, drainCall, drainOutput}
 use Rattle.iset.specs.Below.{SameBelow}
 use Rattle.iset.specs.declared.Map.{Map}
 use Rattle.iset.proofs.Checks.{check-zero}
+use Rattle.iset.proofs.Orders.{remove-order, insert-order, start-order, step-order, drain-order}
 use Rattle.iset.proofs.Removals as removals
 use Rattle.iset.proofs.Insertions as insertions
 
@@ -175,8 +176,7 @@ module _ (m : Map) (W C X D : List ℕ) (s : SameBelow (m .count) W C X D) where
   same-beginning (Exact x) = same-find n W X (s .words) x 32 (m .root)
 
   same-start : (q : Query) → startNumber m W C q ≡ startNumber m X D q
-  unfolding startNumber
-  same-start q = rw (check-below m W C X D s)
+  same-start q = rw (start-order m W C q, start-order m X D q, check-below m W C X D s)
 
   pub start-below : (x : Interval) → startCall m W C x ≡ startCall m X D x
   unfolding startCall
@@ -184,8 +184,8 @@ module _ (m : Map) (W C X D : List ℕ) (s : SameBelow (m .count) W C X D) where
 
   module _ (q : Query) (c : Cursor) where
     same-stepNumber : stepNumber m W C q c ≡ stepNumber m X D q c
-    unfolding stepNumber
-    same-stepNumber = rw (same-start q, same-beginning q, same-form n W X (s .words) (beginning m X q) c)
+    same-stepNumber =
+        rw (step-order m W C q c, step-order m X D q c, same-start q, same-beginning q, same-form n W X (s .words) (beginning m X q) c)
 
     pub step-below : stepCall m W C q c ≡ stepCall m X D q c
     unfolding stepCall
@@ -193,8 +193,7 @@ module _ (m : Map) (W C X D : List ℕ) (s : SameBelow (m .count) W C X D) where
 
     module _ (limit : ℕ) where
       same-drainNumber : (places : ℕ) → drainNumber m W C q c limit places ≡ drainNumber m X D q c limit places
-      unfolding drainNumber
-      same-drainNumber places = rw same-stepNumber
+      same-drainNumber places = rw (drain-order m W C q c limit places, drain-order m X D q c limit places, same-stepNumber)
 
       pub drain-below : (places : ℕ) → drainCall m W C q c limit places ≡ drainCall m X D q c limit places
       unfolding drainCall
@@ -217,8 +216,7 @@ module _ (m : Map) (W C X D : List ℕ) (s : SameBelow (m .count) W C X D) where
   -- a removal
   module _ (t : ℕ) where
     same-removeNumber : removeNumber m W C t ≡ removeNumber m X D t
-    unfolding removeNumber
-    same-removeNumber = rw (check-below m W C X D s)
+    same-removeNumber = rw (remove-order m W C t, remove-order m X D t, check-below m W C X D s)
 
     rule-below : removeNumber m W C t ≡ 0 → SameRemoval n (removeRule W C n (m .root) t) (removeRule X D n (m .root) t)
     rule-below e =
@@ -242,8 +240,8 @@ module _ (m : Map) (W C X D : List ℕ) (s : SameBelow (m .count) W C X D) where
   -- an insertion: below the count that it answers
   module _ (e : Entry) where
     same-insertNumber : insertNumber m W C e ≡ insertNumber m X D e
-    unfolding insertNumber properNumber
-    same-insertNumber = rw (check-below m W C X D s, s .words .0, s .colours .0)
+    same-insertNumber =
+        rw (insert-order m W C e, insert-order m X D e, check-below m W C X D s, s .words .0, s .colours .0)
 
     added-below : insertNumber m W C e ≡ 0 → Alike (n + 1) (insertRule W C n (m .root) e) (insertRule X D n (m .root) e)
     added-below z =

@@ -6,12 +6,12 @@ use Prim.Native.Nat.{ℕ, zero, suc, _<_, _≤_}
 use native.Mathlib.Omega.{arith}
 use lib.ListN.{length}
 use lib.Dec.{eqb, ltb}
-use borrow.Author.Tests.{ltb-true, ltb-false, lt-ltb, ne-eqb}
+use borrow.Author.Tests.{ltb-true, ltb-false, lt-ltb, le-ltb, ne-eqb}
 use Rattle.words.specs.Nodes.{room}
 use Rattle.tree.specs.Passes.{Passes}
 use Rattle.audit.specs.Survey.{wholeOf}
 use Rattle.audit.proofs.Decides.{audit-sound, audit-complete}
-use Rattle.iset.specs.Check.{checkRule}
+use Rattle.iset.specs.Check.{countNumber, checkRule}
 use Rattle.iset.specs.declared.Map.{Map}
 
 -- a refusal k that comes before x: none of the two was given
@@ -62,3 +62,19 @@ module _ (m : Map) (W C : List ℕ) where
 
   pub zero-check : m .count ≤ held → Passes W C (m .count) (m .root) → checkRule m W C ≡ 0
   zero-check h s = cases (checkRule m W C) refl (λ o z. absurd (omega arith)) (λ o p z. sym z) (λ o n z. absurd (n s))
+
+  -- what is left of it for an opened store
+  pub count-zero : countNumber m W C ≡ 0 → m .count ≤ held
+  unfolding countNumber
+  count-zero e = go (ltb held (m .count)) refl e
+    where
+      go : (a : Bool) → ltb held (m .count) ≡ a → _≡_ {A = ℕ} (cond a 1 0) 0 → m .count ≤ held
+      go true p f = absurd (omega arith)
+      go false p f = ltb-false held (m .count) p
+
+  pub zero-count : m .count ≤ held → countNumber m W C ≡ 0
+  unfolding countNumber
+  zero-count h = rw (le-ltb held (m .count) h)
+
+  pub checked-count : checkRule m W C ≡ 0 → countNumber m W C ≡ 0
+  checked-count e = zero-count (check-zero e .0)

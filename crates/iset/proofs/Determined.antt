@@ -49,8 +49,20 @@ use Rattle.iset.proofs.Map.drain.Reads as drain-reads
 use Rattle.iset.proofs.Map.drain.Kinds as drain-kinds
 use Rattle.iset.proofs.Map.build.Reads as build-reads
 use Rattle.iset.proofs.Map.build.Kinds as build-kinds
+use Rattle.iset.proofs.remove.Gone.slot_after.Reads as slot-after-reads
+use Rattle.iset.proofs.remove.Gone.slot_after.Kinds as slot-after-kinds
 use Rattle.iset.proofs.Map.new.Reads as new-reads
 use Rattle.iset.proofs.Map.new.Kinds as new-kinds
+use Rattle.iset.proofs.Map.open_insert.Reads as open-insert-reads
+use Rattle.iset.proofs.Map.open_insert.Kinds as open-insert-kinds
+use Rattle.iset.proofs.Map.open_remove.Reads as open-remove-reads
+use Rattle.iset.proofs.Map.open_remove.Kinds as open-remove-kinds
+use Rattle.iset.proofs.Map.open_fresh_exact.Reads as open-exact-reads
+use Rattle.iset.proofs.Map.open_fresh_exact.Kinds as open-exact-kinds
+use Rattle.iset.proofs.Map.open_step.Reads as open-step-reads
+use Rattle.iset.proofs.Map.open_step.Kinds as open-step-kinds
+use Rattle.iset.proofs.Map.open_drain.Reads as open-drain-reads
+use Rattle.iset.proofs.Map.open_drain.Kinds as open-drain-kinds
 use Rattle.iset.proofs.Map.check.Reads as check-reads
 use Rattle.iset.proofs.Map.check.Kinds as check-kinds
 
@@ -127,6 +139,12 @@ started-back : (r : Started) → startedAt (startPaper r) ≡ r
 started-back (started.Done c) = refl
 started-back (started.Refused y) = rw (ne-eqb (refusalNumber y) 0 (omega (arith, number-pos y)), at-number y)
 
+pub slot-after-determined :
+    (κs : Lfts 0) (a : K.Dens κs slot-after-kinds.ps) (r r′ : K.resT slot-after-kinds.r κs .Denot)
+    (s s′ : AtExit (K.endedOf 0 slot-after-kinds.ps slot-after-kinds.r) κs)
+    → slot-after-reads.Post κs a r s → slot-after-reads.Post κs a r′ s′ → r ≡ r′
+slot-after-determined κs a r r′ s s′ p q = p ∙ sym q
+
 pub fresh-determined :
     (κs : Lfts 0) (a : K.Dens κs fresh-kinds.ps) (r r′ : K.resT fresh-kinds.r κs .Denot) (s s′ : AtExit (K.endedOf 0 fresh-kinds.ps fresh-kinds.r) κs)
     → fresh-reads.Post κs a r s → fresh-reads.Post κs a r′ s′ → r ≡ r′
@@ -166,3 +184,32 @@ pub drain-determined :
     → drain-reads.Post κs a r s → drain-reads.Post κs a r′ s′ → (r ≡ r′) × (now (s .1 .1 .1 .1 .1 .1 .0) ≡ now (s′ .1 .1 .1 .1 .1 .1 .0))
 drain-determined κs a r r′ s s′ p q =
     (sym (emptied-back _ r) ∙ ap emptiedAt (p .0 ∙ sym (q .0)) ∙ emptied-back _ r′, p .1 ∙ sym (q .1))
+
+-- the opened calls
+pub open-fresh-exact-determined :
+    (κs : Lfts 2) (a : K.Dens κs open-exact-kinds.ps) (r r′ : K.resT open-exact-kinds.r κs .Denot) (s s′ : AtExit (K.endedOf 2 open-exact-kinds.ps open-exact-kinds.r) κs)
+    → open-exact-reads.Post κs a r s → open-exact-reads.Post κs a r′ s′ → r ≡ r′
+open-fresh-exact-determined κs a r r′ s s′ p q = sym (started-back r) ∙ ap startedAt (p ∙ sym q) ∙ started-back r′
+
+pub open-step-determined :
+    (κs : Lfts 2) (a : K.Dens κs open-step-kinds.ps) (r r′ : K.resT open-step-kinds.r κs .Denot) (s s′ : AtExit (K.endedOf 2 open-step-kinds.ps open-step-kinds.r) κs)
+    → open-step-reads.Post κs a r s → open-step-reads.Post κs a r′ s′ → r ≡ r′
+open-step-determined κs a r r′ s s′ p q = sym (stepped-back _ r) ∙ ap steppedAt (p ∙ sym q) ∙ stepped-back _ r′
+
+pub open-drain-determined :
+    (κs : Lfts 3) (a : K.Dens κs open-drain-kinds.ps) (r r′ : K.resT open-drain-kinds.r κs .Denot) (s s′ : AtExit (K.endedOf 3 open-drain-kinds.ps open-drain-kinds.r) κs)
+    → open-drain-reads.Post κs a r s → open-drain-reads.Post κs a r′ s′ → (r ≡ r′) × (now (s .1 .1 .1 .1 .1 .1 .0) ≡ now (s′ .1 .1 .1 .1 .1 .1 .0))
+open-drain-determined κs a r r′ s s′ p q =
+    (sym (emptied-back _ r) ∙ ap emptiedAt (p .0 ∙ sym (q .0)) ∙ emptied-back _ r′, p .1 ∙ sym (q .1))
+
+pub open-remove-determined :
+    (κs : Lfts 2) (a : K.Dens κs open-remove-kinds.ps) (r r′ : K.resT open-remove-kinds.r κs .Denot) (s s′ : AtExit (K.endedOf 2 open-remove-kinds.ps open-remove-kinds.r) κs)
+    → open-remove-reads.Post κs a r s → open-remove-reads.Post κs a r′ s′ → (r ≡ r′) × (now (s .1 .0) ≡ now (s′ .1 .0)) × (now (s .1 .1 .0) ≡ now (s′ .1 .1 .0))
+open-remove-determined κs a r r′ s s′ p q =
+    (sym (removal-back _ r) ∙ ap removalAt (p .0 ∙ sym (q .0)) ∙ removal-back _ r′, p .1 ∙ sym (q .1), p .2 ∙ sym (q .2))
+
+pub open-insert-determined :
+    (κs : Lfts 2) (a : K.Dens κs open-insert-kinds.ps) (r r′ : K.resT open-insert-kinds.r κs .Denot) (s s′ : AtExit (K.endedOf 2 open-insert-kinds.ps open-insert-kinds.r) κs)
+    → open-insert-reads.Post κs a r s → open-insert-reads.Post κs a r′ s′ → (r ≡ r′) × (now (s .1 .0) ≡ now (s′ .1 .0)) × (now (s .1 .1 .0) ≡ now (s′ .1 .1 .0))
+open-insert-determined κs a r r′ s s′ p q =
+    (sym (insertion-back _ r) ∙ ap insertionAt (p .0 ∙ sym (q .0)) ∙ insertion-back _ r′, p .1 ∙ sym (q .1), p .2 ∙ sym (q .2))

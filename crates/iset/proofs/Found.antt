@@ -14,6 +14,7 @@ use Rattle.iset.specs.Lookup.{beginning, startNumber, stepNumber}
 use Rattle.iset.specs.declared.Map.{Map}
 use Rattle.iset.proofs.Checks.{check-zero}
 use Rattle.iset.proofs.Lookups.{start-accepts}
+use Rattle.iset.proofs.Orders.{step-order}
 
 module _ (m : Map) (W C : List ℕ) (q : Query) (e : startNumber m W C q ≡ 0) where
   -- the tree of the store, which passes
@@ -25,5 +26,6 @@ module _ (m : Map) (W C : List ℕ) (q : Query) (e : startNumber m W C q ≡ 0) 
 
   -- the fresh cursor is accepted
   pub fresh-accepted : stepNumber m W C q (fresh (beginning m W q)) ≡ 0
-  unfolding stepNumber formOf
-  fresh-accepted = rw (eq-eqb (startNumber m W C q) 0 e, eq-eqb (beginning m W q) (beginning m W q) refl)
+  unfolding formOf
+  fresh-accepted =
+      rw (step-order m W C q (fresh (beginning m W q)), eq-eqb (startNumber m W C q) 0 e, eq-eqb (beginning m W q) (beginning m W q) refl)

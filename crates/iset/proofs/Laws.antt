@@ -17,15 +17,14 @@ use Rattle.builder.specs.Input.{allProper, sorted}
 use Rattle.tree_rm_laws.specs.Remove.{Removal, Store, store}
 use Rattle.tree_rm.specs.Answers.{removal}
 use Rattle.tree_rm.specs.declared.remove.Removed.{Removed}
-use Rattle.iset.specs.Check.{checkNumber, checkRule}
-use Rattle.iset.specs.Remove.{removeNumber, RemoveAnswer, refusedRemoval, removeDone}
+use Rattle.iset.specs.Check.{checkNumber, first, checkRule}
+use Rattle.iset.specs.Remove.{openRemoveNumber, RemoveAnswer, refusedRemoval, removeDone}
 use Rattle.iset.specs.declared.Map.{Map}
 use Rattle.iset.specs.Build.{buildNumber, BuildAnswer}
 use Rattle.iset.specs.declared.Checked.{Checked}
 use Rattle.iset.specs.declared.Checked.the-variants.{Sound, Refused}
-use Rattle.iset.proofs.Checks.{check-zero}
-use Rattle.iset.specs.Insert.{insertNumber, InsertAnswer, refusedInsertion, insertDone}
-use Rattle.iset.proofs.Removals.{accepts}
+use Rattle.iset.specs.Insert.{openInsertNumber, InsertAnswer, refusedInsertion, insertDone}
+use Rattle.iset.proofs.Removals.{open-accepts}
 use Rattle.iset.proofs.Insertions as insertions
 
 -- a count that the slices hold
@@ -87,11 +86,9 @@ pub done-build : (n r s : ℕ) → r ≡ s → _≡_ {A = BuildAnswer} (record {
 done-build n r s e = λ i. record { no = 0; count = n; root = e i }
 
 -- what the tests of a removal leave: a slot that is there, in slices with room
-module _ (m : Map) (W C : List ℕ) (s : ℕ) (t : Checked) (e : checkNumber t ≡ removeNumber m W C s) (q : t ≡ Sound) where
+module _ (m : Map) (W C : List ℕ) (s : ℕ) (t : Checked) (e : checkNumber t ≡ openRemoveNumber m W C s) (q : t ≡ Sound) where
   removable : (m .count ≤ room (length W) (length C)) × (s < m .count)
-  removable =
-      let a : (checkRule m W C ≡ 0) × (s < m .count) = accepts m W C s (sym e ∙ ap checkNumber q) in
-      (check-zero m W C (a .0) .0, a .1)
+  removable = open-accepts m W C s (sym e ∙ ap checkNumber q)
 
   pub removable-words : m .count * 8 ≤ length W
   removable-words = omega (arith, removable)
@@ -119,9 +116,9 @@ module _ (a : Removed) (X K : List ℕ) (R : Removal) (e : removal a X K ≡ R) 
   removed-colours = ap (λ (S : Removal). S .store .colours) e
 
 -- what the tests of an insertion leave: slices with room for one entry more
-module _ (m : Map) (W C : List ℕ) (e : Entry) (t : Checked) (f : checkNumber t ≡ insertNumber m W C e) (q : t ≡ Sound) where
+module _ (m : Map) (W C : List ℕ) (e : Entry) (t : Checked) (f : checkNumber t ≡ openInsertNumber m W C e) (q : t ≡ Sound) where
   insertable : m .count < room (length W) (length C)
-  insertable = insertions.accepts m W C e (sym f ∙ ap checkNumber q) .0
+  insertable = insertions.open-accepts m W C e (sym f ∙ ap checkNumber q) .0
 
   pub insertable-words : m .count * 8 + 8 ≤ length W
   insertable-words = omega (arith, insertable)

@@ -1,9 +1,13 @@
 pub mod Checks
+pub mod Orders
 pub mod Builds
 pub mod Removals
+pub mod After
 pub mod Insertions
+pub mod Opened
 pub mod Sequence
 pub mod Lookups
+pub mod Ones
 pub mod Found
 pub mod Runs
 pub mod Refusals

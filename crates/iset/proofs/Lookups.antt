@@ -30,53 +30,76 @@ use Rattle.iter.specs.declared.seek.Step.{Step}
 use Rattle.iter.specs.declared.rules.Query.{Query}
 use Rattle.iter.specs.declared.rules.Query.the-variants.{Overlap, Exact}
 use Rattle.iter.proofs.Ways.{form-placed}
-use Rattle.iset.specs.Check.{checkNumber, checkRule}
-use Rattle.iset.specs.Lookup.{ordered, queryNumber, beginning, formNumber, startNumber, stepNumber, drainNumber, StartAnswer, stepAnswer, refusedStep, DrainAnswer, drainAnswer, refusedDrain}
+use Rattle.iset.specs.Check.{checkNumber, checkRule, countNumber}
+use Rattle.iset.specs.Lookup.{ordered, queryNumber, beginning, formNumber, startNumber, stepNumber, drainNumber, StartAnswer, stepAnswer, refusedStep, DrainAnswer, drainAnswer, refusedDrain, openStartNumber, openStepNumber, openDrainNumber}
 use Rattle.iset.specs.declared.Map.{Map}
 use Rattle.iset.specs.declared.Checked.{Checked}
 use Rattle.iset.specs.declared.Checked.the-variants.{Sound, Refused}
-use Rattle.iset.proofs.Checks.{both-zero, check-zero}
+use Rattle.iset.proofs.Checks.{both-zero, count-zero}
+use Rattle.iset.proofs.Orders.{start-order, step-order, drain-order}
 
+-- an output that holds the limit
+holds : (limit out : ℕ) → _≡_ {A = ℕ} (cond (ltb out (drains.limitOf limit)) 9 0) 0 → drains.limitOf limit ≤ out
+holds limit out e = go (ltb out (drains.limitOf limit)) refl e
+  where
+    go : (b : Bool) → ltb out (drains.limitOf limit) ≡ b → _≡_ {A = ℕ} (cond b 9 0) 0 → drains.limitOf limit ≤ out
+    go true f y = absurd (omega arith)
+    go false f y = ltb-false out (drains.limitOf limit) f
+
+-- what a lookup that is not refused has passed: an opened one
+module _ (m : Map) (W C : List ℕ) (q : Query) where
+  pub open-start-accepts : openStartNumber m W C q ≡ 0 → (countNumber m W C ≡ 0) × (queryNumber q ≡ 0)
+  unfolding openStartNumber
+  open-start-accepts e = both-zero (countNumber m W C) (queryNumber q) e
+
+  module _ (c : Cursor) where
+    pub open-step-accepts : openStepNumber m W C q c ≡ 0
+        → (openStartNumber m W C q ≡ 0) × (formNumber (formOf W (m .count) (beginning m W q) c) ≡ 0)
+    unfolding openStepNumber
+    open-step-accepts e = both-zero (openStartNumber m W C q) (formNumber (formOf W (m .count) (beginning m W q) c)) e
+
+    pub open-drain-accepts : (limit out : ℕ) → openDrainNumber m W C q c limit out ≡ 0 → (openStepNumber m W C q c ≡ 0) × (drains.limitOf limit ≤ out)
+    unfolding openDrainNumber
+    open-drain-accepts limit out e =
+        let z : (openStepNumber m W C q c ≡ 0) × (_≡_ {A = ℕ} (cond (ltb out (drains.limitOf limit)) 9 0) 0) =
+        both-zero (openStepNumber m W C q c) (cond (ltb out (drains.limitOf limit)) 9 0) e in
+        (z .0, holds limit out (z .1))
+
+  held : openStartNumber m W C q ≡ 0 → m .count ≤ room (length W) (length C)
+  held e = count-zero m W C (open-start-accepts e .0)
+
+-- and a public one
 module _ (m : Map) (W C : List ℕ) (q : Query) where
   pub start-accepts : startNumber m W C q ≡ 0 → (checkRule m W C ≡ 0) × (queryNumber q ≡ 0)
-  unfolding startNumber
-  start-accepts e = both-zero (checkRule m W C) (queryNumber q) e
+  start-accepts e = both-zero (checkRule m W C) (queryNumber q) (sym (start-order m W C q) ∙ e)
 
   module _ (c : Cursor) where
     pub step-accepts : stepNumber m W C q c ≡ 0 → (startNumber m W C q ≡ 0) × (formNumber (formOf W (m .count) (beginning m W q) c) ≡ 0)
-    unfolding stepNumber
-    step-accepts e = both-zero (startNumber m W C q) (formNumber (formOf W (m .count) (beginning m W q) c)) e
+    step-accepts e =
+        both-zero (startNumber m W C q) (formNumber (formOf W (m .count) (beginning m W q) c)) (sym (step-order m W C q c) ∙ e)
 
     pub drain-accepts : (limit out : ℕ) → drainNumber m W C q c limit out ≡ 0 → (stepNumber m W C q c ≡ 0) × (drains.limitOf limit ≤ out)
-    unfolding drainNumber
     drain-accepts limit out e =
         let z : (stepNumber m W C q c ≡ 0) × (_≡_ {A = ℕ} (cond (ltb out (drains.limitOf limit)) 9 0) 0) =
-        both-zero (stepNumber m W C q c) (cond (ltb out (drains.limitOf limit)) 9 0) e in
-        (z .0, go (ltb out (drains.limitOf limit)) refl (z .1))
-      where
-        go : (b : Bool) → ltb out (drains.limitOf limit) ≡ b → _≡_ {A = ℕ} (cond b 9 0) 0 → drains.limitOf limit ≤ out
-        go true f y = absurd (omega arith)
-        go false f y = ltb-false out (drains.limitOf limit) f
-
-  held : startNumber m W C q ≡ 0 → m .count ≤ room (length W) (length C)
-  held e = check-zero m W C (start-accepts e .0) .0
+        both-zero (stepNumber m W C q c) (cond (ltb out (drains.limitOf limit)) 9 0) (sym (drain-order m W C q c limit out) ∙ e) in
+        (z .0, holds limit out (z .1))
 
 pub not-bad : (f : Form) → formNumber f ≡ 0 → f ≡ Bad → ⊥
 not-bad f e q = let z : _≡_ {A = ℕ} 7 0 = sym (ap formNumber q) ∙ e in omega arith
 
 module _ (m : Map) (W C : List ℕ) (q : Query) (t : Checked) (s : t ≡ Sound) where
-  pub start-words : checkNumber t ≡ startNumber m W C q → m .count * 8 ≤ length W
+  pub start-words : checkNumber t ≡ openStartNumber m W C q → m .count * 8 ≤ length W
   start-words e = omega (arith, held m W C q (sym e ∙ ap checkNumber s))
 
   module _ (c : Cursor) where
-    fit : stepNumber m W C q c ≡ 0 → (m .count ≤ room (length W) (length C)) × Placed (m .count) c
+    fit : openStepNumber m W C q c ≡ 0 → (m .count ≤ room (length W) (length C)) × Placed (m .count) c
     fit e =
-        let a : (startNumber m W C q ≡ 0) × (formNumber (formOf W (m .count) (beginning m W q) c) ≡ 0) = step-accepts m W C q c e in
+        let a : (openStartNumber m W C q ≡ 0) × (formNumber (formOf W (m .count) (beginning m W q) c) ≡ 0) = open-step-accepts m W C q c e in
         let h : m .count ≤ room (length W) (length C) = held m W C q (a .0) in
         (h, form-placed W (m .count) (beginning m W q) c (formOf W (m .count) (beginning m W q) c) refl (not-bad _ (a .1)) (omega arith))
 
-    module _ (e : checkNumber t ≡ stepNumber m W C q c) where
-      step-zero : stepNumber m W C q c ≡ 0
+    module _ (e : checkNumber t ≡ openStepNumber m W C q c) where
+      step-zero : openStepNumber m W C q c ≡ 0
       step-zero = sym e ∙ ap checkNumber s
 
       pub step-words : m .count * 8 ≤ length W
@@ -88,9 +111,9 @@ module _ (m : Map) (W C : List ℕ) (q : Query) (t : Checked) (s : t ≡ Sound) 
       pub step-placed : Placed (m .count) c
       step-placed = fit step-zero .1
 
-    module _ (limit out : ℕ) (e : checkNumber t ≡ drainNumber m W C q c limit out) where
-      drain-zero : (stepNumber m W C q c ≡ 0) × (drains.limitOf limit ≤ out)
-      drain-zero = drain-accepts m W C q c limit out (sym e ∙ ap checkNumber s)
+    module _ (limit out : ℕ) (e : checkNumber t ≡ openDrainNumber m W C q c limit out) where
+      drain-zero : (openStepNumber m W C q c ≡ 0) × (drains.limitOf limit ≤ out)
+      drain-zero = open-drain-accepts m W C q c limit out (sym e ∙ ap checkNumber s)
 
       pub drain-words : m .count * 8 ≤ length W
       drain-words = omega (arith, fit (drain-zero .0) .0)

@@ -40,9 +40,9 @@ use Rattle.iter_laws.proofs.OverlapRuns.{overlap-fresh-form, overlap-ended-form
 use Rattle.iter_laws.proofs.ExactRuns.{exact-start, exact-fresh-form, exact-ended-form, exact-held-form, exact-bad-form, exact-none-held}
 use Rattle.iter_laws.proofs.Forms.{fresh-form, ended-form, bad-form}
 use Rattle.iset.specs.Build.{buildNumber, BuildAnswer, buildPaper, buildRule, buildNodes, buildColour}
-use Rattle.iset.specs.Check.{checkRule}
+use Rattle.iset.specs.Check.{checkRule, first}
 use Rattle.iset.specs.Remove.{removeNumber, RemoveAnswer, removePaper, removeCall, removeNodes, removeColours}
-use Rattle.iset.specs.Insert.{entryOf, properNumber, insertNumber, InsertAnswer, insertPaper, insertCall, insertNodes, insertColours}
+use Rattle.iset.specs.Insert.{entryOf, insertNumber, InsertAnswer, insertPaper, insertCall, insertNodes, insertColours}
 use Rattle.iset.specs.Lookup.{ordered, queryNumber, beginning, formNumber, startNumber, stepNumber, drainNumber, StartAnswer, startCall, StepAnswer, stepCall, DrainAnswer, drainPaper, drainCall, drainOutput}
 use Rattle.iset.specs.Refusals.{Rows, accept, refuse, Exactly, NoSuch, BadRange, BadInterval, BadCursor, ShortOutput, checkRows, buildRows, removeRows, insertRows, startRows, stepRows, drainRows}
 use Rattle.iset.specs.declared.Map.{Map}
@@ -63,6 +63,7 @@ use Rattle.iset.proofs.Map.build.Reads as build-reads
 use Rattle.iset.proofs.Map.build.Kinds as build-kinds
 use Rattle.iset.proofs.Checks.{cases, check-one, one-check, check-two, two-check}
 use Rattle.iset.proofs.Found.{tree-of, few}
+use Rattle.iset.proofs.Orders.{remove-order, insert-order, start-order, step-order, drain-order}
 
 -- Tables. One after another:
 abbrev followed : Rows → Rows → Rows
@@ -210,9 +211,8 @@ module _ (m : Map) (W C : List ℕ) (s : ℕ) where
   remove-no = number-is (λ (a : RemoveAnswer). a .no) (removeNumber m W C s) _ _ refl refl
 
   pub remove-refusals : Exactly (removeRows m W C s) (removeCall m W C s .no)
-  unfolding removeNumber
   remove-refusals =
-      rw remove-no
+      rw (remove-no, remove-order m W C s)
       (first-then (checkRows m W C) (refuse 3 (NoSuch m s) accept) (checkRule m W C) (cond (ltb s (m .count)) 0 3) (omega arith)
       (check-refusals m W C)
       (λ e. passed-row 3 (NoSuch m s) accept 0 (ltb s (m .count)) (omega arith)
@@ -243,8 +243,11 @@ module _ (m : Map) (W C : List ℕ) (e : Entry) where
   unfolding insertCall
   insert-no = number-is (λ (a : InsertAnswer). a .no) (insertNumber m W C e) _ _ refl refl
 
-  proper-row : Exactly (followed (checkRows m W C) (refuse 5 (BadInterval (e .start) (e .end)) accept)) (properNumber m W C e)
-  unfolding properNumber
+  -- the refusals after that of a full store
+  abbrev after-room : ℕ
+  after-room = first (checkRule m W C) (cond (ltb (e .start) (e .end)) 0 5)
+
+  proper-row : Exactly (followed (checkRows m W C) (refuse 5 (BadInterval (e .start) (e .end)) accept)) after-room
   proper-row =
       first-then (checkRows m W C) (refuse 5 (BadInterval (e .start) (e .end)) accept) (checkRule m W C) (cond (ltb (e .start) (e .end)) 0 5) (omega arith)
       (check-refusals m W C)
@@ -252,10 +255,9 @@ module _ (m : Map) (W C : List ℕ) (e : Entry) where
       (λ t p. omega (arith, ltb-true (e .start) (e .end) t)) (ltb-false (e .start) (e .end)) (λ t. refl))
 
   pub insert-refusals : Exactly (insertRows m W C e) (insertCall m W C e .no)
-  unfolding insertNumber
-  insert-refusals = rw insert-no (go (ltb (m .count) held) refl)
+  insert-refusals = rw (insert-no, insert-order m W C e) (go (ltb (m .count) held) refl)
     where
-      go : (t : Bool) → ltb (m .count) held ≡ t → Exactly (insertRows m W C e) (cond t (properNumber m W C e) 1)
+      go : (t : Bool) → ltb (m .count) held ≡ t → Exactly (insertRows m W C e) (cond t after-room 1)
       go true i =
           let h : m .count < held = ltb-true (m .count) held i in
           ((λ z. absurd (omega (arith, proper-row .0 .0 z)), λ p. absurd (omega arith)), λ z. proper-row .1 (λ p. omega arith))
@@ -305,8 +307,9 @@ module _ (m : Map) (W C : List ℕ) where
       (λ t p. omega (arith, ltb-true (x .start) (x .end) t)) (ltb-false (x .start) (x .end)) (λ t. refl)
 
   start-row : (q : Query) → Exactly (followed (checkRows m W C) (queryRow q)) (startNumber m W C q)
-  unfolding startNumber
-  start-row q = first-then (checkRows m W C) (queryRow q) (checkRule m W C) (queryNumber q) (apart q) (check-refusals m W C) (λ e. query-row q)
+  start-row q =
+      rw (start-order m W C q)
+      (first-then (checkRows m W C) (queryRow q) (checkRule m W C) (queryNumber q) (apart q) (check-refusals m W C) (λ e. query-row q))
     where
       apart : (q : Query) → Apart (checkRows m W C) (queryRow q)
       apart (Overlap q) = omega arith
@@ -364,13 +367,14 @@ module _ (m : Map) (W C : List ℕ) where
         (b .0, b .1, λ P′ h′. exact-bad-form W C (m .count) (m .root) x f P′ k h′ c i .2)))
 
     step-row : (q : Query) → Exactly (stepRows m W C q c) (stepNumber m W C q c)
-    unfolding stepNumber
     step-row (Overlap q) =
-        first-then (followed (checkRows m W C) (queryRow (Overlap q))) (refuse 7 (BadCursor m W C (Overlap q) c) accept) (startNumber m W C (Overlap q))
-        (formNumber (formOf W (m .count) (m .root) c)) (omega arith) (start-row (Overlap q)) (form-row (Overlap q))
+        rw (step-order m W C (Overlap q) c)
+        (first-then (followed (checkRows m W C) (queryRow (Overlap q))) (refuse 7 (BadCursor m W C (Overlap q) c) accept) (startNumber m W C (Overlap q))
+        (formNumber (formOf W (m .count) (m .root) c)) (omega arith) (start-row (Overlap q)) (form-row (Overlap q)))
     step-row (Exact x) =
-        first-then (followed (checkRows m W C) (queryRow (Exact x))) (refuse 7 (BadCursor m W C (Exact x) c) accept) (startNumber m W C (Exact x))
-        (formNumber (formOf W (m .count) (beginning m W (Exact x)) c)) (omega arith) (start-row (Exact x)) (form-row (Exact x))
+        rw (step-order m W C (Exact x) c)
+        (first-then (followed (checkRows m W C) (queryRow (Exact x))) (refuse 7 (BadCursor m W C (Exact x) c) accept) (startNumber m W C (Exact x))
+        (formNumber (formOf W (m .count) (beginning m W (Exact x)) c)) (omega arith) (start-row (Exact x)) (form-row (Exact x)))
 
     step-no : (q : Query) → stepCall m W C q c .no ≡ stepNumber m W C q c
     unfolding stepCall
@@ -397,13 +401,14 @@ module _ (m : Map) (W C : List ℕ) where
           (λ t p. omega (arith, ltb-false places (limitOf limit) t, short-is limit places .0 p)) (λ t. refl)
 
       drain-row : (q : Query) (places : ℕ) → Exactly (drainRows m W C q c limit places) (drainNumber m W C q c limit places)
-      unfolding drainNumber
       drain-row (Overlap q) places =
-          first-then (stepRows m W C (Overlap q) c) (refuse 9 (ShortOutput limit places) accept) (stepNumber m W C (Overlap q) c)
-          (cond (ltb places (limitOf limit)) 9 0) (omega arith) (step-row (Overlap q)) (λ e. room-row places)
+          rw (drain-order m W C (Overlap q) c limit places)
+          (first-then (stepRows m W C (Overlap q) c) (refuse 9 (ShortOutput limit places) accept) (stepNumber m W C (Overlap q) c)
+          (cond (ltb places (limitOf limit)) 9 0) (omega arith) (step-row (Overlap q)) (λ e. room-row places))
       drain-row (Exact x) places =
-          first-then (stepRows m W C (Exact x) c) (refuse 9 (ShortOutput limit places) accept) (stepNumber m W C (Exact x) c)
-          (cond (ltb places (limitOf limit)) 9 0) (omega arith) (step-row (Exact x)) (λ e. room-row places)
+          rw (drain-order m W C (Exact x) c limit places)
+          (first-then (stepRows m W C (Exact x) c) (refuse 9 (ShortOutput limit places) accept) (stepNumber m W C (Exact x) c)
+          (cond (ltb places (limitOf limit)) 9 0) (omega arith) (step-row (Exact x)) (λ e. room-row places))
 
       drain-no : (q : Query) (places : ℕ) → drainCall m W C q c limit places .no ≡ drainNumber m W C q c limit places
       unfolding drainCall

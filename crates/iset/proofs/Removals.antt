@@ -13,10 +13,10 @@ use Rattle.tree.specs.Passes.{Passes}
 use Rattle.tree_rm_laws.specs.Remove.{removeRule}
 use Rattle.tree_rm_laws.specs.Removed.{Removed}
 use Rattle.tree_rm_laws.proofs.Removal.{removed}
-use Rattle.iset.specs.Check.{checkRule}
-use Rattle.iset.specs.Remove.{removeNumber}
+use Rattle.iset.specs.Check.{countNumber, checkRule}
+use Rattle.iset.specs.Remove.{openRemoveNumber, removeNumber}
 use Rattle.iset.specs.declared.Map.{Map}
-use Rattle.iset.proofs.Checks.{both-zero, check-zero}
+use Rattle.iset.proofs.Checks.{both-zero, check-zero, count-zero, checked-count}
 
 module _ (m : Map) (W C : List ℕ) (s : ℕ) where
   -- the check's refusals come first
@@ -26,22 +26,28 @@ module _ (m : Map) (W C : List ℕ) (s : ℕ) where
 
   -- 3 exactly if the store passes and the slot is not below the count
   pub no-such : checkRule m W C ≡ 0 → m .count ≤ s → removeNumber m W C s ≡ 3
-  unfolding removeNumber
-  no-such e h = rw (e, le-ltb s (m .count) h)
+  unfolding removeNumber openRemoveNumber
+  no-such e h = rw (e, checked-count m W C e, le-ltb s (m .count) h)
 
   pub accepted : checkRule m W C ≡ 0 → s < m .count → removeNumber m W C s ≡ 0
-  unfolding removeNumber
-  accepted e h = rw (e, lt-ltb s (m .count) h)
+  unfolding removeNumber openRemoveNumber
+  accepted e h = rw (e, checked-count m W C e, lt-ltb s (m .count) h)
 
-  pub accepts : removeNumber m W C s ≡ 0 → (checkRule m W C ≡ 0) × (s < m .count)
-  unfolding removeNumber
-  accepts e =
-      let z : (checkRule m W C ≡ 0) × (_≡_ {A = ℕ} (cond (ltb s (m .count)) 0 3) 0) = both-zero (checkRule m W C) (cond (ltb s (m .count)) 0 3) e in
-      (z .0, go (ltb s (m .count)) refl (z .1))
+  pub open-accepts : openRemoveNumber m W C s ≡ 0 → (m .count ≤ room (length W) (length C)) × (s < m .count)
+  unfolding openRemoveNumber
+  open-accepts e =
+      let z : (countNumber m W C ≡ 0) × (_≡_ {A = ℕ} (cond (ltb s (m .count)) 0 3) 0) = both-zero (countNumber m W C) (cond (ltb s (m .count)) 0 3) e in
+      (count-zero m W C (z .0), go (ltb s (m .count)) refl (z .1))
     where
       go : (b : Bool) → ltb s (m .count) ≡ b → _≡_ {A = ℕ} (cond b 0 3) 0 → s < m .count
       go true f y = ltb-true s (m .count) f
       go false f y = absurd (omega arith)
+
+  pub accepts : removeNumber m W C s ≡ 0 → (checkRule m W C ≡ 0) × (s < m .count)
+  unfolding removeNumber
+  accepts e =
+      let z : (checkRule m W C ≡ 0) × (openRemoveNumber m W C s ≡ 0) = both-zero (checkRule m W C) (openRemoveNumber m W C s) e in
+      (z .0, open-accepts (z .1) .1)
 
   -- the tree of the store that an accepted removal was made in
   pub tree-before : removeNumber m W C s ≡ 0 → Passes W C (m .count) (m .root)

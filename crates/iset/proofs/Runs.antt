@@ -49,6 +49,7 @@ use Rattle.iset.specs.declared.Map.{Map}
 use Rattle.iset.proofs.Refusals.{disordered}
 use Rattle.iset.proofs.Lookups.{step-accepts, not-bad}
 use Rattle.iset.proofs.Found.{tree-of, few, fresh-accepted}
+use Rattle.iset.proofs.Orders.{start-order, step-order, drain-order}
 
 -- a drain of one hit, by its step's answer, which has a hit or not
 abbrev one : Answer → Bool → Drained
@@ -74,8 +75,7 @@ module _ (m : Map) (W C : List ℕ) (q : Query) (start : startNumber m W C q ≡
   formed c e i = not-bad (formOf W n k c) (step-accepts m W C q c e .1) i
 
   accepted : (c : Cursor) → Formed W n Q E p k t w c → Accepted c
-  unfolding stepNumber
-  accepted c f = rw (eq-eqb (startNumber m W C q) 0 start) (go (formOf W n k c) f)
+  accepted c f = rw (step-order m W C q c, eq-eqb (startNumber m W C q) 0 start) (go (formOf W n k c) f)
     where
       go : (g : Form) → (g ≡ form.Bad → ⊥) → formNumber g ≡ 0
       go form.Fresh d = refl
@@ -111,8 +111,7 @@ module _ (m : Map) (W C : List ℕ) (q : Query) (start : startNumber m W C q ≡
 
   module _ (limit : ℕ) (out : List ℕ) (c : Cursor) (e : Accepted c) where
     drain-number : drainNumber m W C q c limit (length out) ≡ cond (ltb (length out) (limitOf limit)) 9 0
-    unfolding drainNumber
-    drain-number = rw (eq-eqb (stepNumber m W C q c) 0 e)
+    drain-number = rw (drain-order m W C q c limit (length out), eq-eqb (stepNumber m W C q c) 0 e)
 
     drain-short : ltb (length out) (limitOf limit) ≡ true → given m W C q c (drain limit out) ≡ part 9 0 c
     unfolding drainCall drainOutput drains.drain calls
@@ -198,8 +197,7 @@ module _ (m : Map) (W C : List ℕ) (q : Query) (start : startNumber m W C q ≡
 -- what is accepted
 module _ (m : Map) (W C : List ℕ) (sound : checkRule m W C ≡ 0) where
   started : (q : Query) → queryNumber q ≡ 0 → startNumber m W C q ≡ 0
-  unfolding startNumber
-  started q e = rw (sound, e)
+  started q e = rw (start-order m W C q, sound, e)
 
   range-started : (q : Span) → (BadRange (q .lo) (q .hi) → ⊥) → startNumber m W C (Overlap q) ≡ 0
   range-started q d = started (Overlap q) (go (ordered (q .lo) (q .hi)) refl)

@@ -27,11 +27,12 @@ use Rattle.iset.specs.Build.{buildNumber, BuildAnswer, buildRule, buildN
 use Rattle.iset.specs.Remove.{removeNumber, RemoveAnswer, refusedRemoval, removeDone, removeCall, removeNodes, removeColours}
 use Rattle.iset.specs.Insert.{insertNumber, InsertAnswer, refusedInsertion, insertDone, insertCall, insertNodes, insertColours}
 use Rattle.iset.specs.Maps.{emptyMap}
-use Rattle.iset.specs.Sequence.{Call, build, remove, insert, State, answered, allAnswered}
+use Rattle.iset.specs.Sequence.{Call, build, remove, insert, State, answered, allAnswered, openAnswered, allOpenAnswered}
 use Rattle.iset.specs.declared.Map.{Map}
 use Rattle.iset.proofs.Builds.{Accepted, accepted, builds}
 use Rattle.iset.proofs.Checks.{check-zero, zero-check}
 use Rattle.iset.proofs.Insertions as insertions
+use Rattle.iset.proofs.Opened.{remove-is, remove-nodes-is, remove-colours-is, insert-is, insert-nodes-is, insert-colours-is}
 use Rattle.iset.proofs.Removals as removals
 
 -- what a build leaves
@@ -72,7 +73,7 @@ by-number count root zero x y X W K C f g = f refl
 by-number count root (suc k) x y X W K C f g = rw (ne-eqb (suc k) 0 (λ z. omega arith)) g
 
 -- any one call leaves a store that passes
-abbrev Sound : State → Type 0
+abbrev pub Sound : State → Type 0
 Sound S = checkRule (S .map) (S .words) (S .colours) ≡ 0
 
 module _ (m : Map) (W C : List ℕ) where
@@ -127,3 +128,30 @@ module _ (m : Map) (W C : List ℕ) where
 pub calls-sound : (l : List Call) (S : State) → Sound S → Sound (allAnswered S l)
 calls-sound [] S h = h
 calls-sound (x ∷ l) S h = calls-sound l (answered S x) (answered-sound (S .map) (S .words) (S .colours) h x)
+
+-- a store that was checked once: the calls that do not run the check leave what the public ones do, and it passes. With `Opened` they, and the
+-- lookups between them, answer what the public calls answer.
+opened-call : (S : State) → Sound S → (x : Call) → openAnswered S x ≡ answered S x
+opened-call S h (build l) = refl
+opened-call S h (remove s) =
+    rw (
+      remove-is (S .map) (S .words) (S .colours) h s,
+      remove-nodes-is (S .map) (S .words) (S .colours) h s,
+      remove-colours-is (S .map) (S .words) (S .colours) h s,
+    )
+    refl
+opened-call S h (insert e) =
+    rw (
+      insert-is (S .map) (S .words) (S .colours) h e,
+      insert-nodes-is (S .map) (S .words) (S .colours) h e,
+      insert-colours-is (S .map) (S .words) (S .colours) h e,
+    )
+    refl
+
+pub opened-calls : (l : List Call) (S : State) → Sound S → allOpenAnswered S l ≡ allAnswered S l
+opened-calls [] S h = refl
+opened-calls (x ∷ l) S h =
+    rw (opened-call S h x) (opened-calls l (answered S x) (answered-sound (S .map) (S .words) (S .colours) h x))
+
+pub opened-keeps : (l : List Call) (S : State) → Sound S → Sound (allOpenAnswered S l)
+opened-keeps l S h = rw (opened-calls l S h) (calls-sound l S h)

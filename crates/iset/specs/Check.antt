@@ -3,7 +3,7 @@ use mathlib.Core.Bool.{cond}
 use mathlib.Core.List.{List}
 use Prim.Native.Nat.{ℕ}
 use lib.ListN.{length}
-use lib.Dec.{ltb}
+use lib.Dec.{eqb, ltb}
 use Rattle.words.specs.Nodes.{room}
 use Rattle.words.specs.Refusals.{refusalNumber}
 use Rattle.audit.specs.Survey.{wholeOf}
@@ -15,6 +15,14 @@ use Rattle.iset.specs.declared.Checked.the-variants.{Sound, Refused}
 abbrev pub checkNumber : Checked → ℕ
 checkNumber Sound = 0
 checkNumber (Refused y) = refusalNumber y
+
+-- a refusal's number k, or where that is 0 the one that comes next
+abbrev pub first : ℕ → ℕ → ℕ
+first k x = cond (eqb k 0) x k
+
+-- 1: "count .. above capacity". It is all that a call on an opened store, one that passed the check before, tests of it.
+unfoldable pub countNumber : Map → List ℕ → List ℕ → ℕ
+countNumber m W C = cond (ltb (room (length W) (length C)) (m .count)) 1 0
 
 -- 1: "count .. above capacity"; 2: "the check fails"
 unfoldable pub checkRule : Map → List ℕ → List ℕ → ℕ

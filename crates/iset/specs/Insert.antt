@@ -10,7 +10,7 @@ use Rattle.words.specs.Refusals.{refusalNumber}
 use Rattle.words.specs.declared.node.Entry.{Entry}
 use Rattle.tree_rm_laws.specs.Remove.{Store}
 use Rattle.tree_in_laws.specs.Insert.{insertRule}
-use Rattle.iset.specs.Check.{checkRule}
+use Rattle.iset.specs.Check.{first, checkRule}
 use Rattle.iset.specs.declared.Map.{Map}
 use Rattle.iset.specs.declared.insert.Insertion.{Insertion}
 use Rattle.iset.specs.declared.insert.Insertion.the-variants.{Done, Refused}
@@ -18,13 +18,20 @@ use Rattle.iset.specs.declared.insert.Insertion.the-variants.{Done, Refu
 abbrev pub entryOf : ℕ → ℕ → ℕ → Entry
 entryOf a b v = record { start = a; end = b; value = v }
 
--- where there is room, the check's refusal; then 5, "start >= end"
-unfoldable pub properNumber : Map → List ℕ → List ℕ → Entry → ℕ
-properNumber m W C e = cond (eqb (checkRule m W C) 0) (cond (ltb (e .start) (e .end)) 0 5) (checkRule m W C)
+-- 1: "NoRoom now when count has reached capacity, .. with a count above capacity also 1"
+unfoldable pub fullNumber : Map → List ℕ → List ℕ → ℕ
+fullNumber m W C = cond (ltb (m .count) (room (length W) (length C))) 0 1
 
--- the refusal's number, 0 for none: "NoRoom now when count has reached capacity, .. with a count above capacity also 1"
+-- the refusal's number, 0 for none, in an opened store; 5: "start >= end"
+unfoldable pub openInsertNumber : Map → List ℕ → List ℕ → Entry → ℕ
+openInsertNumber m W C e = first (fullNumber m W C) (cond (ltb (e .start) (e .end)) 0 5)
+
+-- and of the public call: a full store is refused before the check, the rest after it
+unfoldable pub roomThenCheck : Map → List ℕ → List ℕ → ℕ
+roomThenCheck m W C = first (fullNumber m W C) (checkRule m W C)
+
 unfoldable pub insertNumber : Map → List ℕ → List ℕ → Entry → ℕ
-insertNumber m W C e = cond (ltb (m .count) (room (length W) (length C))) (properNumber m W C e) 1
+insertNumber m W C e = first (roomThenCheck m W C) (openInsertNumber m W C e)
 
 -- an answer by the papers' numbers: the slot of the new entry and the new map
 pub record InsertAnswer : Type 0 where
@@ -45,13 +52,32 @@ insertPaper m (Refused y) = refusedInsertion m (refusalNumber y)
 abbrev pub insertDone : Map → Store → InsertAnswer
 insertDone m S = record { no = 0; slot = m .count; count = m .count + 1; root = S .root }
 
--- the whole call: answer, words and colours
+-- a call that is refused by the number k, or not: answer, words and colours
+abbrev pub insertBy : Map → List ℕ → List ℕ → Entry → ℕ → InsertAnswer
+insertBy m W C e k = cond (eqb k 0) (insertDone m (insertRule W C (m .count) (m .root) e)) (refusedInsertion m k)
+
+abbrev pub insertNodesBy : Map → List ℕ → List ℕ → Entry → ℕ → List ℕ
+insertNodesBy m W C e k = cond (eqb k 0) (insertRule W C (m .count) (m .root) e .words) W
+
+abbrev pub insertColoursBy : Map → List ℕ → List ℕ → Entry → ℕ → List ℕ
+insertColoursBy m W C e k = cond (eqb k 0) (insertRule W C (m .count) (m .root) e .colours) C
+
+-- the opened call
+unfoldable pub openInsertCall : Map → List ℕ → List ℕ → Entry → InsertAnswer
+openInsertCall m W C e = insertBy m W C e (openInsertNumber m W C e)
+
+unfoldable pub openInsertNodes : Map → List ℕ → List ℕ → Entry → List ℕ
+openInsertNodes m W C e = insertNodesBy m W C e (openInsertNumber m W C e)
+
+unfoldable pub openInsertColours : Map → List ℕ → List ℕ → Entry → List ℕ
+openInsertColours m W C e = insertColoursBy m W C e (openInsertNumber m W C e)
+
+-- the public call
 unfoldable pub insertCall : Map → List ℕ → List ℕ → Entry → InsertAnswer
-insertCall m W C e =
-    cond (eqb (insertNumber m W C e) 0) (insertDone m (insertRule W C (m .count) (m .root) e)) (refusedInsertion m (insertNumber m W C e))
+insertCall m W C e = insertBy m W C e (insertNumber m W C e)
 
 unfoldable pub insertNodes : Map → List ℕ → List ℕ → Entry → List ℕ
-insertNodes m W C e = cond (eqb (insertNumber m W C e) 0) (insertRule W C (m .count) (m .root) e .words) W
+insertNodes m W C e = insertNodesBy m W C e (insertNumber m W C e)
 
 unfoldable pub insertColours : Map → List ℕ → List ℕ → Entry → List ℕ
-insertColours m W C e = cond (eqb (insertNumber m W C e) 0) (insertRule W C (m .count) (m .root) e .colours) C
+insertColours m W C e = insertColoursBy m W C e (insertNumber m W C e)

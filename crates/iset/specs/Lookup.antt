@@ -1,4 +1,4 @@
--- "overlap step 1, 2, 4, 7; exact step 1, 2, 5, 7; drain as its step, then 9"
+-- "overlap step 1, 2, 4, 7; exact step 1, 2, 5, 7; drain as its step, then 9": the check, then what an opened lookup tests
 use mathlib.Core.Bool.{Bool, true, false, cond}
 use mathlib.Core.List.{List}
 use Prim.Native.Nat.{ℕ}
@@ -22,7 +22,7 @@ use Rattle.iter.specs.declared.Form.{Form}
 use Rattle.iter.specs.declared.Form.the-variants as form
 use Rattle.iter.specs.declared.rules.Query.{Query}
 use Rattle.iter.specs.declared.rules.Query.the-variants.{Overlap, Exact}
-use Rattle.iset.specs.Check.{checkRule}
+use Rattle.iset.specs.Check.{first, countNumber, checkRule}
 use Rattle.iset.specs.declared.Map.{Map}
 use Rattle.iset.specs.declared.lookup.Started.{Started}
 use Rattle.iset.specs.declared.lookup.Started.the-variants as started
@@ -58,17 +58,25 @@ formNumber form.Held = 0
 formNumber form.Ended = 0
 formNumber form.Bad = 7
 
--- the first refusal's number, 0 for none, of a query alone; of one with a cursor; of a drain
+-- the first refusal's number, 0 for none, in an opened store: of a query alone; of one with a cursor; of a drain
+unfoldable pub openStartNumber : Map → List ℕ → List ℕ → Query → ℕ
+openStartNumber m W C q = first (countNumber m W C) (queryNumber q)
+
+unfoldable pub openStepNumber : Map → List ℕ → List ℕ → Query → Cursor → ℕ
+openStepNumber m W C q c = first (openStartNumber m W C q) (formNumber (formOf W (m .count) (beginning m W q) c))
+
+unfoldable pub openDrainNumber : Map → List ℕ → List ℕ → Query → Cursor → ℕ → ℕ → ℕ
+openDrainNumber m W C q c limit room = first (openStepNumber m W C q c) (cond (ltb room (drains.limitOf limit)) 9 0)
+
+-- and of the public calls
 unfoldable pub startNumber : Map → List ℕ → List ℕ → Query → ℕ
-startNumber m W C q = cond (eqb (checkRule m W C) 0) (queryNumber q) (checkRule m W C)
+startNumber m W C q = first (checkRule m W C) (openStartNumber m W C q)
 
 unfoldable pub stepNumber : Map → List ℕ → List ℕ → Query → Cursor → ℕ
-stepNumber m W C q c =
-    cond (eqb (startNumber m W C q) 0) (formNumber (formOf W (m .count) (beginning m W q) c)) (startNumber m W C q)
+stepNumber m W C q c = first (checkRule m W C) (openStepNumber m W C q c)
 
 unfoldable pub drainNumber : Map → List ℕ → List ℕ → Query → Cursor → ℕ → ℕ → ℕ
-drainNumber m W C q c limit room =
-    cond (eqb (stepNumber m W C q c) 0) (cond (ltb room (drains.limitOf limit)) 9 0) (stepNumber m W C q c)
+drainNumber m W C q c limit room = first (checkRule m W C) (openDrainNumber m W C q c limit room)
 
 -- Answers by this paper's numbers. A refusal has the cursor as given, slot U, counts 0; a fresh cursor that is refused is the ended one.
 pub record StartAnswer : Type 0 where
@@ -79,11 +87,14 @@ abbrev pub startPaper : Started → StartAnswer
 startPaper (started.Done c) = record { no = 0; cursor = c }
 startPaper (started.Refused y) = record { no = refusalNumber y; cursor = ended }
 
+abbrev pub startBy : Map → List ℕ → Interval → ℕ → StartAnswer
+startBy m W x k = cond (eqb k 0) (record { no = 0; cursor = fresh (beginning m W (Exact x)) }) (record { no = k; cursor = ended })
+
+unfoldable pub openStartCall : Map → List ℕ → List ℕ → Interval → StartAnswer
+openStartCall m W C x = startBy m W x (openStartNumber m W C (Exact x))
+
 unfoldable pub startCall : Map → List ℕ → List ℕ → Interval → StartAnswer
-startCall m W C x =
-    cond (eqb (startNumber m W C (Exact x)) 0)
-    (record { no = 0; cursor = fresh (beginning m W (Exact x)) })
-    (record { no = startNumber m W C (Exact x); cursor = ended })
+startCall m W C x = startBy m W x (startNumber m W C (Exact x))
 
 -- a step: a hit with its slot, or the end, the next cursor and the nodes entered
 pub record StepAnswer : Type 0 where
@@ -103,11 +114,17 @@ abbrev pub stepPaper : Cursor → Stepped → StepAnswer
 stepPaper c (stepped.Done s) = stepAnswer (isHit s) (answer s)
 stepPaper c (stepped.Refused y) = refusedStep c (refusalNumber y)
 
-unfoldable pub stepCall : Map → List ℕ → List ℕ → Query → Cursor → StepAnswer
-stepCall m W C q c =
-    cond (eqb (stepNumber m W C q c) 0)
+abbrev pub stepBy : Map → List ℕ → Query → Cursor → ℕ → StepAnswer
+stepBy m W q c k =
+    cond (eqb k 0)
     (stepAnswer (ltb (step W (m .count) (rules W (m .count) q) c .slot) (m .count)) (step W (m .count) (rules W (m .count) q) c))
-    (refusedStep c (stepNumber m W C q c))
+    (refusedStep c k)
+
+unfoldable pub openStepCall : Map → List ℕ → List ℕ → Query → Cursor → StepAnswer
+openStepCall m W C q c = stepBy m W q c (openStepNumber m W C q c)
+
+unfoldable pub stepCall : Map → List ℕ → List ℕ → Query → Cursor → StepAnswer
+stepCall m W C q c = stepBy m W q c (stepNumber m W C q c)
 
 -- a drain: the hits written, the nodes entered, the next cursor
 pub record DrainAnswer : Type 0 where
@@ -126,15 +143,23 @@ abbrev pub drainPaper : Cursor → Emptied → DrainAnswer
 drainPaper c (emptied.Done d) = record { no = 0; hits = d .hits; entered = d .entered; next = d .next }
 drainPaper c (emptied.Refused y) = refusedDrain c (refusalNumber y)
 
-unfoldable pub drainCall : Map → List ℕ → List ℕ → Query → Cursor → ℕ → ℕ → DrainAnswer
-drainCall m W C q c limit room =
-    cond (eqb (drainNumber m W C q c limit room) 0)
-    (drainAnswer (drains.drain W (m .count) (rules W (m .count) q) (drains.limitOf limit) c))
-    (refusedDrain c (drainNumber m W C q c limit room))
+abbrev pub drainBy : Map → List ℕ → Query → Cursor → ℕ → ℕ → DrainAnswer
+drainBy m W q c limit k =
+    cond (eqb k 0) (drainAnswer (drains.drain W (m .count) (rules W (m .count) q) (drains.limitOf limit) c)) (refusedDrain c k)
 
 -- "Places past the hits written stay."
+abbrev pub drainOutputBy : Map → List ℕ → Query → Cursor → ℕ → List ℕ → ℕ → List ℕ
+drainOutputBy m W q c limit out k =
+    cond (eqb k 0) (drains.filled (drains.drain W (m .count) (rules W (m .count) q) (drains.limitOf limit) c .slots) out) out
+
+unfoldable pub openDrainCall : Map → List ℕ → List ℕ → Query → Cursor → ℕ → ℕ → DrainAnswer
+openDrainCall m W C q c limit room = drainBy m W q c limit (openDrainNumber m W C q c limit room)
+
+unfoldable pub openDrainOutput : Map → List ℕ → List ℕ → Query → Cursor → ℕ → List ℕ → List ℕ
+openDrainOutput m W C q c limit out = drainOutputBy m W q c limit out (openDrainNumber m W C q c limit (length out))
+
+unfoldable pub drainCall : Map → List ℕ → List ℕ → Query → Cursor → ℕ → ℕ → DrainAnswer
+drainCall m W C q c limit room = drainBy m W q c limit (drainNumber m W C q c limit room)
+
 unfoldable pub drainOutput : Map → List ℕ → List ℕ → Query → Cursor → ℕ → List ℕ → List ℕ
-drainOutput m W C q c limit out =
-    cond (eqb (drainNumber m W C q c limit (length out)) 0)
-    (drains.filled (drains.drain W (m .count) (rules W (m .count) q) (drains.limitOf limit) c .slots) out)
-    out
+drainOutput m W C q c limit out = drainOutputBy m W q c limit out (drainNumber m W C q c limit (length out))

@@ -1,20 +1,26 @@
--- "remove 1, 2, 3"
+-- "remove 1, 2, 3": the check, then what an opened removal tests
 use mathlib.Core.Bool.{cond}
 use mathlib.Core.List.{List}
 use Prim.Native.Nat.{ℕ, _-_}
 use lib.Dec.{eqb, ltb}
+use Rattle.words.specs.Ix.{U}
 use Rattle.words.specs.Refusals.{refusalNumber}
 use Rattle.tree_rm_laws.specs.Pairs.{none}
 use Rattle.tree_rm_laws.specs.Remove as rule
+use Rattle.tree_rm_laws.specs.declared.pairs.Pair.{Pair}
 use Rattle.tree_rm_laws.specs.declared.pairs.Pairs.{Pairs}
-use Rattle.iset.specs.Check.{checkRule}
+use Rattle.iset.specs.Check.{first, countNumber, checkRule}
 use Rattle.iset.specs.declared.Map.{Map}
 use Rattle.iset.specs.declared.remove.Removal.{Removal}
 use Rattle.iset.specs.declared.remove.Removal.the-variants.{Done, Refused}
 
--- the refusal's number, 0 for none; 3: "slot is not below count (U included)"
+-- the refusal's number, 0 for none, in an opened store; 3: "slot is not below count (U included)"
+unfoldable pub openRemoveNumber : Map → List ℕ → List ℕ → ℕ → ℕ
+openRemoveNumber m W C s = first (countNumber m W C) (cond (ltb s (m .count)) 0 3)
+
+-- and of the public call
 unfoldable pub removeNumber : Map → List ℕ → List ℕ → ℕ → ℕ
-removeNumber m W C s = cond (eqb (checkRule m W C) 0) (cond (ltb s (m .count)) 0 3) (checkRule m W C)
+removeNumber m W C s = first (checkRule m W C) (openRemoveNumber m W C s)
 
 -- an answer by this paper's numbers: "removed value, new map, and up to three pairs"
 pub record RemoveAnswer : Type 0 where
@@ -37,13 +43,39 @@ removePaper m (Refused y) = refusedRemoval m (refusalNumber y)
 abbrev pub removeDone : Map → rule.Removal → RemoveAnswer
 removeDone m R = record { no = 0; value = R .value; count = m .count - 1; root = R .store .root; pairs = R .pairs }
 
--- the whole call: answer, words and colours
+-- a call that is refused by the number k, or not: answer, words and colours
+abbrev pub removeBy : Map → List ℕ → List ℕ → ℕ → ℕ → RemoveAnswer
+removeBy m W C s k = cond (eqb k 0) (removeDone m (rule.removeRule W C (m .count) (m .root) s)) (refusedRemoval m k)
+
+abbrev pub removeNodesBy : Map → List ℕ → List ℕ → ℕ → ℕ → List ℕ
+removeNodesBy m W C s k = cond (eqb k 0) (rule.removeRule W C (m .count) (m .root) s .store .words) W
+
+abbrev pub removeColoursBy : Map → List ℕ → List ℕ → ℕ → ℕ → List ℕ
+removeColoursBy m W C s k = cond (eqb k 0) (rule.removeRule W C (m .count) (m .root) s .store .colours) C
+
+-- the opened call
+unfoldable pub openRemoveCall : Map → List ℕ → List ℕ → ℕ → RemoveAnswer
+openRemoveCall m W C s = removeBy m W C s (openRemoveNumber m W C s)
+
+unfoldable pub openRemoveNodes : Map → List ℕ → List ℕ → ℕ → List ℕ
+openRemoveNodes m W C s = removeNodesBy m W C s (openRemoveNumber m W C s)
+
+unfoldable pub openRemoveColours : Map → List ℕ → List ℕ → ℕ → List ℕ
+openRemoveColours m W C s = removeColoursBy m W C s (openRemoveNumber m W C s)
+
+-- the public call
 unfoldable pub removeCall : Map → List ℕ → List ℕ → ℕ → RemoveAnswer
-removeCall m W C s =
-    cond (eqb (removeNumber m W C s) 0) (removeDone m (rule.removeRule W C (m .count) (m .root) s)) (refusedRemoval m (removeNumber m W C s))
+removeCall m W C s = removeBy m W C s (removeNumber m W C s)
 
 unfoldable pub removeNodes : Map → List ℕ → List ℕ → ℕ → List ℕ
-removeNodes m W C s = cond (eqb (removeNumber m W C s) 0) (rule.removeRule W C (m .count) (m .root) s .store .words) W
+removeNodes m W C s = removeNodesBy m W C s (removeNumber m W C s)
 
 unfoldable pub removeColours : Map → List ℕ → List ℕ → ℕ → List ℕ
-removeColours m W C s = cond (eqb (removeNumber m W C s) 0) (rule.removeRule W C (m .count) (m .root) s .store .colours) C
+removeColours m W C s = removeColoursBy m W C s (removeNumber m W C s)
+
+-- the slot after the removal of slot s of the entry that was in slot a before it, by the removal's pairs; U for the removed one
+abbrev pub moved : Pair → ℕ → ℕ → ℕ
+moved p a other = cond (eqb (p .old) a) (p .new) other
+
+unfoldable pub slotAfter : Pairs → ℕ → ℕ → ℕ
+slotAfter P s a = cond (eqb a s) U (moved (P .first) a (moved (P .second) a (moved (P .third) a a)))

@@ -3,8 +3,8 @@ use mathlib.Core.List.{List, [], _∷_}
 use Prim.Native.Nat.{ℕ}
 use Rattle.words.specs.declared.node.Entry.{Entry}
 use Rattle.iset.specs.Build.{buildRule, buildNodes, buildColour}
-use Rattle.iset.specs.Remove.{removeCall, removeNodes, removeColours}
-use Rattle.iset.specs.Insert.{insertCall, insertNodes, insertColours}
+use Rattle.iset.specs.Remove.{openRemoveCall, openRemoveNodes, openRemoveColours, removeCall, removeNodes, removeColours}
+use Rattle.iset.specs.Insert.{openInsertCall, openInsertNodes, openInsertColours, insertCall, insertNodes, insertColours}
 use Rattle.iset.specs.declared.Map.{Map}
 
 -- the calls that write: of any list, any slot, any entry
@@ -49,3 +49,29 @@ answered S (insert e) =
 abbrev pub allAnswered : State → List Call → State
 allAnswered S [] = S
 allAnswered S (x ∷ l) = allAnswered (answered S x) l
+
+-- the same by the opened calls, which do not run the check; a build has none
+abbrev pub openAnswered : State → Call → State
+openAnswered S (build l) = answered S (build l)
+openAnswered S (remove s) =
+    record {
+      map = record {
+        count = openRemoveCall (S .map) (S .words) (S .colours) s .count;
+        root = openRemoveCall (S .map) (S .words) (S .colours) s .root;
+      };
+      words = openRemoveNodes (S .map) (S .words) (S .colours) s;
+      colours = openRemoveColours (S .map) (S .words) (S .colours) s;
+    }
+openAnswered S (insert e) =
+    record {
+      map = record {
+        count = openInsertCall (S .map) (S .words) (S .colours) e .count;
+        root = openInsertCall (S .map) (S .words) (S .colours) e .root;
+      };
+      words = openInsertNodes (S .map) (S .words) (S .colours) e;
+      colours = openInsertColours (S .map) (S .words) (S .colours) e;
+    }
+
+abbrev pub allOpenAnswered : State → List Call → State
+allOpenAnswered S [] = S
+allOpenAnswered S (x ∷ l) = allOpenAnswered (openAnswered S x) l

@@ -10,7 +10,7 @@ ghost use Prim.Native.Nat.{_+_, _*_, _≤_, _<_};
 ghost use lib.ListN.{length};
 ghost use Rattle.tree_in_laws.specs.Insert.{insertRule};
 ghost use Rattle.iset.specs.Check.{checkNumber};
-ghost use Rattle.iset.specs.Insert.{entryOf, properNumber, insertNumber, insertDone, insertPaper, insertCall, insertNodes, insertColours};
+ghost use Rattle.iset.specs.Insert.{entryOf, fullNumber, openInsertNumber, roomThenCheck, insertDone, insertPaper, openInsertCall, openInsertNodes, openInsertColours, insertCall, insertNodes, insertColours};
 
 // The map with the entry, and the entry's slot.
 pub struct Added {
@@ -25,25 +25,36 @@ pub enum Insertion {
 }
 
 impl Map {
-    // The first refusal of an entry in a store that has room for it.
-    fn test_entry(self, nodes: &[u64], colours: &[u8], entry: Entry) -> Checked
-        ensures { λ r. ⌜ checkNumber r ≡ properNumber self (now (nodes .entry)) (now (colours .entry)) entry ⌝ }
+    // A count that has reached the capacity, or is above it, has no room.
+    fn test_full(self, nodes: &[u64], colours: &[u8]) -> Checked
+        ensures { λ r. ⌜ checkNumber r ≡ fullNumber self (now (nodes .entry)) (now (colours .entry)) ⌝ }
     {
-        let checked = self.check(nodes, colours);
-        let Checked::Sound = checked else {
-            return checked;
+        if self.count < capacity(nodes.len(), colours.len()) {
+            return Checked::Sound;
+        }
+        Checked::Refused(Refusal::NoRoom)
+    }
+
+    // The first refusal of an insertion into an opened store.
+    fn test_entry(self, nodes: &[u64], colours: &[u8], entry: Entry) -> Checked
+        ensures { λ r. ⌜ checkNumber r ≡ openInsertNumber self (now (nodes .entry)) (now (colours .entry)) entry ⌝ }
+    {
+        let full = self.test_full(nodes, colours);
+        let Checked::Sound = full else {
+            return full;
         };
         Checked::sound_if(entry.start < entry.end, Refusal::BadInterval)
     }
 
-    // The first refusal of an insertion. A count that has reached the capacity, or is above it, has no room.
-    fn test_insert(self, nodes: &[u64], colours: &[u8], entry: Entry) -> Checked
-        ensures { λ r. ⌜ checkNumber r ≡ insertNumber self (now (nodes .entry)) (now (colours .entry)) entry ⌝ }
+    // What the public call tests before that: a full store is refused before the check.
+    fn test_insert(self, nodes: &[u64], colours: &[u8]) -> Checked
+        ensures { λ r. ⌜ checkNumber r ≡ roomThenCheck self (now (nodes .entry)) (now (colours .entry)) ⌝ }
     {
-        if self.count < capacity(nodes.len(), colours.len()) {
-            return self.test_entry(nodes, colours, entry);
-        }
-        Checked::Refused(Refusal::NoRoom)
+        let full = self.test_full(nodes, colours);
+        let Checked::Sound = full else {
+            return full;
+        };
+        self.check(nodes, colours)
     }
 
     // The insertion of an entry that there is room for.
@@ -63,6 +74,26 @@ impl Map {
         })
     }
 
+    // `insert` for an opened store.
+    pub fn open_insert(
+        self,
+        nodes: &mut [u64],
+        colours: &mut [u8],
+        start: u64,
+        end: u64,
+        value: u64,
+    ) -> Insertion
+        ensures { λ r. ⌜ (insertPaper self r ≡ openInsertCall self (now (nodes .entry)) (now (colours .entry)) (entryOf start end value))
+            × (now (nodes .exit) ≡ openInsertNodes self (now (nodes .entry)) (now (colours .entry)) (entryOf start end value))
+            × (now (colours .exit) ≡ openInsertColours self (now (nodes .entry)) (now (colours .entry)) (entryOf start end value)) ⌝ }
+    {
+        let entry = Entry { start, end, value };
+        let Checked::Refused(why) = self.test_entry(nodes, colours, entry) else {
+            return self.insert_entry(nodes, colours, entry);
+        };
+        Insertion::Refused(why)
+    }
+
     // Adds one entry in slot `count`; no other entry changes slot. Equal intervals are kept, the new one after them.
     pub fn insert(
         self,
@@ -76,9 +107,8 @@ impl Map {
             × (now (nodes .exit) ≡ insertNodes self (now (nodes .entry)) (now (colours .entry)) (entryOf start end value))
             × (now (colours .exit) ≡ insertColours self (now (nodes .entry)) (now (colours .entry)) (entryOf start end value)) ⌝ }
     {
-        let entry = Entry { start, end, value };
-        let Checked::Refused(why) = self.test_insert(nodes, colours, entry) else {
-            return self.insert_entry(nodes, colours, entry);
+        let Checked::Refused(why) = self.test_insert(nodes, colours) else {
+            return self.open_insert(nodes, colours, start, end, value);
         };
         Insertion::Refused(why)
     }

@@ -1,5 +1,9 @@
 // The interval map of loaded code: its public calls. Each takes any numbers and any lent slices, tests everything
 // itself, and gives the first refusal in document 01's order, with nothing lent changed.
+//
+// The calls whose names begin with `open_` are inner functions for an opened store: one that passed the check, and that nothing but these calls
+// has written since. They do not run the check, and then do exactly what the public calls do, which are the check and then these. They require
+// nothing: on any words each of them ends and stays inside what was lent, and only its answer may mean nothing.
 pub mod build;
 pub mod insert;
 pub mod lookup;
@@ -13,7 +17,7 @@ ghost use mathlib.Core.Path.{_≡_};
 ghost use mathlib.Core.Bool.{cond};
 ghost use Rattle.words.specs.Refusals.{refusalNumber};
 ghost use Rattle.iset.specs.Maps.{emptyMap};
-ghost use Rattle.iset.specs.Check.{checkNumber, checkRule};
+ghost use Rattle.iset.specs.Check.{checkNumber, countNumber, checkRule};
 
 // A map: how many entries it holds, in slots 0 .. count - 1, and the slot of its root, U where there is none. Its nodes
 // and colours stand in the slices that are lent beside it.
@@ -47,6 +51,16 @@ impl Map {
         ensures { λ r. ⌜ r ≡ emptyMap ⌝ }
     {
         Map { count: 0, root: U }
+    }
+
+    // All that a call on an opened store tests of it: NoRoom where the count is above what the slices hold.
+    fn test_count(self, nodes: &[u64], colours: &[u8]) -> Checked
+        ensures { λ r. ⌜ checkNumber r ≡ countNumber self (now (nodes .entry)) (now (colours .entry)) ⌝ }
+    {
+        if capacity(nodes.len(), colours.len()) < self.count {
+            return Checked::Refused(Refusal::NoRoom);
+        }
+        Checked::Sound
     }
 
     // The store check: NoRoom where the count is above what the slices hold, else Broken where the store does not pass.

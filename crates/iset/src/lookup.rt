@@ -19,8 +19,12 @@ ghost use lib.Dec.{ltb};
 ghost use Rattle.iter.specs.Cursors.{fresh};
 ghost use Rattle.iter.specs.Drains.{limitOf};
 ghost use Rattle.iter.specs.Forms.{formOf};
+ghost use Rattle.iter.specs.Places.{Placed};
+ghost use Rattle.iter.specs.Walk.{step};
+ghost use Rattle.iter.specs.Queries.{rules};
+ghost use Rattle.iter.specs.Answers.{answer, isHit};
 ghost use Rattle.iset.specs.Check.{checkNumber};
-ghost use Rattle.iset.specs.Lookup.{ordered, queryNumber, beginning, formNumber, startNumber, stepNumber, drainNumber, startPaper, startCall, stepPaper, stepCall, drainPaper, drainCall, drainOutput};
+ghost use Rattle.iset.specs.Lookup.{ordered, queryNumber, beginning, formNumber, openStartNumber, openStepNumber, openDrainNumber, startPaper, openStartCall, startCall, stepPaper, openStepCall, stepCall, drainPaper, openDrainCall, openDrainOutput, drainCall, drainOutput};
 
 // What the calls answer.
 pub enum Started {
@@ -98,12 +102,28 @@ fn test_room(limit: u64, room: u64) -> Checked
     }
 }
 
+// The step as a drain of one hit. So the walk has one caller, and the drain's loop takes it in.
+fn one_hit(cursor: Cursor, nodes: &[u64], count: u64, query: Query) -> Step
+    requires { ⌜ (count * 8 ≤ length (now nodes)) × (count ≤ 65535) × Placed count cursor ⌝ }
+    ensures { λ r. ⌜ (answer r ≡ step (now (nodes .entry)) count (rules (now (nodes .entry)) count query) cursor)
+        × (isHit r ≡ ltb (answer r .slot) count) ⌝ }
+{
+    let mut slots = [0; 1];
+    let d = cursor.drain(nodes, count, query, 1, &mut slots);
+    let next = d.next;
+    if d.hits == 1 {
+        Step::Hit(next, d.entered)
+    } else {
+        Step::End(d.entered)
+    }
+}
+
 impl Map {
-    // The first refusal of a query.
+    // The first refusal of a query in an opened store.
     fn test_start(self, nodes: &[u64], colours: &[u8], query: Query) -> Checked
-        ensures { λ r. ⌜ checkNumber r ≡ startNumber self (now (nodes .entry)) (now (colours .entry)) query ⌝ }
+        ensures { λ r. ⌜ checkNumber r ≡ openStartNumber self (now (nodes .entry)) (now (colours .entry)) query ⌝ }
     {
-        let checked = self.check(nodes, colours);
+        let checked = self.test_count(nodes, colours);
         let Checked::Sound = checked else {
             return checked;
         };
@@ -130,7 +150,7 @@ impl Map {
 
     // The first refusal of a step.
     fn test_step(self, nodes: &[u64], colours: &[u8], query: Query, cursor: Cursor) -> Checked
-        ensures { λ r. ⌜ checkNumber r ≡ stepNumber self (now (nodes .entry)) (now (colours .entry)) query cursor ⌝ }
+        ensures { λ r. ⌜ checkNumber r ≡ openStepNumber self (now (nodes .entry)) (now (colours .entry)) query cursor ⌝ }
     {
         let checked = self.test_start(nodes, colours, query);
         let Checked::Sound = checked else {
@@ -149,7 +169,7 @@ impl Map {
         limit: u64,
         room: u64,
     ) -> Checked
-        ensures { λ r. ⌜ checkNumber r ≡ drainNumber self (now (nodes .entry)) (now (colours .entry)) query cursor limit room ⌝ }
+        ensures { λ r. ⌜ checkNumber r ≡ openDrainNumber self (now (nodes .entry)) (now (colours .entry)) query cursor limit room ⌝ }
     {
         let checked = self.test_step(nodes, colours, query, cursor);
         let Checked::Sound = checked else {
@@ -165,9 +185,9 @@ impl Map {
         Cursor::fresh(self.root)
     }
 
-    // The fresh cursor of an exact lookup: at the highest entry equal to the query.
-    pub fn fresh_exact(self, nodes: &[u64], colours: &[u8], query: Interval) -> Started
-        ensures { λ r. ⌜ startPaper r ≡ startCall self (now (nodes .entry)) (now (colours .entry)) query ⌝ }
+    // `fresh_exact`, `step` and `drain` for an opened store.
+    pub fn open_fresh_exact(self, nodes: &[u64], colours: &[u8], query: Interval) -> Started
+        ensures { λ r. ⌜ startPaper r ≡ openStartCall self (now (nodes .entry)) (now (colours .entry)) query ⌝ }
     {
         let exact = Query::Exact(query);
         let Checked::Refused(why) = self.test_start(nodes, colours, exact) else {
@@ -176,12 +196,51 @@ impl Map {
         Started::Refused(why)
     }
 
+    pub fn open_step(self, nodes: &[u64], colours: &[u8], query: Query, cursor: Cursor) -> Stepped
+        ensures { λ r. ⌜ stepPaper cursor r ≡ openStepCall self (now (nodes .entry)) (now (colours .entry)) query cursor ⌝ }
+    {
+        let Checked::Refused(why) = self.test_step(nodes, colours, query, cursor) else {
+            return Stepped::Done(one_hit(cursor, nodes, self.count, query));
+        };
+        Stepped::Refused(why)
+    }
+
+    pub fn open_drain(
+        self,
+        nodes: &[u64],
+        colours: &[u8],
+        query: Query,
+        cursor: Cursor,
+        limit: u64,
+        out: &mut [u64],
+    ) -> Emptied
+        ensures { λ r. ⌜ (drainPaper cursor r ≡ openDrainCall self (now (nodes .entry)) (now (colours .entry)) query cursor limit (length (now (out .entry))))
+            × (now (out .exit) ≡ openDrainOutput self (now (nodes .entry)) (now (colours .entry)) query cursor limit (now (out .entry))) ⌝ }
+    {
+        let room = out.len() as u64;
+        let Checked::Refused(why) = self.test_drain(nodes, colours, query, cursor, limit, room)
+        else {
+            return Emptied::Done(cursor.drain(nodes, self.count, query, limit_of(limit), out));
+        };
+        Emptied::Refused(why)
+    }
+
+    // The fresh cursor of an exact lookup: at the highest entry equal to the query.
+    pub fn fresh_exact(self, nodes: &[u64], colours: &[u8], query: Interval) -> Started
+        ensures { λ r. ⌜ startPaper r ≡ startCall self (now (nodes .entry)) (now (colours .entry)) query ⌝ }
+    {
+        let Checked::Refused(why) = self.check(nodes, colours) else {
+            return self.open_fresh_exact(nodes, colours, query);
+        };
+        Started::Refused(why)
+    }
+
     // The next hit after a cursor, or the end.
     pub fn step(self, nodes: &[u64], colours: &[u8], query: Query, cursor: Cursor) -> Stepped
         ensures { λ r. ⌜ stepPaper cursor r ≡ stepCall self (now (nodes .entry)) (now (colours .entry)) query cursor ⌝ }
     {
-        let Checked::Refused(why) = self.test_step(nodes, colours, query, cursor) else {
-            return Stepped::Done(cursor.step(nodes, self.count, query));
+        let Checked::Refused(why) = self.check(nodes, colours) else {
+            return self.open_step(nodes, colours, query, cursor);
         };
         Stepped::Refused(why)
     }
@@ -199,10 +258,8 @@ impl Map {
         ensures { λ r. ⌜ (drainPaper cursor r ≡ drainCall self (now (nodes .entry)) (now (colours .entry)) query cursor limit (length (now (out .entry))))
             × (now (out .exit) ≡ drainOutput self (now (nodes .entry)) (now (colours .entry)) query cursor limit (now (out .entry))) ⌝ }
     {
-        let room = out.len() as u64;
-        let Checked::Refused(why) = self.test_drain(nodes, colours, query, cursor, limit, room)
-        else {
-            return Emptied::Done(cursor.drain(nodes, self.count, query, limit_of(limit), out));
+        let Checked::Refused(why) = self.check(nodes, colours) else {
+            return self.open_drain(nodes, colours, query, cursor, limit, out);
         };
         Emptied::Refused(why)
     }

@@ -1,4 +1,5 @@
 -- "It prints `count N root R` (`-` for U), then one line a slot: slot, start, end, value."
+-- Numbers are in decimal, "leading zeros read but not printed": `number` of the crate lines.
 use mathlib.Core.Bool.{cond}
 use mathlib.Core.List.{List, [], _∷_, _++_}
 use Prim.Native.Nat.{ℕ, zero, suc}

@@ -1,6 +1,8 @@
 use Rattle.words.proofs.Tests.{picked, passed}
 use Rattle.capi.proofs.Laws.{short-number, short-handed, short-ranged, short-left, made-left}
 use Rattle.capi.proofs.Laws.{bounded-number, bounded-handed, unbounded-number, unbounded-handed, drain-number, drain-handed, drain-left}
+use Rattle.iset.specs.Lookup.{drainOutput}
+use Rattle.capi.specs.Replies.{drainTold}
 use borrow.Author.Needs.{needs}
 use Rattle.capi.proofs.lookup.iset_drain.Statement.{statement}
 use Rattle.capi.proofs.lookup.iset_drain.Tie as tie
@@ -15,5 +17,5 @@ iset-drain-spec =
     (λ c κs. search needs)
     (λ c. search needs)
     (λ c. search needs)
-    (λ c. (search (bounded-number, drain-number), search (bounded-handed, drain-handed), search (made-left, picked, drain-left)))
+    (λ c. (search (bounded-number, drain-number drainTold), search (bounded-handed, drain-handed drainTold), search (made-left, picked, drain-left drainOutput)))
     (λ c. (search unbounded-number, search unbounded-handed, search (made-left, passed))))

@@ -1,12 +1,9 @@
-use Rattle.iset.proofs.Laws.{let-through, turned-away}
-use Rattle.iset.proofs.Lookups.{drain-words, drain-few, drain-limit, drain-placed, drain-is, drain-out, refused-drain}
-use Rattle.iset.specs.Lookup.{drainCall, drainOutput}
+use Rattle.iset.proofs.Opened.{drain-through, drain-output-through, drain-away, drain-output-away}
 use borrow.Author.Needs.{needs}
 use Rattle.iset.proofs.Map.drain.Statement.{statement}
 use Rattle.iset.proofs.Map.drain.Tie as tie
 
 pub drain-spec : {M : Type 1} → statement M
-unfolding drainCall drainOutput
 drain-spec =
     tie.close
     (tie.spec
@@ -14,7 +11,6 @@ drain-spec =
     (λ c. search needs)
     (λ c. search needs)
     (λ c κs. search needs)
-    (λ c κs. (search drain-words, search drain-few, search drain-limit, search drain-placed))
     (λ c. search needs)
-    (λ c. (search (let-through, drain-is), search (let-through, drain-out)))
-    (λ c. (search (turned-away, refused-drain), search turned-away)))
+    (λ c. (search drain-through, search drain-output-through))
+    (λ c. (search drain-away, search drain-output-away)))

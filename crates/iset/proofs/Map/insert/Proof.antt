@@ -1,21 +1,19 @@
-use Rattle.iset.proofs.Laws.{insertable-words, insertable-bytes, let-through, turned-away, refused-insertion}
-use Rattle.iset.specs.Insert.{insertCall, insertNodes, insertColours}
+use Rattle.iset.proofs.Opened.{insert-through, insert-nodes-through, insert-colours-through, insert-away, insert-nodes-away, insert-colours-away}
 use borrow.Author.Needs.{needs}
 use Rattle.iset.proofs.Map.insert.Statement.{statement}
 use Rattle.iset.proofs.Map.insert.Tie as tie
 
 pub insert-spec : {M : Type 1} → statement M
-unfolding insertCall insertColours insertNodes
 insert-spec =
     tie.close
     (tie.spec
     (λ c κs. search needs)
     (λ c. search needs)
     (λ c. search needs)
-    (λ c κs. (search insertable-words, search insertable-bytes))
+    (λ c κs. search needs)
     (λ c. search needs)
     (λ c. search needs)
-    (λ c. (search let-through, search let-through, search let-through))
+    (λ c. (search insert-through, search insert-nodes-through, search insert-colours-through))
     (λ c. search needs)
     (λ c. search needs)
-    (λ c. (search (turned-away, refused-insertion), search turned-away, search turned-away)))
+    (λ c. (search insert-away, search insert-nodes-away, search insert-colours-away)))

@@ -1,21 +1,19 @@
-use Rattle.iset.proofs.Laws.{removable-words, removable-bytes, removable-slot, let-through, turned-away, refused-removal}
-use Rattle.iset.specs.Remove.{removeCall, removeNodes, removeColours}
+use Rattle.iset.proofs.Opened.{remove-through, remove-nodes-through, remove-colours-through, remove-away, remove-nodes-away, remove-colours-away}
 use borrow.Author.Needs.{needs}
 use Rattle.iset.proofs.Map.remove.Statement.{statement}
 use Rattle.iset.proofs.Map.remove.Tie as tie
 
 pub remove-spec : {M : Type 1} → statement M
-unfolding removeCall removeColours removeNodes
 remove-spec =
     tie.close
     (tie.spec
     (λ c κs. search needs)
     (λ c. search needs)
     (λ c. search needs)
-    (λ c κs. (search removable-words, search removable-bytes, search removable-slot))
+    (λ c κs. search needs)
     (λ c. search needs)
     (λ c. search needs)
-    (λ c. (search let-through, search let-through, search let-through))
+    (λ c. (search remove-through, search remove-nodes-through, search remove-colours-through))
     (λ c. search needs)
     (λ c. search needs)
-    (λ c. (search (turned-away, refused-removal), search turned-away, search turned-away)))
+    (λ c. (search remove-away, search remove-nodes-away, search remove-colours-away)))

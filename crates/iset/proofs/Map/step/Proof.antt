@@ -1,12 +1,15 @@
-use Rattle.iset.proofs.Laws.{let-through, turned-away}
-use Rattle.iset.proofs.Lookups.{step-words, step-few, step-placed, step-is, refused-step}
-use Rattle.iset.specs.Lookup.{stepCall}
+use Rattle.iset.proofs.Opened.{step-through, step-away}
 use borrow.Author.Needs.{needs}
 use Rattle.iset.proofs.Map.step.Statement.{statement}
 use Rattle.iset.proofs.Map.step.Tie as tie
 
 pub step-spec : {M : Type 1} → statement M
-unfolding stepCall
 step-spec =
     tie.close
-    (tie.spec (λ c κs. search needs) (λ c. search needs) (λ c. search needs) (λ c κs. (search step-words, search step-few, search step-placed)) (λ c. search (let-through, step-is)) (λ c. search (turned-away, refused-step)))
+    (tie.spec
+    (λ c κs. search needs)
+    (λ c. search needs)
+    (λ c. search needs)
+    (λ c κs. search needs)
+    (λ c. search step-through)
+    (λ c. search step-away))

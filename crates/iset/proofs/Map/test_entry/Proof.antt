@@ -1,11 +1,11 @@
 use Rattle.iset.proofs.Laws.{let-through, turned-away}
-use Rattle.iset.specs.Insert.{properNumber}
+use Rattle.iset.specs.Insert.{openInsertNumber}
 use borrow.Author.Needs.{needs}
 use Rattle.iset.proofs.Map.test_entry.Statement.{statement}
 use Rattle.iset.proofs.Map.test_entry.Tie as tie
 
 pub test-entry-spec : {M : Type 1} → statement M
-unfolding properNumber
+unfolding openInsertNumber
 test-entry-spec =
     tie.close
     (tie.spec

@@ -1,9 +1,17 @@
-use Rattle.iset.proofs.Laws.{has-room, is-full}
-use Rattle.iset.specs.Insert.{insertNumber}
+use Rattle.iset.proofs.Laws.{let-through, turned-away}
+use Rattle.iset.specs.Insert.{roomThenCheck}
 use borrow.Author.Needs.{needs}
 use Rattle.iset.proofs.Map.test_insert.Statement.{statement}
 use Rattle.iset.proofs.Map.test_insert.Tie as tie
 
 pub test-insert-spec : {M : Type 1} → statement M
-unfolding insertNumber
-test-insert-spec = tie.close (tie.spec (λ c κs. search needs) (λ c κs. search needs) (λ c. search has-room) (λ c. search is-full))
+unfolding roomThenCheck
+test-insert-spec =
+    tie.close
+    (tie.spec
+    (λ c κs. search needs)
+    (λ c. search needs)
+    (λ c. search needs)
+    (λ c. search turned-away)
+    (λ c κs. search needs)
+    (λ c. search let-through))

@@ -1,11 +1,11 @@
 use Rattle.iset.proofs.Laws.{let-through, turned-away}
-use Rattle.iset.specs.Remove.{removeNumber}
+use Rattle.iset.specs.Remove.{openRemoveNumber}
 use borrow.Author.Needs.{needs}
 use Rattle.iset.proofs.Map.test_slot.Statement.{statement}
 use Rattle.iset.proofs.Map.test_slot.Tie as tie
 
 pub test-slot-spec : {M : Type 1} → statement M
-unfolding removeNumber
+unfolding openRemoveNumber
 test-slot-spec =
     tie.close
     (tie.spec

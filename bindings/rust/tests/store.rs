@@ -1,0 +1,155 @@
+//! `Store` and `StoreRef` beside a plain list of entries. They need the archives: without ISET_LIB_DIR there is nothing here to run.
+#![cfg(iset_linked)]
+use core::ops::Bound;
+
+use iset_capi::{Entry, Map, Refusal, Store, StoreRef, U};
+
+const SLOTS: usize = 200;
+
+struct Chance(u64);
+
+impl Chance {
+    fn below(&mut self, n: u64) -> u64 {
+        self.0 ^= self.0 << 13;
+        self.0 ^= self.0 >> 7;
+        self.0 ^= self.0 << 17;
+        self.0 % n
+    }
+}
+
+/// The entries as (start, end, value), in tree order, and each one's slot.
+struct Plain(Vec<(u64, u64, u64, u64)>);
+
+impl Plain {
+    fn insert(&mut self, start: u64, end: u64, value: u64, slot: u64) {
+        let after = self.0.partition_point(|e| (e.0, e.1) <= (start, end));
+        self.0.insert(after, (start, end, value, slot));
+    }
+
+    /// What a lookup should hand out.
+    fn those(&self, want: impl Fn(u64, u64) -> bool) -> Vec<Entry> {
+        let hits = self.0.iter().filter(|e| want(e.0, e.1));
+        hits.map(|&(start, end, value, slot)| Entry {
+            slot,
+            range: start..end,
+            value,
+        })
+        .collect()
+    }
+}
+
+fn insert(store: &mut Store, plain: &mut Plain, chance: &mut Chance) {
+    let (start, value) = (chance.below(300), chance.below(1000));
+    let end = start + chance.below(20);
+    let full = store.len() == SLOTS;
+    match store.insert(start..end, value) {
+        Ok(slot) => plain.insert(start, end, value, slot),
+        Err(Refusal::NoRoom) => assert!(full),
+        Err(why) => assert_eq!((why, full, start), (Refusal::BadInterval, false, end)),
+    }
+}
+
+fn remove(store: &mut Store, plain: &mut Plain, chance: &mut Chance) {
+    let slot = chance.below(store.len() as u64 + 2);
+    if slot >= store.len() as u64 {
+        assert_eq!(store.remove(slot), Err(Refusal::NoSuch));
+        return;
+    }
+    let removed = store.remove(slot).unwrap();
+    let at = plain.0.iter().position(|e| e.3 == slot).unwrap();
+    assert_eq!(plain.0.remove(at).2, removed.value);
+    assert_eq!(removed.slot_after(slot), None);
+    for entry in &mut plain.0 {
+        entry.3 = removed.slot_after(entry.3).unwrap();
+    }
+}
+
+fn look_up(store: &Store, plain: &Plain, chance: &mut Chance) {
+    let (a, w) = (chance.below(320), chance.below(30));
+    assert!(store
+        .at(a)
+        .eq(plain.those(|start, end| start <= a && a < end)));
+    let open = (Bound::Included(a), Bound::Excluded(a + w));
+    match store.overlap(open) {
+        Ok(found) => assert!(found.eq(plain.those(|start, end| a < end && start < a + w))),
+        Err(why) => assert_eq!((why, w), (Refusal::BadRange, 0)),
+    }
+    match store.exact(a..a + w) {
+        Ok(found) => assert!(found.eq(plain.those(|start, end| (start, end) == (a, a + w)))),
+        Err(why) => assert_eq!((why, w), (Refusal::BadInterval, 0)),
+    }
+}
+
+#[test]
+fn as_a_plain_list() {
+    let mut chance = Chance(88172645463325252);
+    let (mut nodes, mut colours) = ([7; SLOTS * 8], [7; SLOTS / 8]);
+    let mut store = Store::open(Map::new(), &mut nodes, &mut colours).unwrap();
+    let mut plain = Plain(vec![]);
+    for k in 0..3000 {
+        let growing = k / 500 % 2 == 0;
+        if (chance.below(3) == 0) == growing {
+            remove(&mut store, &mut plain, &mut chance);
+        } else {
+            insert(&mut store, &mut plain, &mut chance);
+        }
+        assert_eq!(
+            (store.len(), store.is_empty()),
+            (plain.0.len(), plain.0.is_empty())
+        );
+        assert!(store.entries().eq(plain.those(|_, _| true)));
+        look_up(&store, &plain, &mut chance);
+    }
+    let all = plain.those(|_, _| true);
+    let map = store.close();
+    assert_eq!(map.check(&nodes, &colours), Ok(()));
+    let read = StoreRef::open(map, &nodes, &colours).unwrap();
+    assert!(read.entries().eq(all));
+}
+
+#[test]
+fn opened_and_built() {
+    let (mut nodes, mut colours) = ([0; 24], [0; 1]);
+    let list = [5, 9, 1, 5, 9, 2, 5, 9, 3];
+    let falling = [5, 9, 1, 4, 9, 2];
+    let refused = Store::build(&mut nodes, &mut colours, &falling).err();
+    assert_eq!(refused, Some(Refusal::NotSorted));
+    let map = Store::build(&mut nodes, &mut colours, &list)
+        .unwrap()
+        .close();
+    let broken = Map { root: U, ..map };
+    assert_eq!(
+        StoreRef::open(broken, &nodes, &colours).err(),
+        Some(Refusal::Broken)
+    );
+    assert_eq!(
+        Store::open(broken, &mut nodes, &mut colours).err(),
+        Some(Refusal::Broken)
+    );
+    assert_eq!(
+        Store::open(map, &mut nodes[..23], &mut colours).err(),
+        Some(Refusal::NoRoom)
+    );
+    let store = Store::open(map, &mut nodes, &mut colours).unwrap();
+    assert_eq!(store.get(3), None);
+    assert_eq!(store.get(U), None);
+    let second = Entry {
+        slot: 1,
+        range: 5..9,
+        value: 2,
+    };
+    assert_eq!(store.get(1), Some(second));
+}
+
+#[test]
+fn in_pieces() {
+    let list: Vec<u64> = (0..1000).flat_map(|k| [k / 300, 2000, k]).collect();
+    let (mut nodes, mut colours) = (vec![0; 8000], vec![0; 125]);
+    let store = Store::build(&mut nodes, &mut colours, &list).unwrap();
+    assert!(store.entries().map(|entry| entry.value).eq(0..1000));
+    assert!(store.at(1).map(|entry| entry.value).eq(0..600));
+    let third = store.exact(2..2000).unwrap();
+    assert!(third.map(|entry| entry.value).eq(600..900));
+    let mut ended = store.overlap(3000..).unwrap();
+    assert_eq!((ended.next(), ended.next()), (None, None));
+}

@@ -1,0 +1,95 @@
+-- Any two numbers, and any two contents of each lent slice at exit, that an export's promise allows are equal.
+use mathlib.Core.Path.{_≡_, sym, _∙_}
+use contract.Lifetimes.{Lfts}
+use borrow.Fn.Kinds as K
+use denote.Triple.Clauses.{AtExit}
+use denote.Ref.{now}
+use Rattle.capi_open.proofs.iset_open_remove.Reads as remove-reads
+use Rattle.capi_open.proofs.iset_open_remove.Kinds as remove-kinds
+use Rattle.capi_open.proofs.iset_open_insert.Reads as insert-reads
+use Rattle.capi_open.proofs.iset_open_insert.Kinds as insert-kinds
+use Rattle.capi_open.proofs.lookup.iset_open_fresh_exact.Reads as fresh-exact-reads
+use Rattle.capi_open.proofs.lookup.iset_open_fresh_exact.Kinds as fresh-exact-kinds
+use Rattle.capi_open.proofs.lookup.iset_open_step.Reads as step-reads
+use Rattle.capi_open.proofs.lookup.iset_open_step.Kinds as step-kinds
+use Rattle.capi_open.proofs.lookup.iset_open_step_exact.Reads as step-exact-reads
+use Rattle.capi_open.proofs.lookup.iset_open_step_exact.Kinds as step-exact-kinds
+use Rattle.capi_open.proofs.lookup.iset_open_drain.Reads as drain-reads
+use Rattle.capi_open.proofs.lookup.iset_open_drain.Kinds as drain-kinds
+use Rattle.capi_open.proofs.lookup.iset_open_drain_exact.Reads as drain-exact-reads
+use Rattle.capi_open.proofs.lookup.iset_open_drain_exact.Kinds as drain-exact-kinds
+use Rattle.capi_open.proofs.lookup.iset_open_at.Reads as at-reads
+use Rattle.capi_open.proofs.lookup.iset_open_at.Kinds as at-kinds
+
+-- the exits are a product by parameter: the slice of parameter k is at `.1`, k times, then `.0`
+
+pub remove-determined :
+    (κs : Lfts 3) (a : K.Dens κs remove-kinds.ps) (r r′ : K.resT remove-kinds.r κs .Denot)
+    (s s′ : AtExit (K.endedOf 3 remove-kinds.ps remove-kinds.r) κs)
+    → remove-reads.Post κs a r s → remove-reads.Post κs a r′ s′
+    → (r ≡ r′)
+    × (now (s .1 .1 .1 .1 .1 .0) ≡ now (s′ .1 .1 .1 .1 .1 .0))
+    × (now (s .1 .1 .0) ≡ now (s′ .1 .1 .0))
+    × (now (s .1 .1 .1 .0) ≡ now (s′ .1 .1 .1 .0))
+remove-determined κs a r r′ s s′ p q = (p .0 ∙ sym (q .0), p .1 ∙ sym (q .1), p .2 ∙ sym (q .2), p .3 ∙ sym (q .3))
+
+pub insert-determined :
+    (κs : Lfts 3) (a : K.Dens κs insert-kinds.ps) (r r′ : K.resT insert-kinds.r κs .Denot)
+    (s s′ : AtExit (K.endedOf 3 insert-kinds.ps insert-kinds.r) κs)
+    → insert-reads.Post κs a r s → insert-reads.Post κs a r′ s′
+    → (r ≡ r′)
+    × (now (s .1 .1 .1 .1 .1 .1 .1 .0) ≡ now (s′ .1 .1 .1 .1 .1 .1 .1 .0))
+    × (now (s .1 .1 .0) ≡ now (s′ .1 .1 .0))
+    × (now (s .1 .1 .1 .0) ≡ now (s′ .1 .1 .1 .0))
+insert-determined κs a r r′ s s′ p q = (p .0 ∙ sym (q .0), p .1 ∙ sym (q .1), p .2 ∙ sym (q .2), p .3 ∙ sym (q .3))
+
+pub fresh-exact-determined :
+    (κs : Lfts 3) (a : K.Dens κs fresh-exact-kinds.ps) (r r′ : K.resT fresh-exact-kinds.r κs .Denot)
+    (s s′ : AtExit (K.endedOf 3 fresh-exact-kinds.ps fresh-exact-kinds.r) κs)
+    → fresh-exact-reads.Post κs a r s → fresh-exact-reads.Post κs a r′ s′
+    → (r ≡ r′)
+    × (now (s .1 .1 .1 .1 .1 .1 .0) ≡ now (s′ .1 .1 .1 .1 .1 .1 .0))
+fresh-exact-determined κs a r r′ s s′ p q = (p .0 ∙ sym (q .0), p .1 ∙ sym (q .1))
+
+pub step-determined :
+    (κs : Lfts 3) (a : K.Dens κs step-kinds.ps) (r r′ : K.resT step-kinds.r κs .Denot)
+    (s s′ : AtExit (K.endedOf 3 step-kinds.ps step-kinds.r) κs)
+    → step-reads.Post κs a r s → step-reads.Post κs a r′ s′
+    → (r ≡ r′)
+    × (now (s .1 .1 .1 .1 .1 .1 .1 .1 .1 .1 .1 .0) ≡ now (s′ .1 .1 .1 .1 .1 .1 .1 .1 .1 .1 .1 .0))
+step-determined κs a r r′ s s′ p q = (p .0 ∙ sym (q .0), p .1 ∙ sym (q .1))
+
+pub step-exact-determined :
+    (κs : Lfts 3) (a : K.Dens κs step-exact-kinds.ps) (r r′ : K.resT step-exact-kinds.r κs .Denot)
+    (s s′ : AtExit (K.endedOf 3 step-exact-kinds.ps step-exact-kinds.r) κs)
+    → step-exact-reads.Post κs a r s → step-exact-reads.Post κs a r′ s′
+    → (r ≡ r′)
+    × (now (s .1 .1 .1 .1 .1 .1 .1 .1 .1 .0) ≡ now (s′ .1 .1 .1 .1 .1 .1 .1 .1 .1 .0))
+step-exact-determined κs a r r′ s s′ p q = (p .0 ∙ sym (q .0), p .1 ∙ sym (q .1))
+
+pub drain-determined :
+    (κs : Lfts 4) (a : K.Dens κs drain-kinds.ps) (r r′ : K.resT drain-kinds.r κs .Denot)
+    (s s′ : AtExit (K.endedOf 4 drain-kinds.ps drain-kinds.r) κs)
+    → drain-reads.Post κs a r s → drain-reads.Post κs a r′ s′
+    → (r ≡ r′)
+    × (now (s .1 .1 .1 .1 .1 .1 .1 .1 .1 .1 .1 .1 .1 .0) ≡ now (s′ .1 .1 .1 .1 .1 .1 .1 .1 .1 .1 .1 .1 .1 .0))
+    × (now (s .1 .1 .1 .1 .1 .1 .1 .1 .1 .1 .1 .1 .0) ≡ now (s′ .1 .1 .1 .1 .1 .1 .1 .1 .1 .1 .1 .1 .0))
+drain-determined κs a r r′ s s′ p q = (p .0 ∙ sym (q .0), p .1 ∙ sym (q .1), p .2 ∙ sym (q .2))
+
+pub drain-exact-determined :
+    (κs : Lfts 4) (a : K.Dens κs drain-exact-kinds.ps) (r r′ : K.resT drain-exact-kinds.r κs .Denot)
+    (s s′ : AtExit (K.endedOf 4 drain-exact-kinds.ps drain-exact-kinds.r) κs)
+    → drain-exact-reads.Post κs a r s → drain-exact-reads.Post κs a r′ s′
+    → (r ≡ r′)
+    × (now (s .1 .1 .1 .1 .1 .1 .1 .1 .1 .1 .1 .0) ≡ now (s′ .1 .1 .1 .1 .1 .1 .1 .1 .1 .1 .1 .0))
+    × (now (s .1 .1 .1 .1 .1 .1 .1 .1 .1 .1 .0) ≡ now (s′ .1 .1 .1 .1 .1 .1 .1 .1 .1 .1 .0))
+drain-exact-determined κs a r r′ s s′ p q = (p .0 ∙ sym (q .0), p .1 ∙ sym (q .1), p .2 ∙ sym (q .2))
+
+pub at-determined :
+    (κs : Lfts 4) (a : K.Dens κs at-kinds.ps) (r r′ : K.resT at-kinds.r κs .Denot)
+    (s s′ : AtExit (K.endedOf 4 at-kinds.ps at-kinds.r) κs)
+    → at-reads.Post κs a r s → at-reads.Post κs a r′ s′
+    → (r ≡ r′)
+    × (now (s .1 .1 .1 .1 .1 .1 .0) ≡ now (s′ .1 .1 .1 .1 .1 .1 .0))
+    × (now (s .1 .1 .1 .1 .1 .0) ≡ now (s′ .1 .1 .1 .1 .1 .0))
+at-determined κs a r r′ s s′ p q = (p .0 ∙ sym (q .0), p .1 ∙ sym (q .1), p .2 ∙ sym (q .2))

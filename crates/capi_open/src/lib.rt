@@ -1,0 +1,81 @@
+// The map for hosts in C and Rust that check a store once and then keep it to themselves: the calls of crate capi without the store check, as
+// include/iset_open.h declares them. Answers, refusals and their order are those of crate capi, but for Broken, which is never given.
+pub mod lookup;
+
+use capi::SHORT_ANSWER;
+use capi::answer::put_added;
+use capi::answer::put_gone;
+use iset::Map;
+use iset::insert::Insertion;
+use iset::remove::Removal;
+ghost use mathlib.Core.Path.{_≡_};
+ghost use Rattle.iset.specs.Remove.{openRemoveNodes, openRemoveColours};
+ghost use Rattle.iset.specs.Insert.{entryOf, openInsertNodes, openInsertColours};
+ghost use Rattle.capi.specs.Replies.{mapOf, number, handed, left};
+ghost use Rattle.capi_open.specs.Replies.{openRemoveTold, openInsertTold};
+
+// Removes the entry of a slot. Answer: value, count, root, then the moved entries, three times old slot, new slot.
+#[no_mangle]
+pub extern "C" fn iset_open_remove(
+    count: u64,
+    root: u64,
+    nodes: &mut [u64],
+    colours: &mut [u8],
+    slot: u64,
+    answer: &mut [u64],
+) -> u64
+    ensures { λ r. ⌜ (r ≡ number (now (answer .entry)) (openRemoveTold (mapOf count root) (now (nodes .entry)) (now (colours .entry)) slot))
+        × (now (answer .exit) ≡ handed (now (answer .entry)) (openRemoveTold (mapOf count root) (now (nodes .entry)) (now (colours .entry)) slot))
+        × (now (nodes .exit)
+        ≡ left (now (answer .entry)) (openRemoveTold (mapOf count root) (now (nodes .entry)) (now (colours .entry)) slot) (now (nodes .entry))
+        (openRemoveNodes (mapOf count root) (now (nodes .entry)) (now (colours .entry)) slot))
+        × (now (colours .exit)
+        ≡ left (now (answer .entry)) (openRemoveTold (mapOf count root) (now (nodes .entry)) (now (colours .entry)) slot) (now (colours .entry))
+        (openRemoveColours (mapOf count root) (now (nodes .entry)) (now (colours .entry)) slot)) ⌝ }
+{
+    if answer.len() < 9 {
+        return SHORT_ANSWER;
+    }
+    match (Map { count, root }).open_remove(nodes, colours, slot) {
+        Removal::Refused(why) => why.number(),
+        Removal::Done(g) => {
+            put_gone(g, answer);
+            0
+        }
+    }
+}
+
+// Adds an entry in slot `count`; no other entry changes slot. Answer: count, root, the entry's slot.
+#[no_mangle]
+pub extern "C" fn iset_open_insert(
+    count: u64,
+    root: u64,
+    nodes: &mut [u64],
+    colours: &mut [u8],
+    start: u64,
+    end: u64,
+    value: u64,
+    answer: &mut [u64],
+) -> u64
+    ensures { λ r. ⌜ (r
+        ≡ number (now (answer .entry)) (openInsertTold (mapOf count root) (now (nodes .entry)) (now (colours .entry)) (entryOf start end value)))
+        × (now (answer .exit)
+        ≡ handed (now (answer .entry)) (openInsertTold (mapOf count root) (now (nodes .entry)) (now (colours .entry)) (entryOf start end value)))
+        × (now (nodes .exit)
+        ≡ left (now (answer .entry)) (openInsertTold (mapOf count root) (now (nodes .entry)) (now (colours .entry)) (entryOf start end value))
+        (now (nodes .entry)) (openInsertNodes (mapOf count root) (now (nodes .entry)) (now (colours .entry)) (entryOf start end value)))
+        × (now (colours .exit)
+        ≡ left (now (answer .entry)) (openInsertTold (mapOf count root) (now (nodes .entry)) (now (colours .entry)) (entryOf start end value))
+        (now (colours .entry)) (openInsertColours (mapOf count root) (now (nodes .entry)) (now (colours .entry)) (entryOf start end value))) ⌝ }
+{
+    if answer.len() < 3 {
+        return SHORT_ANSWER;
+    }
+    match (Map { count, root }).open_insert(nodes, colours, start, end, value) {
+        Insertion::Refused(why) => why.number(),
+        Insertion::Done(a) => {
+            put_added(a, answer);
+            0
+        }
+    }
+}

@@ -1,0 +1,65 @@
+/* When these calls may be used: the store passed iset_check once, or iset_build made it, or it is the map of no entries; since then nobody but these
+ * calls and those of iset.h has written its two arrays; and the count and the root that go in are those of the last answer.
+ * Then each call returns, answers and leaves exactly what the call of iset.h does that has its name without `open_`, and the store still passes
+ * the check. Otherwise answers may be wrong and a call may take long, but every call ends, and none reads or writes outside the arrays.
+ *
+ * The calls of iset.h check the whole store each time. These do not: an insertion, a removal and a step take a time that grows with the height of the
+ * tree, a drain with the nodes that it enters. A step or a drain that goes on from a cursor tests that cursor first, one link a level: where there
+ * are many slots to be had, ask for 64 at a time.
+ *
+ * Arguments, answers, refusals and their order are those of iset.h, but for ISET_BROKEN, which these calls never give. Link libcapi_open.a, which
+ * `rt staticlib capi_open` writes, beside libcapi.a. */
+#ifndef ISET_OPEN_H
+#define ISET_OPEN_H
+
+#include "iset.h"
+
+#ifdef __cplusplus
+extern "C" {
+#endif
+
+/* Refusals: SHORT_ANSWER, NO_ROOM, NO_SUCH. */
+uint64_t iset_open_remove(uint64_t count, uint64_t root, uint64_t *nodes, size_t nodes_len, uint8_t *colours, size_t colours_len, uint64_t slot,
+    uint64_t *answer, size_t answer_len);
+
+/* Refusals: SHORT_ANSWER, NO_ROOM, BAD_INTERVAL. */
+uint64_t iset_open_insert(uint64_t count, uint64_t root, uint64_t *nodes, size_t nodes_len, uint8_t *colours, size_t colours_len,
+    uint64_t start, uint64_t end, uint64_t value, uint64_t *answer, size_t answer_len);
+
+/* iset_fresh checks nothing, so there is one for both. */
+
+/* Refusals: SHORT_ANSWER, NO_ROOM, BAD_INTERVAL. */
+uint64_t iset_open_fresh_exact(uint64_t count, uint64_t root, const uint64_t *nodes, size_t nodes_len, const uint8_t *colours,
+    size_t colours_len, uint64_t start, uint64_t end, uint64_t *answer, size_t answer_len);
+
+/* Refusals: SHORT_ANSWER, BAD_BOUND, NO_ROOM, BAD_RANGE, BAD_CURSOR. */
+uint64_t iset_open_step(uint64_t count, uint64_t root, const uint64_t *nodes, size_t nodes_len, const uint8_t *colours, size_t colours_len,
+    uint64_t lo_kind, uint64_t lo, uint64_t hi_kind, uint64_t hi, uint64_t slot, uint64_t levels, uint64_t bits,
+    uint64_t *answer, size_t answer_len);
+
+/* Refusals: SHORT_ANSWER, NO_ROOM, BAD_INTERVAL, BAD_CURSOR. */
+uint64_t iset_open_step_exact(uint64_t count, uint64_t root, const uint64_t *nodes, size_t nodes_len, const uint8_t *colours,
+    size_t colours_len, uint64_t start, uint64_t end, uint64_t slot, uint64_t levels, uint64_t bits, uint64_t *answer, size_t answer_len);
+
+/* Refusals: those of iset_open_step, then SHORT_OUTPUT. */
+uint64_t iset_open_drain(uint64_t count, uint64_t root, const uint64_t *nodes, size_t nodes_len, const uint8_t *colours, size_t colours_len,
+    uint64_t lo_kind, uint64_t lo, uint64_t hi_kind, uint64_t hi, uint64_t slot, uint64_t levels, uint64_t bits, uint64_t limit,
+    uint64_t *out, size_t out_len, uint64_t *answer, size_t answer_len);
+
+/* Refusals: those of iset_open_step_exact, then SHORT_OUTPUT. */
+uint64_t iset_open_drain_exact(uint64_t count, uint64_t root, const uint64_t *nodes, size_t nodes_len, const uint8_t *colours,
+    size_t colours_len, uint64_t start, uint64_t end, uint64_t slot, uint64_t levels, uint64_t bits, uint64_t limit,
+    uint64_t *out, size_t out_len, uint64_t *answer, size_t answer_len);
+
+/* The entries that hold an address: the drain from the fresh cursor of the range from it to it, both Included, into the whole output. Should all
+ * places be used, there may be more: go on with iset_open_drain from the cursor of the answer.
+ * Answer: as of iset_drain.
+ * Refusals: SHORT_ANSWER, NO_ROOM, SHORT_OUTPUT where the output has no places. */
+uint64_t iset_open_at(uint64_t count, uint64_t root, const uint64_t *nodes, size_t nodes_len, const uint8_t *colours, size_t colours_len,
+    uint64_t address, uint64_t *out, size_t out_len, uint64_t *answer, size_t answer_len);
+
+#ifdef __cplusplus
+}
+#endif
+
+#endif

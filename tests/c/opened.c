@@ -1,0 +1,227 @@
+// The calls of include/iset_open.h. First on a store that was checked once, beside those of include/iset.h on a copy of it: numbers, answers and
+// arrays must be equal after each call, refused ones among them, and the slots that iset_slot_after gives must hold the entries that were kept. Then
+// on damaged stores and any map: every call must end, and the words around the arrays must stay; nothing is said of the answers.
+#include <inttypes.h>
+#include <stdio.h>
+#include <stdlib.h>
+#include <string.h>
+
+#include "iset_open.h"
+
+#define MOST 300
+#define GUARDS 16
+#define PLACES 40
+#define GUARD UINT64_C(0x6775617264)
+
+// A store between guard words. The public calls work on the first one, the opened calls on the second one.
+struct store {
+    uint64_t below[GUARDS], nodes[MOST * 8 + GUARDS];
+    uint8_t before[GUARDS], colours[MOST / 8 + 1 + GUARDS];
+};
+
+static struct store first, second, kept;
+static size_t words, bytes;
+static uint64_t chance = 88172645463325252u;
+static unsigned long calls, refusals, carried, damaged;
+
+static uint64_t any(uint64_t below) {
+    chance ^= chance << 13;
+    chance ^= chance >> 7;
+    chance ^= chance << 17;
+    return chance % below;
+}
+
+static void fail(const char *what) {
+    printf("opened: %s\n", what);
+    exit(1);
+}
+
+static void guard(struct store *s) {
+    for (int i = 0; i < GUARDS; i++) {
+        s->below[i] = s->nodes[words + i] = GUARD + i;
+        s->before[i] = s->colours[bytes + i] = (uint8_t)(GUARD + i);
+    }
+}
+
+static void guarded(const struct store *s) {
+    for (int i = 0; i < GUARDS; i++)
+        if (s->below[i] != GUARD + i || s->nodes[words + i] != GUARD + i || s->before[i] != (uint8_t)(GUARD + i) ||
+            s->colours[bytes + i] != (uint8_t)(GUARD + i))
+            fail("a word outside the arrays changed");
+}
+
+// An answer or an output of either kind of call.
+struct reply {
+    uint64_t no, answer[9], out[PLACES];
+};
+
+static struct reply public_reply, opened_reply;
+
+static void begin(void) {
+    memset(&public_reply, 7, sizeof public_reply);
+    memset(&opened_reply, 7, sizeof opened_reply);
+}
+
+static void equal(const char *what) {
+    calls++;
+    refusals += opened_reply.no != 0;
+    if (memcmp(&public_reply, &opened_reply, sizeof public_reply)) fail(what);
+    if (memcmp(first.nodes, second.nodes, 8 * words) || memcmp(first.colours, second.colours, bytes)) fail(what);
+}
+
+#define FIRST first.nodes, words, first.colours, bytes
+#define SECOND second.nodes, words, second.colours, bytes
+#define BOTH(name, public_call, opened_call) \
+    do { \
+        begin(); \
+        opened_reply.no = opened_call; \
+        guarded(&second); \
+        if (compared) public_reply.no = public_call, equal(name); \
+    } while (0)
+#define OPENED opened_reply.answer
+#define PUBLIC public_reply.answer
+
+static uint64_t count, root;
+static int compared;
+
+// a slot, mostly one that is there
+static uint64_t near_slot(void) { return any(8) == 0 ? any(3) == 0 ? ISET_U : count + any(2) : any(count + 1); }
+
+static void insert(void) {
+    uint64_t start = any(600), end = start + any(60), value = any(1000);
+    BOTH("insert", iset_insert(count, root, FIRST, start, end, value, PUBLIC, 3), iset_open_insert(count, root, SECOND, start, end, value, OPENED, 3));
+    if (opened_reply.no == 0) count = OPENED[0], root = OPENED[1];
+}
+
+// the entries that were in the store before are where iset_slot_after says
+static void carry(uint64_t removed, uint64_t old_count) {
+    for (uint64_t slot = 0; slot < old_count; slot++) {
+        uint64_t after = iset_slot_after(OPENED, removed, slot);
+        if (slot == removed ? after != ISET_U : after >= count || memcmp(kept.nodes + 8 * slot, second.nodes + 8 * after, 24) != 0)
+            fail("slot_after");
+        carried++;
+    }
+}
+
+static void remove_one(void) {
+    uint64_t slot = near_slot(), old_count = count;
+    kept = second;
+    BOTH("remove", iset_remove(count, root, FIRST, slot, PUBLIC, 9), iset_open_remove(count, root, SECOND, slot, OPENED, 9));
+    if (opened_reply.no != 0) return;
+    count = OPENED[1], root = OPENED[2];
+    if (compared) carry(slot, old_count);
+}
+
+static void overlaps(void) {
+    uint64_t lk = any(40) == 0 ? 3 : any(3), hk = any(3), lo = any(600), hi = any(6) == 0 ? any(600) : lo + any(60);
+    uint64_t places = any(PLACES + 1), limit = any(5) == 0 ? 0 : any(PLACES + 1), c[3] = {root, 1, 0};
+    if (any(10) == 0) c[0] = near_slot(), c[1] = any(35), c[2] = any(4) == 0 ? chance : any(64);
+    for (int k = 0; k < 6 && c[0] != ISET_U; k++) {
+        BOTH("drain", iset_drain(count, root, FIRST, lk, lo, hk, hi, c[0], c[1], c[2], limit, public_reply.out, places, PUBLIC, 5),
+            iset_open_drain(count, root, SECOND, lk, lo, hk, hi, c[0], c[1], c[2], limit, opened_reply.out, places, OPENED, 5));
+        if (opened_reply.no != 0) break;
+        memcpy(c, OPENED + 2, sizeof c);
+        BOTH("step", iset_step(count, root, FIRST, lk, lo, hk, hi, c[0], c[1], c[2], PUBLIC, 5),
+            iset_open_step(count, root, SECOND, lk, lo, hk, hi, c[0], c[1], c[2], OPENED, 5));
+    }
+    BOTH("at", iset_drain(count, root, FIRST, ISET_INCLUDED, lo, ISET_INCLUDED, lo, root, 1, 0, places, public_reply.out, places, PUBLIC, 5),
+        iset_open_at(count, root, SECOND, lo, opened_reply.out, places, OPENED, 5));
+}
+
+static void exacts(void) {
+    uint64_t start = any(600), end = start + any(30), places = any(PLACES + 1), limit = any(PLACES + 1), c[3];
+    if (count > 0 && count <= words / 8 && any(2)) {
+        uint64_t slot = any(count);
+        start = second.nodes[8 * slot], end = second.nodes[8 * slot + 1];
+    }
+    BOTH("fresh_exact", iset_fresh_exact(count, root, FIRST, start, end, PUBLIC, 3), iset_open_fresh_exact(count, root, SECOND, start, end, OPENED, 3));
+    if (opened_reply.no != 0) return;
+    memcpy(c, OPENED, sizeof c);
+    if (any(8) == 0) c[1] ^= any(4);
+    BOTH("drain_exact", iset_drain_exact(count, root, FIRST, start, end, c[0], c[1], c[2], limit, public_reply.out, places, PUBLIC, 5),
+        iset_open_drain_exact(count, root, SECOND, start, end, c[0], c[1], c[2], limit, opened_reply.out, places, OPENED, 5));
+    BOTH("step_exact", iset_step_exact(count, root, FIRST, start, end, c[0], c[1], c[2], PUBLIC, 5),
+        iset_open_step_exact(count, root, SECOND, start, end, c[0], c[1], c[2], OPENED, 5));
+}
+
+static void look_up(void) {
+    overlaps();
+    exacts();
+}
+
+// An answer that is a place too short, in calls that would be refused for another reason too, and in calls that would not.
+static void short_answers(void) {
+    uint64_t slot = near_slot();
+    BOTH("short insert", iset_insert(count, root, FIRST, 3, slot, 1, PUBLIC, 2), iset_open_insert(count, root, SECOND, 3, slot, 1, OPENED, 2));
+    BOTH("short remove", iset_remove(count, root, FIRST, slot, PUBLIC, 8), iset_open_remove(count, root, SECOND, slot, OPENED, 8));
+    BOTH("short fresh", iset_fresh_exact(count, root, FIRST, 3, slot, PUBLIC, 2), iset_open_fresh_exact(count, root, SECOND, 3, slot, OPENED, 2));
+    BOTH("short step", iset_step(count, root, FIRST, slot, 0, 2, 0, root, 1, 0, PUBLIC, 4),
+        iset_open_step(count, root, SECOND, slot, 0, 2, 0, root, 1, 0, OPENED, 4));
+    BOTH("short drain", iset_drain(count, root, FIRST, slot, 0, 2, 0, root, 1, 0, 1, public_reply.out, 1, PUBLIC, 4),
+        iset_open_drain(count, root, SECOND, slot, 0, 2, 0, root, 1, 0, 1, opened_reply.out, 1, OPENED, 4));
+    BOTH("short at", iset_drain(count, root, FIRST, 0, 9, 0, 9, root, 1, 0, 1, public_reply.out, 1, PUBLIC, 4),
+        iset_open_at(count, root, SECOND, 9, opened_reply.out, 1, OPENED, 4));
+}
+
+// arrays of any length and contents; the map of no entries
+static void start(void) {
+    uint64_t slots = 1 + any(MOST - 1);
+    words = 8 * slots + any(8);
+    bytes = slots / 8 + 1;
+    count = 0, root = ISET_U;
+    for (size_t i = 0; i < words; i++) second.nodes[i] = any(2) ? any(slots + 2) : chance;
+    for (size_t i = 0; i < bytes; i++) second.colours[i] = (uint8_t)any(256);
+    guard(&second);
+    first = second;
+}
+
+static void sound_round(void) {
+    compared = 1;
+    start();
+    for (int k = 0; k < 200; k++) {
+        if (any(5) < 3) insert();
+        else remove_one();
+        if (k % 4 == 0) look_up();
+        if (k % 40 == 0) short_answers();
+    }
+    if (iset_check(count, root, SECOND) != ISET_OK) fail("the store does not pass the check at the end");
+    guarded(&first);
+}
+
+// damage by little or by much, of words, colours, count and root
+static void damage(void) {
+    uint64_t hurt = any(3) == 0 ? words : 1 + any(6), slots = words / 8;
+    for (uint64_t i = 0; i < hurt; i++) {
+        uint64_t *word = second.nodes + any(words);
+        *word = any(3) == 0 ? ISET_U : any(2) ? any(slots + 2) : chance;
+        if (any(2)) second.colours[any(bytes)] ^= 1 << i % 8;
+    }
+    if (any(4) == 0) count = any(4) ? any(slots + 3) : chance;
+    if (any(4) == 0) root = any(4) ? any(slots + 3) : chance;
+}
+
+static void damaged_rounds(void) {
+    uint64_t sound_count = count, sound_root = root;
+    compared = 0;
+    for (int k = 0; k < 60; k++) {
+        second = first;
+        count = sound_count, root = sound_root;
+        damage();
+        for (int j = 0; j < 6; j++) {
+            if (any(2)) insert();
+            else remove_one();
+            look_up();
+            damaged++;
+        }
+    }
+}
+
+int main(void) {
+    for (int k = 0; k < 40; k++) {
+        sound_round();
+        damaged_rounds();
+    }
+    printf("opened: %lu calls as the public ones, %lu of them refused; %lu slots carried over a removal; %lu changes of damaged stores\n",
+        calls, refusals, carried, damaged);
+    return 0;
+}
