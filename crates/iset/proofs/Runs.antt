@@ -199,14 +199,14 @@ module _ (m : Map) (W C : List ℕ) (sound : checkRule m W C ≡ 0) where
   started : (q : Query) → queryNumber q ≡ 0 → startNumber m W C q ≡ 0
   started q e = rw (start-order m W C q, sound, e)
 
-  range-started : (q : Span) → (BadRange (q .lo) (q .hi) → ⊥) → startNumber m W C (Overlap q) ≡ 0
+  pub range-started : (q : Span) → (BadRange (q .lo) (q .hi) → ⊥) → startNumber m W C (Overlap q) ≡ 0
   range-started q d = started (Overlap q) (go (ordered (q .lo) (q .hi)) refl)
     where
       go : (b : Bool) → ordered (q .lo) (q .hi) ≡ b → _≡_ {A = ℕ} (cond b 0 4) 0
       go true e = refl
       go false e = absurd (d (disordered (q .lo) (q .hi) e))
 
-  interval-started : (x : Interval) → (BadInterval (x .start) (x .end) → ⊥) → startNumber m W C (Exact x) ≡ 0
+  pub interval-started : (x : Interval) → (BadInterval (x .start) (x .end) → ⊥) → startNumber m W C (Exact x) ≡ 0
   interval-started x d = started (Exact x) (rw (lt-ltb (x .start) (x .end) (omega arith)))
 
 -- overlap lookup
