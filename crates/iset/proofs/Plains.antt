@@ -1,20 +1,17 @@
 -- The plain lookup: what its tests leave, in the form that `search` takes; and document 02's item 5, of the public call.
 use mathlib.Core.Path.{_≡_, refl, sym, ap, _∙_}
 use mathlib.Core.Bool.{Bool, true, false, cond}
-use mathlib.Core.List.{List, [], _∷_, _++_, append-nil}
+use mathlib.Core.List.{List, [], _∷_, append-nil}
 use Prim.Native.Nat.{ℕ, _*_, _<_, _≤_}
 use native.Mathlib.Omega.{arith}
 use native.Mathlib.Nat.{add-zero}
 use lib.ListN.{length, take, drop}
 use lib.Seq.{take-append-seam}
-use lib.Dec.{eqb, ltb, leb}
+use lib.Dec.{leb}
 use borrow.Author.Tests.{eq-eqb, le-leb, leb-true, le-ltb}
-use Rattle.words.specs.Nodes.{room}
 use Rattle.words.specs.Refusals.{refusalNumber}
-use Rattle.words.specs.declared.interval.Interval.{Interval}
-use Rattle.words.specs.declared.interval.Span.{Span}
 use Rattle.words.specs.declared.refusal.Refusal.{Refusal}
-use Rattle.tree.specs.Tree.{Tree, slots}
+use Rattle.tree.specs.Tree.{slots}
 use Rattle.tree.specs.Passes.{Passes}
 use Rattle.iter.specs.Lists.{those}
 use Rattle.iter.specs.Cursors.{fresh, ended}
@@ -26,11 +23,11 @@ use Rattle.iter.specs.declared.rules.Query.the-variants.{Overlap, Exact}
 use Rattle.plain_laws.specs.Tour as tour
 use Rattle.plain_laws.proofs.Tours.{entries-are, entered-all}
 use Rattle.plain.specs.declared.Tally.{Tally}
-use Rattle.iset.specs.Check.{checkNumber, checkRule, first}
-use Rattle.iset.specs.Lookup.{startNumber, openStartNumber, drainCall, drainOutput}
-use Rattle.iset.specs.Plain.{openPlainNumber, plainNumber, plainAnswer, refusedPlain, plainCall, plainOutput}
+use Rattle.iset.specs.Check.{checkNumber}
+use Rattle.iset.specs.Lookup.{startNumber, openStartNumber, drainCall}
+use Rattle.iset.specs.Plain.{openPlainNumber, plainNumber, PlainAnswer, plainAnswer, refusedPlain, plainCall, plainOutput}
 use Rattle.iset.specs.PlainRuns.{plainSlots, drainSlots, PlainRun, Request5}
-use Rattle.iset.specs.Runs.{Ask, drain, run, total, wanted, Lookup, OnceEach}
+use Rattle.iset.specs.Runs.{Ask, drain, run, total, Lookup, OnceEach}
 use Rattle.iset.specs.declared.Map.{Map}
 use Rattle.iset.specs.declared.Checked.{Checked}
 use Rattle.iset.specs.declared.Checked.the-variants.{Sound, Refused}
@@ -72,6 +69,9 @@ first-places : (l out : List ℕ) → take (length l) (filled l out) ≡ l
 unfolding filled
 first-places l out = take-append-seam l (drop (length l) out)
 
+counted : {a b x y : ℕ} → a ≡ x → b ≡ y → _≡_ {A = PlainAnswer} (record { no = 0; hits = a; entered = b }) (record { no = 0; hits = x; entered = y })
+counted e f = λ i. record { no = 0; hits = e i; entered = f i }
+
 -- An accepted lookup into an output that holds every entry. The store's tree is that of P, and L is a lookup of the same by steps and drains.
 module _ (m : Map) (W C : List ℕ) (q : Query) (e : startNumber m W C q ≡ 0) (P : Passes W C (m .count) (m .root)) (out : List ℕ) (h : m .count ≤ length out) where
   abbrev found : List ℕ
@@ -87,7 +87,8 @@ module _ (m : Map) (W C : List ℕ) (q : Query) (e : startNumber m W C q ≡ 0) 
   plain-told : plainCall m W C q (length out) ≡ record { no = 0; hits = length found; entered = m .count }
   unfolding plainCall
   plain-told =
-      rw (eq-eqb (plainNumber m W C q (length out)) 0 plain-zero, plain-found, entered-all W C (m .count) (m .root) (few m W C q e) P)
+      rw (eq-eqb (plainNumber m W C q (length out)) 0 plain-zero)
+      (counted (ap (λ (l : List ℕ). length l) plain-found) (entered-all W C (m .count) (m .root) (few m W C q e) P))
 
   plain-written : plainOutput m W C q out ≡ filled found out
   unfolding plainOutput
