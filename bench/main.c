@@ -2,7 +2,7 @@
    each round, and the ratio of their times (this library's over the other's) is taken in each round; printed are the median, the least and the
    greatest ratio, and how this library's time for one entry or one lookup grows from the least size on. Both sides' answers are compared on the
    way. This library's calls are the exports: the opened ones, from C and through the Rust type `Store`, and of the public ones the check, the build and,
-   where it says so, the point lookups, each of which checks the whole store. */
+   where it says so, the point lookups, each of which checks the whole store. Where a case says `against` another call of this library, both sides are. */
 #include <stdbool.h>
 #include <stdint.h>
 #include <stdio.h>
@@ -37,7 +37,7 @@ uint64_t store_exact(const store *s, uint64_t start, uint64_t end);
 /* Rust's libraries name it; nothing here unwinds. */
 void rust_eh_personality(void) {}
 
-enum { ROUNDS = 15, MOST = 65535, LOOKUPS = 10000, PIECE = 64 };
+enum { ROUNDS = 15, MOST = 65535, LOOKUPS = 10000, PLAINS = 20, PIECE = 64 };
 
 static uint64_t list[3 * MOST], mixed[3 * MOST], words[8 * MOST], spare[8 * MOST], held[8 * MOST], out[MOST], slots[MOST];
 static uint8_t bytes[MOST / 8 + 1], spare_bytes[MOST / 8 + 1], held_bytes[MOST / 8 + 1];
@@ -231,14 +231,15 @@ static uint64_t some_theirs(size_t lookups) {
 }
 static uint64_t points_theirs(void) { return some_theirs(LOOKUPS); }
 static uint64_t publics_theirs(void) { return some_theirs(publics); }
-static uint64_t points_ours(void) {
+static uint64_t some_ours(size_t lookups) {
     uint64_t sum = 0, answer[5] = {0};
-    for (size_t k = 0; k < LOOKUPS; k++) {
+    for (size_t k = 0; k < lookups; k++) {
         iset_open_at(n, root, words, 8 * n, bytes, colour_bytes, points[k], out, PIECE, answer, 5);
         sum = 3 * sum + values(answer[0]);
     }
     return sum;
 }
+static uint64_t points_ours(void) { return some_ours(LOOKUPS); }
 static void before_store_points(void) {
     before_points();
     open_store();
@@ -256,6 +257,22 @@ static uint64_t points_public(void) {
                    answer, 5);
         sum = 3 * sum + values(answer[0]);
     }
+    return sum;
+}
+
+/* The plain lookup, over the whole map beside the drain, and at points beside the pruned lookup: both sides are this library's. */
+static uint64_t plain(uint64_t kind, uint64_t at) {
+    uint64_t answer[2] = {0};
+    iset_open_plain(n, root, words, 8 * n, bytes, colour_bytes, kind, at, kind, at, out, n, answer, 2);
+    same(answer[1], n, "the entries that a plain lookup goes through");
+    return values(answer[0]);
+}
+static uint64_t all_plain(void) { return plain(ISET_UNBOUNDED, 0); }
+static uint64_t few_pruned(void) { return some_ours(PLAINS); }
+static uint64_t few_plain(void) {
+    uint64_t sum = 0;
+    for (size_t k = 0; k < PLAINS; k++)
+        sum = 3 * sum + plain(ISET_INCLUDED, points[k]);
     return sum;
 }
 
@@ -350,6 +367,8 @@ int main(int words_given, char **given) {
         pieces = {"drain over the whole map in pieces of 64, opened", nothing, all_theirs, all_in_pieces, nothing, 0},
         point = {"point lookups, opened", before_points, points_theirs, points_ours, nothing, 0},
         public = {"point lookups, public, with the check", before_points, publics_theirs, points_public, nothing, 0},
+        whole_plain = {"plain lookup of the whole map, against the drain at once", nothing, all_at_once, all_plain, nothing, 0},
+        point_plain = {"plain point lookups, against pruned ones", before_points, few_pruned, few_plain, nothing, 0},
         exact = {"exact lookups, 16 equals each, opened", nothing, exact_theirs, exact_ours, nothing, 0},
         removal_rust = {"removal of every entry, Store", before_store_removal, remove_theirs, remove_by_store, after_store_removal, 0},
         insertion_rust = {"insertion of every entry, Store", before_store_insertion, insert_theirs, insert_by_store, after_store_insertion, 0},
@@ -366,6 +385,8 @@ int main(int words_given, char **given) {
         measure(&all, n);
         measure(&pieces, n);
         measure(&point, LOOKUPS);
+        measure(&whole_plain, n);
+        measure(&point_plain, PLAINS);
         measure(&removal_rust, n);
         measure(&insertion_rust, n);
         measure(&all_rust, n);

@@ -66,7 +66,7 @@ enum {
     ISET_NOT_SORTED = 6,      /* the list to build falls somewhere, by start, then end */
     ISET_BAD_CURSOR = 7,      /* the cursor is not one that a lookup of this query in this store could have */
     ISET_BAD_LIST = 8,        /* the list's length is no multiple of 3 */
-    ISET_SHORT_OUTPUT = 9,    /* the drain's limit is above the output's length */
+    ISET_SHORT_OUTPUT = 9,    /* the drain's limit is above the output's length, or a plain lookup's output is shorter than the count */
     ISET_BAD_BIT = 10,        /* of bit vectors and stacks; none of these calls gives it */
     /* of the calls from C themselves; the map's own numbers may go on from 10 */
     ISET_SHORT_ANSWER = 101,  /* `answer` does not hold the answer's numbers */
@@ -83,7 +83,8 @@ enum {
     ISET_INSERT_ANSWER = 4,
     ISET_FRESH_ANSWER = 3,
     ISET_STEP_ANSWER = 5,
-    ISET_DRAIN_ANSWER = 5
+    ISET_DRAIN_ANSWER = 5,
+    ISET_PLAIN_ANSWER = 2
 };
 
 #ifdef __cplusplus
@@ -157,6 +158,19 @@ uint64_t iset_drain(uint64_t count, uint64_t root, const uint64_t *nodes, size_t
 uint64_t iset_drain_exact(uint64_t count, uint64_t root, const uint64_t *nodes, size_t nodes_len, const uint8_t *colours, size_t colours_len,
     uint64_t start, uint64_t end, uint64_t slot, uint64_t levels, uint64_t bits, uint64_t limit,
     uint64_t *out, size_t out_len, uint64_t *answer, size_t answer_len);
+
+/* All entries that intersect a range, without pruning: it goes through every entry in order and tests each. The slots that it writes to `out` are those that
+ * iset_drain writes from the fresh cursor to the end. `out` has a place for every entry; places past the slots stay.
+ * Answer: how many slots were written, how many entries were gone through, which is the count.
+ * Refusals: SHORT_ANSWER, BAD_BOUND, NO_ROOM, BROKEN, BAD_RANGE, SHORT_OUTPUT. */
+uint64_t iset_plain(uint64_t count, uint64_t root, const uint64_t *nodes, size_t nodes_len, const uint8_t *colours, size_t colours_len,
+    uint64_t lo_kind, uint64_t lo, uint64_t hi_kind, uint64_t hi, uint64_t *out, size_t out_len, uint64_t *answer, size_t answer_len);
+
+/* The same for the entries that are equal to an interval.
+ * Answer: as of iset_plain.
+ * Refusals: SHORT_ANSWER, NO_ROOM, BROKEN, BAD_INTERVAL, SHORT_OUTPUT. */
+uint64_t iset_plain_exact(uint64_t count, uint64_t root, const uint64_t *nodes, size_t nodes_len, const uint8_t *colours, size_t colours_len,
+    uint64_t start, uint64_t end, uint64_t *out, size_t out_len, uint64_t *answer, size_t answer_len);
 
 #ifdef __cplusplus
 }

@@ -4,7 +4,7 @@
  * the check. Otherwise answers may be wrong and a call may take long, but every call ends, and none reads or writes outside the arrays.
  *
  * The calls of iset.h check the whole store each time. These do not: an insertion, a removal and a step take a time that grows with the height of the
- * tree, a drain with the nodes that it enters. A step or a drain that goes on from a cursor tests that cursor first, one link a level: where there
+ * tree, a drain with the nodes that it enters, a plain lookup with the count. A step or a drain that goes on from a cursor tests that cursor first, one link a level: where there
  * are many slots to be had, ask for 64 at a time.
  *
  * Arguments, answers, refusals and their order are those of iset.h, but for ISET_BROKEN, which these calls never give. Link libcapi_open.a, which
@@ -50,6 +50,14 @@ uint64_t iset_open_drain(uint64_t count, uint64_t root, const uint64_t *nodes, s
 uint64_t iset_open_drain_exact(uint64_t count, uint64_t root, const uint64_t *nodes, size_t nodes_len, const uint8_t *colours,
     size_t colours_len, uint64_t start, uint64_t end, uint64_t slot, uint64_t levels, uint64_t bits, uint64_t limit,
     uint64_t *out, size_t out_len, uint64_t *answer, size_t answer_len);
+
+/* Refusals: SHORT_ANSWER, BAD_BOUND, NO_ROOM, BAD_RANGE, SHORT_OUTPUT. */
+uint64_t iset_open_plain(uint64_t count, uint64_t root, const uint64_t *nodes, size_t nodes_len, const uint8_t *colours, size_t colours_len,
+    uint64_t lo_kind, uint64_t lo, uint64_t hi_kind, uint64_t hi, uint64_t *out, size_t out_len, uint64_t *answer, size_t answer_len);
+
+/* Refusals: SHORT_ANSWER, NO_ROOM, BAD_INTERVAL, SHORT_OUTPUT. */
+uint64_t iset_open_plain_exact(uint64_t count, uint64_t root, const uint64_t *nodes, size_t nodes_len, const uint8_t *colours,
+    size_t colours_len, uint64_t start, uint64_t end, uint64_t *out, size_t out_len, uint64_t *answer, size_t answer_len);
 
 /* The entries that hold an address: the drain from the fresh cursor of the range from it to it, both Included, into the whole output. Should all
  * places be used, there may be more: go on with iset_open_drain from the cursor of the answer.

@@ -132,6 +132,11 @@ class Drive:
         numbers.end()
         return self.on_store(model.drain, query, cursor, limit, room)
 
+    def do_plain(self, numbers):
+        query, room = numbers.query(), numbers.one(MOST_ROOM + 1)
+        numbers.end()
+        return self.on_store(model.plain, query, room)
+
     def bit_call(self, name, numbers):
         length = numbers.one()
         i = numbers.one() if "i" in BIT_CALLS[name] else 0

@@ -3,20 +3,11 @@
 entry is in slot count and comes after every entry that is not greater, and what lies above it stays."""
 import random
 
-from model import LEFT, RIGHT, U, START, END, VALUE, Store, build, insert, remove
+from model import U, START, END, VALUE, Store, build, in_order, insert, remove
 
 
 def order(s):
-    out = []
-
-    def down(slot):
-        if slot != U:
-            down(s.get(slot, LEFT))
-            out.append(slot)
-            down(s.get(slot, RIGHT))
-
-    down(s.root)
-    return out
+    return in_order(s, s.root)
 
 
 def entry(s, slot):

@@ -1,6 +1,6 @@
 #!/usr/bin/env python3
-"""What the calls answer and leave, from the words of document 01, and of document 02 for insertion, in plain lists and recursion: neither the
-crate's code nor this project's. tests/drive.py speaks for it."""
+"""What the calls answer and leave, from the words of document 01, and of document 02 for insertion and the plain lookup, in plain lists and
+recursion: neither the crate's code nor this project's. tests/drive.py speaks for it."""
 
 U = 4294967295
 START, END, VALUE, LO, HI, LEFT, RIGHT, PARENT = range(8)
@@ -409,6 +409,19 @@ def drain(s, q, cursor, limit, room):
         hits, entered, after_it = [], 0, cursor
     output = hits + [777777] * (room - len(hits))
     return " ".join(map(str, (no, len(hits), entered) + after_it + (room,) + tuple(output)))
+
+
+def in_order(s, slot):
+    """Every slot in tree order."""
+    return [] if slot == U else in_order(s, s.get(slot, LEFT)) + [slot] + in_order(s, s.get(slot, RIGHT))
+
+
+def plain(s, q, room):
+    """Every entry in tree order, tested."""
+    no = refuse_store(s) or refuse_query(q) or (9 if room < s.count else 0)
+    hits = [] if no else [slot for slot in in_order(s, s.root) if hit(s, q, slot)]
+    output = hits + [777777] * (room - len(hits))
+    return " ".join(map(str, (no, len(hits), 0 if no else s.count, room) + tuple(output)))
 
 
 # Bits and stacks

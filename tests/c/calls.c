@@ -188,6 +188,26 @@ static void drain(const char *name, struct query q) {
     drain_in(name, q, ISET_DRAIN_ANSWER);
 }
 
+// A plain lookup. It writes the slots that a drain from the fresh cursor writes.
+static void plain_in(const char *name, struct query q, size_t room) {
+    fill(now.out, PLACES);
+    begin(room);
+    uint64_t no = q.exact
+        ? iset_plain_exact(now.count, now.root, now.nodes, now.words, now.colours, now.bytes, q.lo, q.hi, now.out, now.places, now.answer, room)
+        : iset_plain(now.count, now.root, now.nodes, now.words, now.colours, now.bytes, q.lo_kind, q.lo, q.hi_kind, q.hi, now.out, now.places,
+            now.answer, room);
+    line(name, no, ISET_PLAIN_ANSWER, no == 0 ? (size_t)now.answer[0] : 0, 0);
+    if (no == 0) {
+        printf(" slots");
+        for (uint64_t i = 0; i < now.answer[0]; i++) printf(" %" PRIu64, now.out[i]);
+    }
+    printf("\n");
+}
+
+static void plain(const char *name, struct query q) {
+    plain_in(name, q, ISET_PLAIN_ANSWER);
+}
+
 static const uint64_t LIST_A[15] = {10, 20, 1, 10, 30, 2, 25, 40, 3, 40, 50, 4, 45, 60, 5};
 static const uint64_t LIST_B[9] = {5, 9, 1, 5, 9, 2, 5, 9, 3};
 
@@ -286,6 +306,23 @@ static void looked_up(void) {
     fresh("B fresh exact", exact(5, 8)), step("[5, 8) step", exact(5, 8)), drain("drain", exact(5, 8));
 }
 
+static void looked_up_plainly(void) {
+    struct query some = range(ISET_INCLUDED, 20, ISET_EXCLUDED, 25), all = range(ISET_UNBOUNDED, 0, ISET_UNBOUNDED, 0);
+    lend(40, 1);
+    plain("no entries plain", all), now.places = 0, plain("no places", all), plain("no places, exact", exact(5, 9));
+    store_a();
+    plain("[20, 25) plain", some), plain("(20, 25] plain", range(ISET_EXCLUDED, 20, ISET_INCLUDED, 25)), plain("all plain", all);
+    plain("[60, 70) plain", range(ISET_INCLUDED, 60, ISET_EXCLUDED, 70)), plain("[25, 40) plain", exact(25, 40)), plain("[25, 41) plain", exact(25, 41));
+    now.places = 5, plain("5 places", all), now.places = 4, plain("4 places", all), plain("and one hit", exact(25, 40));
+    plain("3 to 1, 4 places", range(ISET_INCLUDED, 3, ISET_INCLUDED, 1)), plain("an empty interval, 4 places", exact(9, 9));
+    plain("a kind 3, 4 places", range(3, 0, ISET_UNBOUNDED, 0)), plain_in("a short answer, a kind 3", range(3, 0, ISET_UNBOUNDED, 0), 1);
+    plain_in("a short answer, exact", exact(25, 40), 1), now.root = 1, plain("root 1, 3 to 1", range(ISET_INCLUDED, 3, ISET_INCLUDED, 1));
+    now.count = 6, plain("count 6", all), plain("count 6, exact", exact(9, 9));
+    lend(24, 1);
+    build("B build", LIST_B, 9);
+    plain("[5, 9) plain", exact(5, 9)), plain("[5, 8) plain", exact(5, 8)), plain("[7, 7] plain", range(ISET_INCLUDED, 7, ISET_INCLUDED, 7));
+}
+
 static void bad_stores(void) {
     store_a(), now.words = 39, check("39 words"), remove_slot("remove", 0);
     store_a(), now.bytes = 0, check("no colours");
@@ -375,6 +412,7 @@ int main(void) {
     inserted();
     refused_insertions();
     looked_up();
+    looked_up_plainly();
     bad_stores();
     bad_lists();
     bad_queries();

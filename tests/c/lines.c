@@ -109,6 +109,19 @@ static void drain(void) {
     put_changes();
 }
 
+static void plain(void) {
+    uint64_t q[4];
+    int is_exact = exact(q);
+    uint64_t places = number(), a[2] = {0, 0};
+    for (size_t i = 0; i < places; i++) out[i] = 777777;
+    put(is_exact ? iset_open_plain_exact(count, root, copy, words, colours_copy, bytes, q[0], q[1], out, places, a, 2)
+                 : iset_open_plain(count, root, copy, words, colours_copy, bytes, q[0], q[1], q[2], q[3], out, places, a, 2),
+        a, 2);
+    printf(" ");
+    put(places, out, places);
+    put_changes();
+}
+
 int main(void) {
     char name[16];
     while (scanf("%15s", name) == 1) {
@@ -120,6 +133,7 @@ int main(void) {
         else if (strcmp(name, "fresh") == 0) fresh();
         else if (strcmp(name, "step") == 0) step();
         else if (strcmp(name, "drain") == 0) drain();
+        else if (strcmp(name, "plain") == 0) plain();
         else return 1;
     }
     return 0;

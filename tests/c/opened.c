@@ -52,7 +52,7 @@ static void guarded(const struct store *s) {
 
 // An answer or an output of either kind of call.
 struct reply {
-    uint64_t no, answer[ISET_REMOVE_ANSWER], out[PLACES];
+    uint64_t no, answer[ISET_REMOVE_ANSWER], out[MOST];
 };
 
 static struct reply public_reply, opened_reply;
@@ -114,7 +114,7 @@ static void remove_one(void) {
 
 static void overlaps(void) {
     uint64_t lk = any(40) == 0 ? 3 : any(3), hk = any(3), lo = any(600), hi = any(6) == 0 ? any(600) : lo + any(60);
-    uint64_t places = any(PLACES + 1), limit = any(5) == 0 ? 0 : any(PLACES + 1), c[3] = {root, 1, 0};
+    uint64_t places = any(PLACES + 1), limit = any(5) == 0 ? 0 : any(PLACES + 1), whole = any(6) ? MOST : places, c[3] = {root, 1, 0};
     if (any(10) == 0) c[0] = near_slot(), c[1] = any(35), c[2] = any(4) == 0 ? chance : any(64);
     for (int k = 0; k < 6 && c[0] != ISET_U; k++) {
         BOTH("drain", iset_drain(count, root, FIRST, lk, lo, hk, hi, c[0], c[1], c[2], limit, public_reply.out, places, PUBLIC, 5),
@@ -124,12 +124,14 @@ static void overlaps(void) {
         BOTH("step", iset_step(count, root, FIRST, lk, lo, hk, hi, c[0], c[1], c[2], PUBLIC, 5),
             iset_open_step(count, root, SECOND, lk, lo, hk, hi, c[0], c[1], c[2], OPENED, 5));
     }
+    BOTH("plain", iset_plain(count, root, FIRST, lk, lo, hk, hi, public_reply.out, whole, PUBLIC, 2),
+        iset_open_plain(count, root, SECOND, lk, lo, hk, hi, opened_reply.out, whole, OPENED, 2));
     BOTH("at", iset_drain(count, root, FIRST, ISET_INCLUDED, lo, ISET_INCLUDED, lo, root, 1, 0, places, public_reply.out, places, PUBLIC, 5),
         iset_open_at(count, root, SECOND, lo, opened_reply.out, places, OPENED, 5));
 }
 
 static void exacts(void) {
-    uint64_t start = any(600), end = start + any(30), places = any(PLACES + 1), limit = any(PLACES + 1), c[3];
+    uint64_t start = any(600), end = start + any(30), places = any(PLACES + 1), limit = any(PLACES + 1), whole = any(6) ? MOST : places, c[3];
     if (count > 0 && count <= words / 8 && any(2)) {
         uint64_t slot = any(count);
         start = second.nodes[8 * slot], end = second.nodes[8 * slot + 1];
@@ -140,6 +142,8 @@ static void exacts(void) {
     if (any(8) == 0) c[1] ^= any(4);
     BOTH("drain_exact", iset_drain_exact(count, root, FIRST, start, end, c[0], c[1], c[2], limit, public_reply.out, places, PUBLIC, 5),
         iset_open_drain_exact(count, root, SECOND, start, end, c[0], c[1], c[2], limit, opened_reply.out, places, OPENED, 5));
+    BOTH("plain_exact", iset_plain_exact(count, root, FIRST, start, end, public_reply.out, whole, PUBLIC, 2),
+        iset_open_plain_exact(count, root, SECOND, start, end, opened_reply.out, whole, OPENED, 2));
     BOTH("step_exact", iset_step_exact(count, root, FIRST, start, end, c[0], c[1], c[2], PUBLIC, 5),
         iset_open_step_exact(count, root, SECOND, start, end, c[0], c[1], c[2], OPENED, 5));
 }
@@ -159,6 +163,8 @@ static void short_answers(void) {
         iset_open_step(count, root, SECOND, slot, 0, 2, 0, root, 1, 0, OPENED, 4));
     BOTH("short drain", iset_drain(count, root, FIRST, slot, 0, 2, 0, root, 1, 0, 1, public_reply.out, 1, PUBLIC, 4),
         iset_open_drain(count, root, SECOND, slot, 0, 2, 0, root, 1, 0, 1, opened_reply.out, 1, OPENED, 4));
+    BOTH("short plain", iset_plain(count, root, FIRST, slot, 0, 2, 0, public_reply.out, 1, PUBLIC, 1),
+        iset_open_plain(count, root, SECOND, slot, 0, 2, 0, opened_reply.out, 1, OPENED, 1));
     BOTH("short at", iset_drain(count, root, FIRST, 0, 9, 0, 9, root, 1, 0, 1, public_reply.out, 1, PUBLIC, 4),
         iset_open_at(count, root, SECOND, 9, opened_reply.out, 1, OPENED, 4));
 }

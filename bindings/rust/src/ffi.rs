@@ -140,6 +140,38 @@ extern "C" {
         answer: *mut u64,
         answer_len: usize,
     ) -> u64;
+
+    pub fn iset_plain(
+        count: u64,
+        root: u64,
+        nodes: *const u64,
+        nodes_len: usize,
+        colours: *const u8,
+        colours_len: usize,
+        lo_kind: u64,
+        lo: u64,
+        hi_kind: u64,
+        hi: u64,
+        out: *mut u64,
+        out_len: usize,
+        answer: *mut u64,
+        answer_len: usize,
+    ) -> u64;
+
+    pub fn iset_plain_exact(
+        count: u64,
+        root: u64,
+        nodes: *const u64,
+        nodes_len: usize,
+        colours: *const u8,
+        colours_len: usize,
+        start: u64,
+        end: u64,
+        out: *mut u64,
+        out_len: usize,
+        answer: *mut u64,
+        answer_len: usize,
+    ) -> u64;
 }
 
 // The exports of crate `capi_open`, as `include/iset_open.h` declares them. `Store` and `StoreRef` call them: they have
@@ -258,6 +290,38 @@ extern "C" {
         answer_len: usize,
     ) -> u64;
 
+    pub fn iset_open_plain(
+        count: u64,
+        root: u64,
+        nodes: *const u64,
+        nodes_len: usize,
+        colours: *const u8,
+        colours_len: usize,
+        lo_kind: u64,
+        lo: u64,
+        hi_kind: u64,
+        hi: u64,
+        out: *mut u64,
+        out_len: usize,
+        answer: *mut u64,
+        answer_len: usize,
+    ) -> u64;
+
+    pub fn iset_open_plain_exact(
+        count: u64,
+        root: u64,
+        nodes: *const u64,
+        nodes_len: usize,
+        colours: *const u8,
+        colours_len: usize,
+        start: u64,
+        end: u64,
+        out: *mut u64,
+        out_len: usize,
+        answer: *mut u64,
+        answer_len: usize,
+    ) -> u64;
+
     pub fn iset_open_at(
         count: u64,
         root: u64,
@@ -332,6 +396,36 @@ pub(crate) type DrainExact = unsafe extern "C" fn(
     u64,
     u64,
     u64,
+    u64,
+    u64,
+    *mut u64,
+    usize,
+    *mut u64,
+    usize,
+) -> u64;
+pub(crate) type Plain = unsafe extern "C" fn(
+    u64,
+    u64,
+    *const u64,
+    usize,
+    *const u8,
+    usize,
+    u64,
+    u64,
+    u64,
+    u64,
+    *mut u64,
+    usize,
+    *mut u64,
+    usize,
+) -> u64;
+pub(crate) type PlainExact = unsafe extern "C" fn(
+    u64,
+    u64,
+    *const u64,
+    usize,
+    *const u8,
+    usize,
     u64,
     u64,
     *mut u64,

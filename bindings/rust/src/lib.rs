@@ -161,6 +161,13 @@ pub struct Drained {
     pub next: Cursor,
 }
 
+/// What a plain lookup answers: the hits written, and the entries gone through, which are all.
+#[derive(Clone, Copy, Debug, PartialEq, Eq)]
+pub struct Tally {
+    pub hits: u64,
+    pub entered: u64,
+}
+
 /// An export's number and answer as a `Result`.
 fn told<T>(number: u64, answer: T) -> Result<T, Refusal> {
     match Refusal::from_number(number) {
@@ -450,6 +457,51 @@ impl Map {
                 hits: a[0],
                 entered: a[1],
                 next: cursor(&a[2..]),
+            },
+        )
+    }
+
+    /// All hits, without pruning: every entry is tested, in tree order, and the slots of the hits are written to `out`, which has a place for every
+    /// entry. They are those that [`Map::hits`] hands out. Refusals: NoRoom, Broken, BadRange or BadInterval, ShortOutput.
+    ///
+    #[cfg_attr(iset_linked, doc = "```")]
+    #[cfg_attr(not(iset_linked), doc = "```no_run")]
+    /// use iset_capi::{Map, Query, Refusal};
+    ///
+    /// # fn main() -> Result<(), Refusal> {
+    /// let (mut nodes, mut colours, mut out) = ([0; 3 * 8], [0; 1], [7; 3]);
+    /// let map = Map::build(&mut nodes, &mut colours, &[10, 20, 1, 10, 30, 2, 25, 40, 3])?;
+    /// let found = map.plain(&nodes, &colours, Query::overlap(20..30), &mut out)?;
+    /// assert_eq!((found.hits, found.entered, out), (2, 3, [1, 2, 7]));
+    /// # Ok(())
+    /// # }
+    /// ```
+    pub fn plain(
+        self,
+        nodes: &[u64],
+        colours: &[u8],
+        query: Query,
+        out: &mut [u64],
+    ) -> Result<Tally, Refusal> {
+        let calls = (ffi::iset_plain as _, ffi::iset_plain_exact as _);
+        self.plain_by(calls, nodes, colours, query, out)
+    }
+
+    fn plain_by(
+        self,
+        calls: (ffi::Plain, ffi::PlainExact),
+        nodes: &[u64],
+        colours: &[u8],
+        query: Query,
+        out: &mut [u64],
+    ) -> Result<Tally, Refusal> {
+        let mut a = [0; 2];
+        let number = query.plain(calls, self, nodes, colours, out, &mut a);
+        told(
+            number,
+            Tally {
+                hits: a[0],
+                entered: a[1],
             },
         )
     }

@@ -142,4 +142,52 @@ impl Query {
             },
         }
     }
+    pub(crate) fn plain(
+        self,
+        (overlap, exact): (ffi::Plain, ffi::PlainExact),
+        map: Map,
+        nodes: &[u64],
+        colours: &[u8],
+        out: &mut [u64],
+        answer: &mut [u64; 2],
+    ) -> u64 {
+        // SAFETY: as in `drain`.
+        match self {
+            Query::Overlap(lo, hi) => unsafe {
+                let (lo, hi) = (numbers(lo), numbers(hi));
+                overlap(
+                    map.count,
+                    map.root,
+                    nodes.as_ptr(),
+                    nodes.len(),
+                    colours.as_ptr(),
+                    colours.len(),
+                    lo.0,
+                    lo.1,
+                    hi.0,
+                    hi.1,
+                    out.as_mut_ptr(),
+                    out.len(),
+                    answer.as_mut_ptr(),
+                    answer.len(),
+                )
+            },
+            Query::Exact { start, end } => unsafe {
+                exact(
+                    map.count,
+                    map.root,
+                    nodes.as_ptr(),
+                    nodes.len(),
+                    colours.as_ptr(),
+                    colours.len(),
+                    start,
+                    end,
+                    out.as_mut_ptr(),
+                    out.len(),
+                    answer.as_mut_ptr(),
+                    answer.len(),
+                )
+            },
+        }
+    }
 }

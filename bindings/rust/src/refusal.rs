@@ -31,7 +31,7 @@ pub enum Refusal {
     BadCursor = 7,
     /// The length of the list to build is no multiple of 3.
     BadList = 8,
-    /// The drain's limit is above the output's length.
+    /// The drain's limit is above the output's length, or a plain lookup's output has fewer places than there are entries.
     ShortOutput = 9,
     /// Of bit vectors and stacks; none of these calls gives it.
     BadBit = 10,

@@ -2,7 +2,7 @@
 use core::iter::FusedIterator;
 use core::ops::{Range, RangeBounds};
 
-use crate::{ffi, Cursor, Inserted, Map, Query, Refusal, Removed, NODE_WORDS, U};
+use crate::{ffi, Cursor, Inserted, Map, Query, Refusal, Removed, Tally, NODE_WORDS, U};
 
 /// How many hits an iterator fetches at a time. A call that goes on tests its cursor, one link a level, and an exact one searches for its beginning
 /// again, which is felt where few are fetched.
@@ -87,6 +87,13 @@ impl<'m> StoreRef<'m> {
             .map
             .fresh_exact_by(call, self.nodes, self.colours, start, end)?;
         Ok(Entries::new(self, Query::Exact { start, end }, from))
+    }
+
+    /// The slots of all hits, without pruning: as [`Map::plain`]. Refusals: BadRange or BadInterval, ShortOutput.
+    pub fn plain(self, query: Query, out: &mut [u64]) -> Result<Tally, Refusal> {
+        let calls = (ffi::iset_open_plain as _, ffi::iset_open_plain_exact as _);
+        self.map
+            .plain_by(calls, self.nodes, self.colours, query, out)
     }
 
     /// Where an overlap lookup begins: what [`Map::fresh`] answers, without a call.

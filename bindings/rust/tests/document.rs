@@ -2,7 +2,7 @@
 #![cfg(iset_linked)]
 use core::ops::Bound;
 
-use iset_capi::{Cursor, Map, Query, Refusal, Step, U};
+use iset_capi::{Cursor, Map, Query, Refusal, Step, Tally, U};
 
 const LIST_A: [u64; 15] = [10, 20, 1, 10, 30, 2, 25, 40, 3, 40, 50, 4, 45, 60, 5];
 const NONE: (u64, u64) = (U, U);
@@ -220,6 +220,52 @@ fn drained() {
         &mut out[..63],
     );
     assert_eq!(short, Err(Refusal::ShortOutput));
+}
+
+#[test]
+fn looked_up_plainly() {
+    let a = Store::of(&LIST_A);
+    let mut out = [7; 6];
+    let ranges = [
+        Query::overlap(20..25),
+        Query::overlap(..),
+        Query::overlap(60..70),
+        Query::Exact { start: 25, end: 40 },
+        Query::Exact { start: 25, end: 41 },
+    ];
+    for query in ranges {
+        let hits = a.all(query, 2).unwrap();
+        let found = Tally {
+            hits: hits.len() as u64,
+            entered: 5,
+        };
+        out.fill(7);
+        assert_eq!(
+            a.map.plain(&a.nodes, &a.colours, query, &mut out),
+            Ok(found)
+        );
+        assert!(out[..hits.len()].eq(&hits[..]));
+        assert!(out[hits.len()..].iter().all(|&place| place == 7));
+    }
+    out.fill(7);
+    let mut refused = |map: Map, query, places| {
+        let why = map.plain(&a.nodes, &a.colours, query, &mut out[..places]);
+        assert_eq!(out, [7; 6]);
+        why.err()
+    };
+    let (all, falling) = (Query::overlap(..), Query::overlap(3..=1));
+    let empty = Query::Exact { start: 9, end: 9 };
+    assert_eq!(refused(a.map, all, 4), Some(Refusal::ShortOutput));
+    assert_eq!(refused(a.map, falling, 4), Some(Refusal::BadRange));
+    assert_eq!(refused(a.map, empty, 4), Some(Refusal::BadInterval));
+    let broken = Map { root: 1, ..a.map };
+    assert_eq!(refused(broken, falling, 4), Some(Refusal::Broken));
+    let none = Map::new().plain(&[], &[], all, &mut []);
+    let nothing = Tally {
+        hits: 0,
+        entered: 0,
+    };
+    assert_eq!(none, Ok(nothing));
 }
 
 #[test]

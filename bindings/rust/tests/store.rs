@@ -2,7 +2,7 @@
 #![cfg(iset_linked)]
 use core::ops::Bound;
 
-use iset_capi::{Entry, Map, Refusal, Store, StoreRef, U};
+use iset_capi::{Entry, Map, Query, Refusal, Store, StoreRef, U};
 
 const SLOTS: usize = 200;
 
@@ -64,6 +64,20 @@ fn remove(store: &mut Store, plain: &mut Plain, chance: &mut Chance) {
     }
 }
 
+/// The plain lookup writes the slots that the other one hands out.
+fn same_slots(store: &Store, query: Query, found: Result<Vec<Entry>, Refusal>) {
+    let mut out = [U; SLOTS];
+    let tally = store.read().plain(query, &mut out);
+    match (tally, found) {
+        (Ok(tally), Ok(found)) => {
+            assert_eq!(tally.entered, store.len() as u64);
+            let slots = out[..tally.hits as usize].iter().copied();
+            assert!(slots.eq(found.iter().map(|entry| entry.slot)));
+        }
+        (tally, found) => assert_eq!(tally.err(), found.err()),
+    }
+}
+
 fn look_up(store: &Store, plain: &Plain, chance: &mut Chance) {
     let (a, w) = (chance.below(320), chance.below(30));
     assert!(store
@@ -78,6 +92,17 @@ fn look_up(store: &Store, plain: &Plain, chance: &mut Chance) {
         Ok(found) => assert!(found.eq(plain.those(|start, end| (start, end) == (a, a + w)))),
         Err(why) => assert_eq!((why, w), (Refusal::BadInterval, 0)),
     }
+    same_slots(
+        store,
+        Query::overlap(open),
+        store.overlap(open).map(Vec::from_iter),
+    );
+    let (start, end) = (a, a + w);
+    same_slots(
+        store,
+        Query::Exact { start, end },
+        store.exact(start..end).map(Vec::from_iter),
+    );
 }
 
 #[test]

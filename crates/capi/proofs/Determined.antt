@@ -26,6 +26,10 @@ use Rattle.capi.proofs.lookup.iset_drain.Reads as drain-reads
 use Rattle.capi.proofs.lookup.iset_drain.Kinds as drain-kinds
 use Rattle.capi.proofs.lookup.iset_drain_exact.Reads as drain-exact-reads
 use Rattle.capi.proofs.lookup.iset_drain_exact.Kinds as drain-exact-kinds
+use Rattle.capi.proofs.scan.iset_plain.Reads as plain-reads
+use Rattle.capi.proofs.scan.iset_plain.Kinds as plain-kinds
+use Rattle.capi.proofs.scan.iset_plain_exact.Reads as plain-exact-reads
+use Rattle.capi.proofs.scan.iset_plain_exact.Kinds as plain-exact-kinds
 
 -- the exits are a product by parameter: the slice of parameter k is at `.1`, k times, then `.0`
 
@@ -120,3 +124,21 @@ pub drain-exact-determined :
     × (now (s .1 .1 .1 .1 .1 .1 .1 .1 .1 .1 .1 .0) ≡ now (s′ .1 .1 .1 .1 .1 .1 .1 .1 .1 .1 .1 .0))
     × (now (s .1 .1 .1 .1 .1 .1 .1 .1 .1 .1 .0) ≡ now (s′ .1 .1 .1 .1 .1 .1 .1 .1 .1 .1 .0))
 drain-exact-determined κs a r r′ s s′ p q = (p .0 ∙ sym (q .0), p .1 ∙ sym (q .1), p .2 ∙ sym (q .2))
+
+pub plain-determined :
+    (κs : Lfts 4) (a : K.Dens κs plain-kinds.ps) (r r′ : K.resT plain-kinds.r κs .Denot)
+    (s s′ : AtExit (K.endedOf 4 plain-kinds.ps plain-kinds.r) κs)
+    → plain-reads.Post κs a r s → plain-reads.Post κs a r′ s′
+    → (r ≡ r′)
+    × (now (s .1 .1 .1 .1 .1 .1 .1 .1 .1 .0) ≡ now (s′ .1 .1 .1 .1 .1 .1 .1 .1 .1 .0))
+    × (now (s .1 .1 .1 .1 .1 .1 .1 .1 .0) ≡ now (s′ .1 .1 .1 .1 .1 .1 .1 .1 .0))
+plain-determined κs a r r′ s s′ p q = (p .0 ∙ sym (q .0), p .1 ∙ sym (q .1), p .2 ∙ sym (q .2))
+
+pub plain-exact-determined :
+    (κs : Lfts 4) (a : K.Dens κs plain-exact-kinds.ps) (r r′ : K.resT plain-exact-kinds.r κs .Denot)
+    (s s′ : AtExit (K.endedOf 4 plain-exact-kinds.ps plain-exact-kinds.r) κs)
+    → plain-exact-reads.Post κs a r s → plain-exact-reads.Post κs a r′ s′
+    → (r ≡ r′)
+    × (now (s .1 .1 .1 .1 .1 .1 .1 .0) ≡ now (s′ .1 .1 .1 .1 .1 .1 .1 .0))
+    × (now (s .1 .1 .1 .1 .1 .1 .0) ≡ now (s′ .1 .1 .1 .1 .1 .1 .0))
+plain-exact-determined κs a r r′ s s′ p q = (p .0 ∙ sym (q .0), p .1 ∙ sym (q .1), p .2 ∙ sym (q .2))

@@ -13,8 +13,9 @@ use Rattle.iset.specs.Build.{buildNumber, buildRule, buildNodes, buildColour}
 use Rattle.iset.specs.Remove.{removeNumber, removeCall, removeNodes, removeColours}
 use Rattle.iset.specs.Insert.{insertNumber, insertCall, insertNodes, insertColours}
 use Rattle.iset.specs.Lookup.{drainNumber, drainCall, drainOutput}
+use Rattle.iset.specs.Plain.{plainNumber, plainCall, plainOutput}
 use Rattle.iset.specs.declared.Map.{Map}
-use Rattle.capi.specs.Replies.{Reply, number, handed, left, buildTold, removeTold, insertTold, drainTold}
+use Rattle.capi.specs.Replies.{Reply, number, handed, left, buildTold, removeTold, insertTold, drainTold, plainTold}
 use Rattle.capi.specs.Ranges.{ranged}
 
 pub answer-kept : (A : List ℕ) (R : Reply) → (number A R ≡ 0 → ⊥) → handed A R ≡ A
@@ -31,7 +32,7 @@ slice-kept A k R old new z d = go (ltb (length A) (length (R .numbers))) d
     go true f = refl
     go false f = rw (ne-eqb k 0 (λ e. f (z e)))
 
--- the output of a drain whose bounds have kinds, or not
+-- the output of a drain or of a plain lookup whose bounds have kinds, or not
 pub ranged-kept : (A : List ℕ) (k : ℕ) (R : Reply) (old new : List ℕ) → (k ≡ 0 → R .no ≡ 0) → (b : Bool) → (number A (ranged b R) ≡ 0 → ⊥)
     → left A R old (cond b (cond (eqb k 0) new old) old) ≡ old
 unfolding ranged left
@@ -96,3 +97,18 @@ module _ (A : List ℕ) (m : Map) (W C : List ℕ) (q : Query) (c : Cursor) (lim
       → left A (drainTold m W C q c limit out) out (cond b (drainOutput m W C q c limit out) out) ≡ out
   unfolding drainOutput
   ranged-output-kept = ranged-kept A (drainNumber m W C q c limit (length out)) (drainTold m W C q c limit out) out _ drain-number
+
+module _ (A : List ℕ) (m : Map) (W C : List ℕ) (q : Query) (out : List ℕ) where
+  plain-number : plainNumber m W C q (length out) ≡ 0 → plainCall m W C q (length out) .no ≡ 0
+  unfolding plainCall
+  plain-number e = rw (eq-eqb (plainNumber m W C q (length out)) 0 e)
+
+  pub plain-output-kept : (number A (plainTold m W C q out) ≡ 0 → ⊥) → left A (plainTold m W C q out) out (plainOutput m W C q out) ≡ out
+  unfolding plainOutput
+  plain-output-kept = slice-kept A (plainNumber m W C q (length out)) (plainTold m W C q out) out _ plain-number
+
+  -- b: whether the bounds have kinds
+  pub ranged-plain-kept : (b : Bool) → (number A (ranged b (plainTold m W C q out)) ≡ 0 → ⊥)
+      → left A (plainTold m W C q out) out (cond b (plainOutput m W C q out) out) ≡ out
+  unfolding plainOutput
+  ranged-plain-kept = ranged-kept A (plainNumber m W C q (length out)) (plainTold m W C q out) out _ plain-number

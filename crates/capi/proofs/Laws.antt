@@ -90,15 +90,19 @@ module _ (A : List ℕ) (R : Reply) (b t : Bool) (e : t ≡ b) where
     unfolding handed
     unbounded-handed = rw (← unbounded-number)
 
--- A lookup by a query that a function made: a step, by its reply, and a drain, by its reply and by what it leaves in the output. They serve the public
--- calls and the opened ones.
-module _ (told : Map → List ℕ → List ℕ → Query → Cursor → Reply)
-    (A : List ℕ) (m : Map) (W C : List ℕ) (c : Cursor) (made query : Query) (e : made ≡ query) where
-  pub step-number : (n : ℕ) → n ≡ number A (told m W C made c) → n ≡ number A (told m W C query c)
-  step-number n p = rw (← e) p
+-- A lookup by a query that a function made: a step or a plain lookup, by its reply, where x is the cursor or the output; what a plain lookup leaves in
+-- the output; and a drain, by its reply and by what it leaves. They serve the public calls and the opened ones.
+module _ {T : Type 0} (told : Map → List ℕ → List ℕ → Query → T → Reply)
+    (A : List ℕ) (m : Map) (W C : List ℕ) (x : T) (made query : Query) (e : made ≡ query) where
+  pub query-number : (n : ℕ) → n ≡ number A (told m W C made x) → n ≡ number A (told m W C query x)
+  query-number n p = rw (← e) p
 
-  pub step-handed : (X : List ℕ) → X ≡ handed A (told m W C made c) → X ≡ handed A (told m W C query c)
-  step-handed X p = rw (← e) p
+  pub query-handed : (X : List ℕ) → X ≡ handed A (told m W C made x) → X ≡ handed A (told m W C query x)
+  query-handed X p = rw (← e) p
+
+pub query-left : (output : Map → List ℕ → List ℕ → Query → List ℕ → List ℕ)
+    (m : Map) (W C : List ℕ) (made query : Query) → made ≡ query → (out X : List ℕ) → X ≡ output m W C made out → X ≡ output m W C query out
+query-left output m W C made query e out X p = rw (← e) p
 
 module _ (told : Map → List ℕ → List ℕ → Query → Cursor → ℕ → List ℕ → Reply)
     (A : List ℕ) (m : Map) (W C : List ℕ) (c : Cursor) (made query : Query) (e : made ≡ query) (limit : ℕ) (out : List ℕ) where

@@ -25,13 +25,14 @@ use Rattle.iset.specs.Build.{BuildAnswer, buildRule}
 use Rattle.iset.specs.Remove.{RemoveAnswer, removeCall}
 use Rattle.iset.specs.Insert.{InsertAnswer, insertCall}
 use Rattle.iset.specs.Lookup.{startCall, stepCall, drainCall}
-use Rattle.iset.specs.Refusals.{Rows, accept, refuse, Exactly, checkRows, buildRows, removeRows, insertRows, startRows, stepRows, drainRows}
+use Rattle.iset.specs.Plain.{plainCall}
+use Rattle.iset.specs.Refusals.{Rows, accept, refuse, Exactly, checkRows, buildRows, removeRows, insertRows, startRows, stepRows, drainRows, plainRows}
 use Rattle.iset.specs.declared.Map.{Map}
-use Rattle.iset.proofs.Refusals.{Lacks, passed-row, failed-row, check-refusals, build-refusals, remove-refusals, insert-refusals, start-refusals, step-refusals, drain-refusals}
+use Rattle.iset.proofs.Refusals.{Lacks, passed-row, failed-row, check-refusals, build-refusals, remove-refusals, insert-refusals, start-refusals, step-refusals, drain-refusals, plain-refusals}
 use Rattle.iset.proofs.BitRefusals.{Fails, le-fails, and-fails}
-use Rattle.capi.specs.Replies.{Reply, number, handed, stepTold, drainTold}
+use Rattle.capi.specs.Replies.{Reply, number, handed, stepTold, drainTold, plainTold}
 use Rattle.capi.specs.Ranges.{boundOf, rangeOf, kinds, ranged}
-use Rattle.capi.specs.Places.{Told, BadBound, stepPlaces, drainPlaces}
+use Rattle.capi.specs.Places.{Told, BadBound, stepPlaces, drainPlaces, plainPlaces}
 use Rattle.capi.proofs.iset_check.Reads as check-reads
 use Rattle.capi.proofs.iset_check.Kinds as check-kinds
 use Rattle.capi.proofs.iset_build.Reads as build-reads
@@ -52,6 +53,10 @@ use Rattle.capi.proofs.lookup.iset_drain.Reads as drain-reads
 use Rattle.capi.proofs.lookup.iset_drain.Kinds as drain-kinds
 use Rattle.capi.proofs.lookup.iset_drain_exact.Reads as drain-exact-reads
 use Rattle.capi.proofs.lookup.iset_drain_exact.Kinds as drain-exact-kinds
+use Rattle.capi.proofs.scan.iset_plain.Reads as plain-reads
+use Rattle.capi.proofs.scan.iset_plain.Kinds as plain-kinds
+use Rattle.capi.proofs.scan.iset_plain_exact.Reads as plain-exact-reads
+use Rattle.capi.proofs.scan.iset_plain_exact.Kinds as plain-exact-kinds
 
 -- the kinds of a bound: 0 Included, 1 Excluded, 2 Unbounded
 pub bounds-are : (x : ℕ) → (boundOf 0 x ≡ Included x) × (boundOf 1 x ≡ Excluded x) × (boundOf 2 x ≡ Unbounded)
@@ -250,3 +255,47 @@ drain-exact-told κs a r s p =
     told (drainRows m W C q c limit (length out)) (drainTold m W C q c limit out)
     (now (b .1 .1 .1 .1 .1 .1 .1 .0)) (now (s .1 .1 .1 .1 .1 .1 .1 .1 .1 .1 .1 .0)) r
     (omega arith) (drain-refusals m W C c limit q (length out)) (p .0) (p .1)
+
+-- `iset_plain`
+pub plain-told : (κs : Lfts 4) (a : K.Dens κs plain-kinds.ps) (r : K.resT plain-kinds.r κs .Denot) (s : AtExit (K.endedOf 4 plain-kinds.ps plain-kinds.r) κs)
+    → plain-reads.Post κs a r s
+    → let m : Map = record { count = a .0; root = a .1 .0 } in
+    let W : List ℕ = now (a .1 .1 .0) in
+    let C : List ℕ = now (a .1 .1 .1 .0) in
+    let b = a .1 .1 .1 .1 in
+    let q : Query = rangeOf (b .0) (b .1 .0) (b .1 .1 .0) (b .1 .1 .1 .0) in
+    let out : List ℕ = now (b .1 .1 .1 .1 .0) in
+    Told (refuse 102 (BadBound (b .0) (b .1 .1 .0)) (plainRows m W C q (length out))) (plainPlaces (plainCall m W C q (length out)))
+    (now (b .1 .1 .1 .1 .1 .0)) (now (s .1 .1 .1 .1 .1 .1 .1 .1 .1 .0)) r
+plain-told κs a r s p =
+    let m : Map = record { count = a .0; root = a .1 .0 } in
+    let W : List ℕ = now (a .1 .1 .0) in
+    let C : List ℕ = now (a .1 .1 .1 .0) in
+    let b = a .1 .1 .1 .1 in
+    let q : Query = rangeOf (b .0) (b .1 .0) (b .1 .1 .0) (b .1 .1 .1 .0) in
+    let out : List ℕ = now (b .1 .1 .1 .1 .0) in
+    told-ranged (plainRows m W C q (length out)) (plainTold m W C q out)
+    (now (b .1 .1 .1 .1 .1 .0)) (now (s .1 .1 .1 .1 .1 .1 .1 .1 .1 .0)) r
+    (b .0) (b .1 .1 .0) (omega arith) (omega arith) (plain-refusals m W C q (length out)) (p .0) (p .1)
+
+-- `iset_plain_exact`
+pub plain-exact-told : (κs : Lfts 4) (a : K.Dens κs plain-exact-kinds.ps) (r : K.resT plain-exact-kinds.r κs .Denot) (s : AtExit (K.endedOf 4 plain-exact-kinds.ps plain-exact-kinds.r) κs)
+    → plain-exact-reads.Post κs a r s
+    → let m : Map = record { count = a .0; root = a .1 .0 } in
+    let W : List ℕ = now (a .1 .1 .0) in
+    let C : List ℕ = now (a .1 .1 .1 .0) in
+    let b = a .1 .1 .1 .1 in
+    let q : Query = Exact (record { start = b .0; end = b .1 .0 }) in
+    let out : List ℕ = now (b .1 .1 .0) in
+    Told (plainRows m W C q (length out)) (plainPlaces (plainCall m W C q (length out)))
+    (now (b .1 .1 .1 .0)) (now (s .1 .1 .1 .1 .1 .1 .1 .0)) r
+plain-exact-told κs a r s p =
+    let m : Map = record { count = a .0; root = a .1 .0 } in
+    let W : List ℕ = now (a .1 .1 .0) in
+    let C : List ℕ = now (a .1 .1 .1 .0) in
+    let b = a .1 .1 .1 .1 in
+    let q : Query = Exact (record { start = b .0; end = b .1 .0 }) in
+    let out : List ℕ = now (b .1 .1 .0) in
+    told (plainRows m W C q (length out)) (plainTold m W C q out)
+    (now (b .1 .1 .1 .0)) (now (s .1 .1 .1 .1 .1 .1 .1 .0)) r
+    (omega arith) (plain-refusals m W C q (length out)) (p .0) (p .1)

@@ -5,6 +5,7 @@ use mathlib.Core.List.{List, [], _∷_}
 use Prim.Native.Nat.{ℕ, _<_}
 use lib.ListN.{length, take, drop}
 use Rattle.iset.specs.Lookup.{StepAnswer, DrainAnswer}
+use Rattle.iset.specs.Plain.{PlainAnswer}
 use Rattle.iset.specs.Refusals.{Rows, refuse, Exactly}
 
 -- The number r is given exactly as the rows say, after 101, ShortAnswer: the answer has fewer places than there are numbers. After 0 the first
@@ -17,9 +18,13 @@ pub record Told (rows : Rows) (l A X : List ℕ) (r : ℕ) : Type 0 where
 abbrev pub BadBound : ℕ → ℕ → Type 0
 BadBound lo-kind hi-kind = (2 < lo-kind) ⊎ (2 < hi-kind)
 
--- the places of a step: its slot, the next cursor's slot, levels, bits, the nodes entered; of a drain: the hits, the nodes entered, the next cursor
+-- the places of a step: its slot, the next cursor's slot, levels, bits, the nodes entered; of a drain: the hits, the nodes entered, the next cursor;
+-- of a plain lookup: the hits, the entries gone through
 abbrev pub stepPlaces : StepAnswer → List ℕ
 stepPlaces b = b .slot ∷ b .next .slot ∷ b .next .levels ∷ b .next .bits ∷ b .entered ∷ []
 
 abbrev pub drainPlaces : DrainAnswer → List ℕ
 drainPlaces b = b .hits ∷ b .entered ∷ b .next .slot ∷ b .next .levels ∷ b .next .bits ∷ []
+
+abbrev pub plainPlaces : PlainAnswer → List ℕ
+plainPlaces b = b .hits ∷ b .entered ∷ []

@@ -17,6 +17,7 @@ use Rattle.iset.specs.Build.{BuildAnswer, buildRule}
 use Rattle.iset.specs.Remove.{RemoveAnswer, removeCall}
 use Rattle.iset.specs.Insert.{InsertAnswer, insertCall}
 use Rattle.iset.specs.Lookup.{StartAnswer, StepAnswer, DrainAnswer, startCall, stepCall, drainCall}
+use Rattle.iset.specs.Plain.{PlainAnswer, plainCall}
 use Rattle.iset.specs.declared.Map.{Map}
 
 pub record Reply : Type 0 where
@@ -101,6 +102,13 @@ drainNumbers hits entered next = hits ∷ entered ∷ cursorNumbers next
 abbrev pub drainReply : DrainAnswer → Reply
 drainReply a = record { no = a .no; numbers = drainNumbers (a .hits) (a .entered) (a .next) }
 
+-- a plain lookup: the hits written, the entries gone through
+abbrev pub plainNumbers : ℕ → ℕ → List ℕ
+plainNumbers hits entered = hits ∷ entered ∷ []
+
+abbrev pub plainReply : PlainAnswer → Reply
+plainReply a = record { no = a .no; numbers = plainNumbers (a .hits) (a .entered) }
+
 -- the replies of the public calls
 abbrev pub buildTold : List ℕ → List ℕ → List ℕ → Reply
 buildTold W C S = buildReply (buildRule W C S)
@@ -119,3 +127,6 @@ stepTold m W C q c = stepReply (stepCall m W C q c)
 
 abbrev pub drainTold : Map → List ℕ → List ℕ → Query → Cursor → ℕ → List ℕ → Reply
 drainTold m W C q c limit out = drainReply (drainCall m W C q c limit (length out))
+
+abbrev pub plainTold : Map → List ℕ → List ℕ → Query → List ℕ → Reply
+plainTold m W C q out = plainReply (plainCall m W C q (length out))

@@ -5,12 +5,13 @@ use iset::remove::Gone;
 use iter::Cursor;
 use iter::drain::Drained;
 use iter::seek::Step;
+use plain::Tally;
 use words::ix::U;
 ghost use mathlib.Core.Path.{_≡_};
 ghost use Prim.Native.Nat.{_≤_};
 ghost use lib.ListN.{length};
 ghost use Rattle.iter.specs.Drains.{filled};
-ghost use Rattle.capi.specs.Replies.{mapNumbers, goneNumbers, addedNumbers, cursorNumbers, stepNumbers, foundNumbers, drainNumbers};
+ghost use Rattle.capi.specs.Replies.{mapNumbers, goneNumbers, addedNumbers, cursorNumbers, stepNumbers, foundNumbers, drainNumbers, plainNumbers};
 
 // Writes the numbers to the front of the answer. Places past them stay.
 pub(crate) fn put(numbers: &[u64], answer: &mut [u64])
@@ -90,5 +91,13 @@ pub fn put_drained(d: Drained, answer: &mut [u64])
     ensures { λ _. ⌜ now (answer .exit) ≡ filled (drainNumbers (d .hits) (d .entered) (d .next)) (now (answer .entry)) ⌝ }
 {
     let numbers = [d.hits, d.entered, d.next.slot, d.next.levels, d.next.bits];
+    put(&numbers, answer);
+}
+
+pub fn put_tally(t: Tally, answer: &mut [u64])
+    requires { ⌜ 2 ≤ length (now answer) ⌝ }
+    ensures { λ _. ⌜ now (answer .exit) ≡ filled (plainNumbers (t .hits) (t .entered)) (now (answer .entry)) ⌝ }
+{
+    let numbers = [t.hits, t.entered];
     put(&numbers, answer);
 }

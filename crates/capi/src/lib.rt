@@ -7,6 +7,7 @@
 pub mod answer;
 pub mod lookup;
 pub mod range;
+pub mod scan;
 
 use crate::answer::put_added;
 use crate::answer::put_gone;

@@ -18,6 +18,10 @@ use Rattle.capi_open.proofs.lookup.iset_open_drain.Reads as drain-reads
 use Rattle.capi_open.proofs.lookup.iset_open_drain.Kinds as drain-kinds
 use Rattle.capi_open.proofs.lookup.iset_open_drain_exact.Reads as drain-exact-reads
 use Rattle.capi_open.proofs.lookup.iset_open_drain_exact.Kinds as drain-exact-kinds
+use Rattle.capi_open.proofs.scan.iset_open_plain.Reads as plain-reads
+use Rattle.capi_open.proofs.scan.iset_open_plain.Kinds as plain-kinds
+use Rattle.capi_open.proofs.scan.iset_open_plain_exact.Reads as plain-exact-reads
+use Rattle.capi_open.proofs.scan.iset_open_plain_exact.Kinds as plain-exact-kinds
 use Rattle.capi_open.proofs.lookup.iset_open_at.Reads as at-reads
 use Rattle.capi_open.proofs.lookup.iset_open_at.Kinds as at-kinds
 
@@ -93,3 +97,21 @@ pub at-determined :
     × (now (s .1 .1 .1 .1 .1 .1 .0) ≡ now (s′ .1 .1 .1 .1 .1 .1 .0))
     × (now (s .1 .1 .1 .1 .1 .0) ≡ now (s′ .1 .1 .1 .1 .1 .0))
 at-determined κs a r r′ s s′ p q = (p .0 ∙ sym (q .0), p .1 ∙ sym (q .1), p .2 ∙ sym (q .2))
+
+pub plain-determined :
+    (κs : Lfts 4) (a : K.Dens κs plain-kinds.ps) (r r′ : K.resT plain-kinds.r κs .Denot)
+    (s s′ : AtExit (K.endedOf 4 plain-kinds.ps plain-kinds.r) κs)
+    → plain-reads.Post κs a r s → plain-reads.Post κs a r′ s′
+    → (r ≡ r′)
+    × (now (s .1 .1 .1 .1 .1 .1 .1 .1 .1 .0) ≡ now (s′ .1 .1 .1 .1 .1 .1 .1 .1 .1 .0))
+    × (now (s .1 .1 .1 .1 .1 .1 .1 .1 .0) ≡ now (s′ .1 .1 .1 .1 .1 .1 .1 .1 .0))
+plain-determined κs a r r′ s s′ p q = (p .0 ∙ sym (q .0), p .1 ∙ sym (q .1), p .2 ∙ sym (q .2))
+
+pub plain-exact-determined :
+    (κs : Lfts 4) (a : K.Dens κs plain-exact-kinds.ps) (r r′ : K.resT plain-exact-kinds.r κs .Denot)
+    (s s′ : AtExit (K.endedOf 4 plain-exact-kinds.ps plain-exact-kinds.r) κs)
+    → plain-exact-reads.Post κs a r s → plain-exact-reads.Post κs a r′ s′
+    → (r ≡ r′)
+    × (now (s .1 .1 .1 .1 .1 .1 .1 .0) ≡ now (s′ .1 .1 .1 .1 .1 .1 .1 .0))
+    × (now (s .1 .1 .1 .1 .1 .1 .0) ≡ now (s′ .1 .1 .1 .1 .1 .1 .0))
+plain-exact-determined κs a r r′ s s′ p q = (p .0 ∙ sym (q .0), p .1 ∙ sym (q .1), p .2 ∙ sym (q .2))

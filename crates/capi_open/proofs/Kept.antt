@@ -12,11 +12,12 @@ use Rattle.iter.specs.declared.rules.Query.{Query}
 use Rattle.iset.specs.Remove.{openRemoveNumber, openRemoveCall, openRemoveNodes, openRemoveColours}
 use Rattle.iset.specs.Insert.{openInsertNumber, openInsertCall, openInsertNodes, openInsertColours}
 use Rattle.iset.specs.Lookup.{openDrainNumber, openDrainCall, openDrainOutput}
+use Rattle.iset.specs.Plain.{openPlainNumber, openPlainCall, openPlainOutput}
 use Rattle.iset.specs.declared.Map.{Map}
 use Rattle.capi.specs.Replies.{number, left}
 use Rattle.capi.specs.Ranges.{ranged}
 use Rattle.capi.proofs.Kept.{slice-kept, ranged-kept}
-use Rattle.capi_open.specs.Replies.{openRemoveTold, openInsertTold, openDrainTold}
+use Rattle.capi_open.specs.Replies.{openRemoveTold, openInsertTold, openDrainTold, openPlainTold}
 
 module _ (A : List ℕ) (m : Map) (W C : List ℕ) (s : ℕ) (d : number A (openRemoveTold m W C s) ≡ 0 → ⊥) where
   remove-number : openRemoveNumber m W C s ≡ 0 → openRemoveCall m W C s .no ≡ 0
@@ -60,3 +61,20 @@ module _ (A : List ℕ) (m : Map) (W C : List ℕ) (q : Query) (c : Cursor) (lim
       → left A (openDrainTold m W C q c limit out) out (cond b (openDrainOutput m W C q c limit out) out) ≡ out
   unfolding openDrainOutput
   open-ranged-output-kept = ranged-kept A (openDrainNumber m W C q c limit (length out)) (openDrainTold m W C q c limit out) out _ drain-number
+
+module _ (A : List ℕ) (m : Map) (W C : List ℕ) (q : Query) (out : List ℕ) where
+  plain-number : openPlainNumber m W C q (length out) ≡ 0 → openPlainCall m W C q (length out) .no ≡ 0
+  unfolding openPlainCall
+  plain-number e = rw (eq-eqb (openPlainNumber m W C q (length out)) 0 e)
+
+  -- of iset_open_plain_exact
+  pub open-plain-output-kept : (number A (openPlainTold m W C q out) ≡ 0 → ⊥)
+      → left A (openPlainTold m W C q out) out (openPlainOutput m W C q out) ≡ out
+  unfolding openPlainOutput
+  open-plain-output-kept = slice-kept A (openPlainNumber m W C q (length out)) (openPlainTold m W C q out) out _ plain-number
+
+  -- of iset_open_plain; b: whether the bounds have kinds
+  pub open-ranged-plain-kept : (b : Bool) → (number A (ranged b (openPlainTold m W C q out)) ≡ 0 → ⊥)
+      → left A (openPlainTold m W C q out) out (cond b (openPlainOutput m W C q out) out) ≡ out
+  unfolding openPlainOutput
+  open-ranged-plain-kept = ranged-kept A (openPlainNumber m W C q (length out)) (openPlainTold m W C q out) out _ plain-number

@@ -10,9 +10,9 @@ use Rattle.iter.specs.declared.Cursor.{Cursor}
 use Rattle.iter.specs.declared.rules.Query.{Query}
 use Rattle.iset.specs.Check.{checkRule}
 use Rattle.iset.specs.declared.Map.{Map}
-use Rattle.iset.proofs.Opened.{remove-is, insert-is, fresh-exact-is, step-is, drain-is}
-use Rattle.capi.specs.Replies.{removeReply, insertReply, startReply, stepReply, drainReply, removeTold, insertTold, startTold, stepTold, drainTold}
-use Rattle.capi_open.specs.Replies.{openRemoveTold, openInsertTold, openStartTold, openStepTold, openDrainTold}
+use Rattle.iset.proofs.Opened.{remove-is, insert-is, fresh-exact-is, step-is, drain-is, plain-is}
+use Rattle.capi.specs.Replies.{removeReply, insertReply, startReply, stepReply, drainReply, plainReply, removeTold, insertTold, startTold, stepTold, drainTold, plainTold}
+use Rattle.capi_open.specs.Replies.{openRemoveTold, openInsertTold, openStartTold, openStepTold, openDrainTold, openPlainTold}
 
 module _ (m : Map) (W C : List ℕ) (h : checkRule m W C ≡ 0) where
   pub remove-told-is : (s : ℕ) → openRemoveTold m W C s ≡ removeTold m W C s
@@ -29,3 +29,6 @@ module _ (m : Map) (W C : List ℕ) (h : checkRule m W C ≡ 0) where
 
   pub drain-told-is : (q : Query) (c : Cursor) (limit : ℕ) (out : List ℕ) → openDrainTold m W C q c limit out ≡ drainTold m W C q c limit out
   drain-told-is q c limit out = ap drainReply (drain-is m W C h q c limit (length out))
+
+  pub plain-told-is : (q : Query) (out : List ℕ) → openPlainTold m W C q out ≡ plainTold m W C q out
+  plain-told-is q out = ap plainReply (plain-is m W C h q (length out))

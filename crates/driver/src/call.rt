@@ -25,7 +25,7 @@ pub enum Call {
 fn place_of(name: &[u8]) -> usize {
     given::which(
         name,
-        b"store ;bytes ;commit;check;build ;remove ;insert ;fresh o ;step o ;drain o ;fresh e ;step e ;drain e ;bget ;bset ;bpush ;bpop ;bswap ;bfrom ;spush ;spop ;sleft ;smatch ;sright ;scanleft ;scanmatch ;scanright ;sempty ;last;",
+        b"store ;bytes ;commit;check;build ;remove ;insert ;fresh o ;step o ;drain o ;fresh e ;step e ;drain e ;bget ;bset ;bpush ;bpop ;bswap ;bfrom ;spush ;spop ;sleft ;smatch ;sright ;scanleft ;scanmatch ;scanright ;sempty ;last;plain o ;plain e ;",
     )
 }
 
@@ -60,6 +60,8 @@ fn call_at(place: usize) -> Call {
         26 => Call::Stack(stacks::Call::CanGoRight),
         27 => Call::Stack(stacks::Call::IsEmpty),
         28 => Call::Last,
+        29 => Call::Lookup(lookups::Call::Plain, Kind::Overlap),
+        30 => Call::Lookup(lookups::Call::Plain, Kind::Exact),
         _ => Call::Unknown,
     }
 }

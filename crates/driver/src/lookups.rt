@@ -3,6 +3,7 @@ mod drain;
 mod fresh;
 pub mod query;
 mod reply;
+mod scan;
 mod step;
 
 use crate::answer;
@@ -23,6 +24,7 @@ pub enum Call {
     Fresh,
     Step,
     Drain,
+    Plain,
 }
 
 // How many numbers the call has after its query.
@@ -33,19 +35,43 @@ fn count_of(call: Call) -> usize
         Call::Fresh => 0,
         Call::Step => 3,
         Call::Drain => 5,
+        Call::Plain => 1,
     }
 }
 
-// The places of a drain's output, at most 4,096.
-fn room(kind: Kind, numbers: &[u64]) -> u64 {
-    query::after(kind, numbers, 4)
+// How many numbers its answer has after the refusal's.
+fn answer_size(call: Call) -> usize {
+    match call {
+        Call::Fresh => 3,
+        Call::Step => 5,
+        Call::Drain => 5,
+        Call::Plain => 2,
+    }
+}
+
+// Whether it writes hits to an output.
+fn has_output(call: Call) -> bool {
+    match call {
+        Call::Drain => true,
+        Call::Plain => true,
+        _ => false,
+    }
+}
+
+// The places of the output, at most 4,096: the last number.
+fn room(call: Call, kind: Kind, numbers: &[u64]) -> u64 {
+    match call {
+        Call::Drain => query::after(kind, numbers, 4),
+        Call::Plain => query::after(kind, numbers, 0),
+        _ => 0,
+    }
 }
 
 // Whether the numbers are those of the call.
 pub(crate) fn fits(call: Call, kind: Kind, numbers: &[u64]) -> bool {
     (numbers.len() == query::size(kind) + count_of(call))
         & query::fits(kind, numbers)
-        & (room(kind, numbers) <= 4096)
+        & (room(call, kind, numbers) <= 4096)
 }
 
 fn done(
@@ -61,6 +87,7 @@ fn done(
         Call::Fresh => fresh::fresh(m, kind, numbers, nodes, colours),
         Call::Step => step::step(m, kind, numbers, nodes, colours),
         Call::Drain => drain::drain(m, kind, numbers, nodes, colours, hits),
+        Call::Plain => scan::plain(m, kind, numbers, nodes, colours, hits),
     }
 }
 
@@ -93,9 +120,9 @@ fn in_store(
     )
 }
 
-// After the numbers of a drain comes all of its output.
+// After the numbers of a call that has an output comes all of it.
 fn put_hits(call: Call, hits: &[u64], out: &mut [u8], to: usize) -> usize {
-    if let Call::Drain = call {
+    if has_output(call) {
         let first = output::put_next(out, to, hits.len() as u64);
         answer::put_first(hits, hits.len(), out, first)
     } else {
@@ -103,11 +130,11 @@ fn put_hits(call: Call, hits: &[u64], out: &mut [u8], to: usize) -> usize {
     }
 }
 
-// The line of a step or a drain, which leaves the store as it is.
+// The line of a step, a drain or a plain lookup, which leaves the store as it is.
 fn line(s: State, call: Call, a: Reply, words: &mut [u64], hits: &[u64], out: &mut [u8]) -> State {
     let numbers = a.numbers;
     copy::begin(s, words);
-    let first = answer::put_numbers(a.no, &numbers, 5, out, s.to);
+    let first = answer::put_numbers(a.no, &numbers, answer_size(call), out, s.to);
     let to = put_hits(call, hits, out, first);
     copy::end(s, s.count, s.root, 0, words, out, to)
 }
@@ -136,7 +163,7 @@ fn into(
     }
 }
 
-// The output: a number in each place by which one can see what a drain leaves alone.
+// The output: a number in each place by which one can see what a lookup leaves alone.
 fn hits_space() -> [u64; 4096]
     ensures { λ r. ⌜ 4096 ≡ length r ⌝ }
 {
@@ -152,6 +179,6 @@ pub(crate) fn request(
     out: &mut [u8],
 ) -> State {
     let mut hits = hits_space();
-    let there = arena::least(room(kind, numbers) as usize, 4096);
+    let there = arena::least(room(call, kind, numbers) as usize, 4096);
     into(s, call, kind, numbers, words, &mut hits[..there], out)
 }

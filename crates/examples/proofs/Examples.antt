@@ -23,11 +23,13 @@ use Rattle.iter.specs.Forms.{onSide, formed, heldForm, formOf}
 use Rattle.iter.specs.Overlap.{meets, shouldGo}
 use Rattle.iter.specs.Exact.{equals, sorted as sortedBy, shouldGoExact, find}
 use Rattle.iter.specs.Queries.{rules}
+use Rattle.plain_laws.specs.Tour.{ascend, nextOf, firstOf, tour, entries, plain}
 use Rattle.iset.specs.Check.{countNumber, checkRule}
 use Rattle.iset.specs.Build.{buildNumber, buildRule, buildNodes, buildColour}
 use Rattle.iset.specs.Remove.{removeNumber, removeCall, removeNodes, removeColours, openRemoveNumber}
 use Rattle.iset.specs.Insert.{fullNumber, openInsertNumber, roomThenCheck, insertNumber, insertCall, insertNodes, insertColours}
 use Rattle.iset.specs.Lookup.{startNumber, stepNumber, drainNumber, startCall, stepCall, drainCall, drainOutput, openStartNumber, openStepNumber, openDrainNumber}
+use Rattle.iset.specs.Plain.{openPlainNumber, plainNumber, plainCall, plainOutput}
 use Rattle.examples.specs.Stores.{buildIn, _minus_, _plus_, treeAt, treeOf, touched, boundOf}
 use Rattle.examples.specs.Rows.{Each, outcome, stepsFrom, foundFrom, leftIn, tell}
 use Rattle.examples.specs.Table.{storeA, storeA′, storeB, storeC, table}
@@ -73,6 +75,10 @@ looking : Unit {0}
 unfolding meets shouldGo equals sortedBy shouldGoExact find rules openStartNumber openStepNumber openDrainNumber startNumber stepNumber drainNumber startCall stepCall drainCall drainOutput
 looking = record {}
 
+touring : Unit {0}
+unfolding ascend nextOf firstOf tour entries plain openPlainNumber plainNumber plainCall plainOutput
+touring = record {}
+
 changing : Unit {0}
 unfolding buildNumber buildRule buildNodes buildColour openRemoveNumber removeNumber removeCall removeNodes removeColours fullNumber openInsertNumber roomThenCheck insertNumber insertCall insertNodes insertColours
 changing = record {}
@@ -83,5 +89,5 @@ telling = record {}
 
 -- one `refl` a row, in the table's order
 pub examples : Each table
-unfolding reading checking building repairing naming removing inserting reaching walking looking changing telling
-examples = (refl, (refl, (refl, (refl, (refl, (refl, (refl, (refl, (refl, (refl, (refl, (refl, (refl, (refl, (refl, (refl, (refl, (refl, (refl, (refl, (refl, (refl, (refl, (refl, (refl, (refl, (refl, (refl, (refl, (refl, (refl, (refl, (refl, (refl, (refl, record {})))))))))))))))))))))))))))))))))))
+unfolding reading checking building repairing naming removing inserting reaching walking looking touring changing telling
+examples = (refl, (refl, (refl, (refl, (refl, (refl, (refl, (refl, (refl, (refl, (refl, (refl, (refl, (refl, (refl, (refl, (refl, (refl, (refl, (refl, (refl, (refl, (refl, (refl, (refl, (refl, (refl, (refl, (refl, (refl, (refl, (refl, (refl, (refl, (refl, (refl, (refl, (refl, record {}))))))))))))))))))))))))))))))))))))))

@@ -22,6 +22,7 @@ use Rattle.iset.specs.Build.{BuildAnswer, buildRule}
 use Rattle.iset.specs.Remove.{RemoveAnswer, removeCall, removeColours}
 use Rattle.iset.specs.Insert.{InsertAnswer, insertCall}
 use Rattle.iset.specs.Lookup.{StartAnswer, StepAnswer, DrainAnswer, startCall, stepCall, drainCall, drainOutput}
+use Rattle.iset.specs.Plain.{PlainAnswer, plainCall, plainOutput}
 use Rattle.examples.specs.Stores.{Store, buildIn, _plus_, treeOf, touched, boundOf}
 
 -- a pair (old slot, new slot)
@@ -63,6 +64,7 @@ pub data Call : Type 0 where
   step : Store → Bound → Bound → Call
   drain : Store → Bound → Bound → Cursor → ℕ → List ℕ → Call
   exact : Store → Interval → Call
+  plain : Store → Query → List ℕ → Call
 
 -- what a build or an insertion leaves; the tree says which node has which children
 pub record Left : Type 0 where
@@ -83,7 +85,7 @@ pub record Limits : Type 0 where
   pub bound : ℕ
 
 -- What is told. Of a build, a removal and an insertion: the answer, and what it leaves, of a removal the colour bytes. Of an overlap lookup: what is
--- found, t and the bound; of its first step: the whole answer; of a drain: the answer and the output. Of an exact lookup: the answer of
+-- found, t and the bound; of its first step: the whole answer; of a drain and of a plain lookup: the answer and the output. Of an exact lookup: the answer of
 -- `fresh_exact`, and what is found from its cursor on.
 pub data Told : Type 0 where
   built : BuildAnswer → Left → Told
@@ -95,6 +97,7 @@ pub data Told : Type 0 where
   stepped : StepAnswer → Told
   drained : DrainAnswer → List ℕ → Told
   started : StartAnswer → Found → Told
+  looked : PlainAnswer → List ℕ → Told
 
 infix 68 _gives_
 pub data Row : Type 0 where
@@ -147,6 +150,7 @@ tell (drain t lo hi c limit out) =
 tell (exact t x) =
     let a : StartAnswer = startCall (t .map) (t .words) (t .colours) x in
     started a (foundFrom t (Exact x) (a .cursor))
+tell (plain t q out) = looked (plainCall (t .map) (t .words) (t .colours) q (length out)) (plainOutput (t .map) (t .words) (t .colours) q out)
 
 -- a row holds if the rules tell what it says; a table, if each of its rows holds
 abbrev pub Holds : Row → Type 0

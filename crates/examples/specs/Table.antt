@@ -13,8 +13,9 @@ use Rattle.words.specs.declared.refusal.Refusal.the-variants.{NoSuch, BadRange,
 use Rattle.tree.specs.Tree.{Tree, leaf, node}
 use Rattle.iter.specs.Cursors.{fresh, ended}
 use Rattle.iter.specs.declared.Cursor.{Cursor}
+use Rattle.iter.specs.declared.rules.Query.the-variants.{Overlap, Exact}
 use Rattle.examples.specs.Stores.{Store, buildIn, _minus_, _plus_}
-use Rattle.examples.specs.Rows.{Row, _gives_, _to_, moved, colours, _entering_, hit, end, build, remove, insert, rootRight, slot, overlap, step, drain, exact, built, removed, inserted, link, holds, found, stepped, drained, started}
+use Rattle.examples.specs.Rows.{Row, _gives_, _to_, moved, colours, _entering_, hit, end, build, remove, insert, rootRight, slot, overlap, step, drain, exact, plain, span, built, removed, inserted, link, holds, found, stepped, drained, started, looked}
 
 -- "Store A, built from [10,20) 1, [10,30) 2, [25,40) 3, [40,50) 4, [45,60) 5", in 40 words and a byte
 abbrev pub listA : List ℕ
@@ -196,4 +197,10 @@ table =
     drained (record { no = 0; hits = 65; entered = 65; next = ended }) (from 0 65 ++ (7 ∷ [])) ∷
     drain storeC Unbounded Unbounded (fresh 32) 64 (replicate 66 7) gives
     drained (record { no = 0; hits = 64; entered = 64; next = held 63 5 511 }) (from 0 64 ++ (7 ∷ 7 ∷ [])) ∷
+    -- document 02, item 5: the plain lookup goes through all five entries, and has the one hit that the pruned one has
+    plain storeA (Overlap (span (Included 20) (Excluded 25))) (7 ∷ 7 ∷ 7 ∷ 7 ∷ 7 ∷ 7 ∷ []) gives
+    looked (record { no = 0; hits = 1; entered = 5 }) (1 ∷ 7 ∷ 7 ∷ 7 ∷ 7 ∷ 7 ∷ []) ∷
+    -- three equal entries, in tree order; and 9, "where the output is shorter than the map's count", though no entry is equal
+    plain storeB (Exact (5 until 9)) (7 ∷ 7 ∷ 7 ∷ []) gives looked (record { no = 0; hits = 3; entered = 3 }) (0 ∷ 1 ∷ 2 ∷ []) ∷
+    plain storeB (Exact (5 until 8)) (7 ∷ 7 ∷ []) gives looked (record { no = refusalNumber ShortOutput; hits = 0; entered = 0 }) (7 ∷ 7 ∷ []) ∷
     []

@@ -28,6 +28,7 @@ use Rattle.iter.specs.Exact.{equals}
 use Rattle.iter.specs.declared.Cursor.{Cursor}
 use Rattle.iter.specs.declared.drain.Drained.{Drained}
 use Rattle.iter.specs.declared.seek.Step.the-variants.{Hit, End}
+use Rattle.plain.specs.declared.Tally.{Tally}
 use Rattle.iter.specs.declared.rules.Query.the-variants.{Exact}
 use Rattle.iter_laws.specs.Highest.{Highest}
 use Rattle.iter_laws.proofs.ExactRuns.{exact-start}
@@ -36,6 +37,7 @@ use Rattle.iset.specs.Build.{buildNumber, buildPaper, buildRule, buildNo
 use Rattle.iset.specs.Remove.{removeNumber, removePaper, removeCall, removeNodes, removeColours}
 use Rattle.iset.specs.Insert.{insertNumber, insertPaper, insertCall, insertNodes, insertColours}
 use Rattle.iset.specs.Lookup.{startNumber, startPaper, startCall, stepPaper, stepCall, drainPaper, drainCall}
+use Rattle.iset.specs.Plain.{plainPaper, plainCall}
 use Rattle.iset.specs.Demands.{removal, insertion}
 use Rattle.iset.specs.declared.Map.{Map}
 use Rattle.iset.specs.declared.build.Built.the-variants as built
@@ -46,6 +48,7 @@ use Rattle.iset.specs.declared.insert.Insertion.the-variants as inserted
 use Rattle.iset.specs.declared.lookup.Started.the-variants as started
 use Rattle.iset.specs.declared.lookup.Stepped.the-variants as stepped
 use Rattle.iset.specs.declared.lookup.Emptied.the-variants as emptied
+use Rattle.iset.specs.declared.scan.Looked.the-variants as looked
 use Rattle.iset.proofs.Map.build.Reads as build-reads
 use Rattle.iset.proofs.Map.build.Kinds as build-kinds
 use Rattle.iset.proofs.Map.remove.Reads as remove-reads
@@ -58,6 +61,8 @@ use Rattle.iset.proofs.Map.step.Reads as step-reads
 use Rattle.iset.proofs.Map.step.Kinds as step-kinds
 use Rattle.iset.proofs.Map.drain.Reads as drain-reads
 use Rattle.iset.proofs.Map.drain.Kinds as drain-kinds
+use Rattle.iset.proofs.Map.plain.Reads as plain-reads
+use Rattle.iset.proofs.Map.plain.Kinds as plain-kinds
 use Rattle.iset.proofs.Map.new.Reads as new-reads
 use Rattle.iset.proofs.Map.new.Kinds as new-kinds
 use Rattle.iset.proofs.Map.fresh.Reads as fresh-reads
@@ -162,3 +167,9 @@ pub drain-done : (κs : Lfts 3) (a : K.Dens κs drain-kinds.ps) (r : K.resT drai
     → drainCall (a .0) (now (a .1 .0)) (now (a .1 .1 .0)) (a .1 .1 .1 .0) (a .1 .1 .1 .1 .0) (a .1 .1 .1 .1 .1 .0) (length (now (a .1 .1 .1 .1 .1 .1 .0)))
     ≡ record { no = 0; hits = d .hits; entered = d .entered; next = d .next }
 drain-done κs a r s p d e = sym (p .0) ∙ ap (drainPaper (a .1 .1 .1 .1 .0)) e
+
+pub plain-done : (κs : Lfts 3) (a : K.Dens κs plain-kinds.ps) (r : K.resT plain-kinds.r κs .Denot) (s : AtExit (K.endedOf 3 plain-kinds.ps plain-kinds.r) κs)
+    → plain-reads.Post κs a r s → (d : Tally) → r ≡ looked.Done d
+    → plainCall (a .0) (now (a .1 .0)) (now (a .1 .1 .0)) (a .1 .1 .1 .0) (length (now (a .1 .1 .1 .1 .0)))
+    ≡ record { no = 0; hits = d .hits; entered = d .entered }
+plain-done κs a r s p d e = sym (p .0) ∙ ap plainPaper e

@@ -26,7 +26,7 @@ use Rattle.iset.proofs.Checks.{check-zero}
 use Rattle.iset.proofs.Builds as builds
 use Rattle.iset.proofs.Removals as removals
 use Rattle.iset.proofs.Insertions as insertions
-use Rattle.iset.proofs.Refusals.{check-refusals, build-refusals, build-leaves, remove-refusals, remove-no, remove-leaves, insert-refusals, insert-no, insert-leaves, start-refusals, start-leaves, step-refusals, step-leaves, drain-refusals, drain-leaves}
+use Rattle.iset.proofs.Refusals.{check-refusals, build-refusals, build-leaves, remove-refusals, remove-no, remove-leaves, insert-refusals, insert-no, insert-leaves, start-refusals, start-leaves, step-refusals, step-leaves, drain-refusals, drain-leaves, plain-refusals, plain-leaves}
 use Rattle.iset.proofs.Answers.{build-answers, remove-answers, insert-answers}
 use Rattle.iset.proofs.Runs.{overlap-runs, exact-runs}
 
@@ -40,12 +40,14 @@ demand-1 m W C =
       fresh-exact = λ x. start-refusals m W C x;
       step = λ q c. step-refusals m W C c q;
       drain = λ q c limit places. drain-refusals m W C c limit q places;
+      plain = λ q places. plain-refusals m W C q places;
       build-leaves = λ S. build-leaves W C S;
       remove-leaves = λ s. remove-leaves m W C s;
       insert-leaves = λ e. insert-leaves m W C e;
       fresh-exact-leaves = λ x. start-leaves m W C x;
       step-leaves = λ q c. step-leaves m W C c q;
       drain-leaves = λ q c limit out. drain-leaves m W C c limit q out;
+      plain-leaves = λ q out. plain-leaves m W C q out;
     }
 
 -- a removal: what the call answers and leaves is what the rule does

@@ -33,6 +33,9 @@ use Rattle.iter.specs.declared.Cursor.{Cursor}
 use Rattle.iter.specs.declared.seek.Step.{Step}
 use Rattle.iter.specs.declared.seek.Step.the-variants.{Hit, End}
 use Rattle.iset.specs.Lookup.{StartAnswer, startPaper, StepAnswer, stepPaper, DrainAnswer, drainPaper}
+use Rattle.iset.specs.Plain.{PlainAnswer, plainPaper}
+use Rattle.iset.specs.declared.scan.Looked.{Looked}
+use Rattle.iset.specs.declared.scan.Looked.the-variants as looked
 use Rattle.iset.specs.declared.lookup.Started.{Started}
 use Rattle.iset.specs.declared.lookup.Started.the-variants as started
 use Rattle.iset.specs.declared.lookup.Stepped.{Stepped}
@@ -47,6 +50,8 @@ use Rattle.iset.proofs.Map.step.Reads as step-reads
 use Rattle.iset.proofs.Map.step.Kinds as step-kinds
 use Rattle.iset.proofs.Map.drain.Reads as drain-reads
 use Rattle.iset.proofs.Map.drain.Kinds as drain-kinds
+use Rattle.iset.proofs.Map.plain.Reads as plain-reads
+use Rattle.iset.proofs.Map.plain.Kinds as plain-kinds
 use Rattle.iset.proofs.Map.build.Reads as build-reads
 use Rattle.iset.proofs.Map.build.Kinds as build-kinds
 use Rattle.iset.proofs.remove.Gone.slot_after.Reads as slot-after-reads
@@ -63,6 +68,8 @@ use Rattle.iset.proofs.Map.open_step.Reads as open-step-reads
 use Rattle.iset.proofs.Map.open_step.Kinds as open-step-kinds
 use Rattle.iset.proofs.Map.open_drain.Reads as open-drain-reads
 use Rattle.iset.proofs.Map.open_drain.Kinds as open-drain-kinds
+use Rattle.iset.proofs.Map.open_plain.Reads as open-plain-reads
+use Rattle.iset.proofs.Map.open_plain.Kinds as open-plain-kinds
 use Rattle.iset.proofs.Map.check.Reads as check-reads
 use Rattle.iset.proofs.Map.check.Kinds as check-kinds
 
@@ -185,7 +192,24 @@ pub drain-determined :
 drain-determined κs a r r′ s s′ p q =
     (sym (emptied-back _ r) ∙ ap emptiedAt (p .0 ∙ sym (q .0)) ∙ emptied-back _ r′, p .1 ∙ sym (q .1))
 
+abbrev lookedAt : PlainAnswer → Looked
+lookedAt x = cond (eqb (x .no) 0) (looked.Done (record { hits = x .hits; entered = x .entered })) (looked.Refused (refusalAt (x .no)))
+
+looked-back : (r : Looked) → lookedAt (plainPaper r) ≡ r
+looked-back (looked.Done a) = refl
+looked-back (looked.Refused y) = rw (ne-eqb (refusalNumber y) 0 (omega (arith, number-pos y)), at-number y)
+
+pub plain-determined :
+    (κs : Lfts 3) (a : K.Dens κs plain-kinds.ps) (r r′ : K.resT plain-kinds.r κs .Denot) (s s′ : AtExit (K.endedOf 3 plain-kinds.ps plain-kinds.r) κs)
+    → plain-reads.Post κs a r s → plain-reads.Post κs a r′ s′ → (r ≡ r′) × (now (s .1 .1 .1 .1 .0) ≡ now (s′ .1 .1 .1 .1 .0))
+plain-determined κs a r r′ s s′ p q = (sym (looked-back r) ∙ ap lookedAt (p .0 ∙ sym (q .0)) ∙ looked-back r′, p .1 ∙ sym (q .1))
+
 -- the opened calls
+pub open-plain-determined :
+    (κs : Lfts 3) (a : K.Dens κs open-plain-kinds.ps) (r r′ : K.resT open-plain-kinds.r κs .Denot) (s s′ : AtExit (K.endedOf 3 open-plain-kinds.ps open-plain-kinds.r) κs)
+    → open-plain-reads.Post κs a r s → open-plain-reads.Post κs a r′ s′ → (r ≡ r′) × (now (s .1 .1 .1 .1 .0) ≡ now (s′ .1 .1 .1 .1 .0))
+open-plain-determined κs a r r′ s s′ p q = (sym (looked-back r) ∙ ap lookedAt (p .0 ∙ sym (q .0)) ∙ looked-back r′, p .1 ∙ sym (q .1))
+
 pub open-fresh-exact-determined :
     (κs : Lfts 2) (a : K.Dens κs open-exact-kinds.ps) (r r′ : K.resT open-exact-kinds.r κs .Denot) (s s′ : AtExit (K.endedOf 2 open-exact-kinds.ps open-exact-kinds.r) κs)
     → open-exact-reads.Post κs a r s → open-exact-reads.Post κs a r′ s′ → r ≡ r′

@@ -11,6 +11,7 @@ pub mod Ones
 pub mod Found
 pub mod Runs
 pub mod Refusals
+pub mod Plains
 pub mod BitRefusals
 pub mod Answers
 pub mod Below

@@ -20,6 +20,7 @@ use Rattle.iset.specs.Check.{checkNumber, first, checkRule}
 use Rattle.iset.specs.Remove.{RemoveAnswer, refusedRemoval, removeNumber, openRemoveCall, openRemoveNodes, openRemoveColours, removeCall, removeNodes, removeColours}
 use Rattle.iset.specs.Insert.{InsertAnswer, refusedInsertion, fullNumber, openInsertNumber, roomThenCheck, insertNumber, openInsertCall, openInsertNodes, openInsertColours, insertCall, insertNodes, insertColours}
 use Rattle.iset.specs.Lookup.{StartAnswer, StepAnswer, refusedStep, DrainAnswer, refusedDrain, startNumber, stepNumber, drainNumber, openStartCall, startCall, openStepCall, stepCall, openDrainCall, openDrainOutput, drainCall, drainOutput}
+use Rattle.iset.specs.Plain.{PlainAnswer, refusedPlain, plainNumber, openPlainCall, openPlainOutput, plainCall, plainOutput}
 use Rattle.iset.specs.declared.Map.{Map}
 use Rattle.iset.specs.declared.Checked.{Checked}
 use Rattle.iset.specs.declared.Checked.the-variants.{Sound, Refused}
@@ -46,6 +47,14 @@ module _ (m : Map) (W C : List ℕ) (h : checkRule m W C ≡ 0) where
   pub drain-output-is : (q : Query) (c : Cursor) (limit : ℕ) (out : List ℕ) → openDrainOutput m W C q c limit out ≡ drainOutput m W C q c limit out
   unfolding openDrainOutput drainOutput drainNumber
   drain-output-is q c limit out = rw h refl
+
+  pub plain-is : (q : Query) (places : ℕ) → openPlainCall m W C q places ≡ plainCall m W C q places
+  unfolding openPlainCall plainCall plainNumber
+  plain-is q places = rw h refl
+
+  pub plain-output-is : (q : Query) (out : List ℕ) → openPlainOutput m W C q out ≡ plainOutput m W C q out
+  unfolding openPlainOutput plainOutput plainNumber
+  plain-output-is q out = rw h refl
 
   pub remove-is : (s : ℕ) → openRemoveCall m W C s ≡ removeCall m W C s
   unfolding openRemoveCall removeCall removeNumber
@@ -98,6 +107,12 @@ module _ (m : Map) (W C : List ℕ) (t : Checked) (e : checkNumber t ≡ checkRu
         → X ≡ openDrainOutput m W C y c limit out → X ≡ drainOutput m W C y c limit out
     drain-output-through y c limit out X p = p ∙ drain-output-is m W C sound y c limit out
 
+    pub plain-through : (y : Query) (places : ℕ) (r : PlainAnswer) → r ≡ openPlainCall m W C y places → r ≡ plainCall m W C y places
+    plain-through y places r p = p ∙ plain-is m W C sound y places
+
+    pub plain-output-through : (y : Query) (out X : List ℕ) → X ≡ openPlainOutput m W C y out → X ≡ plainOutput m W C y out
+    plain-output-through y out X p = p ∙ plain-output-is m W C sound y out
+
     pub remove-through : (s : ℕ) (r : RemoveAnswer) → r ≡ openRemoveCall m W C s → r ≡ removeCall m W C s
     remove-through s r p = p ∙ remove-is m W C sound s
 
@@ -126,6 +141,14 @@ module _ (m : Map) (W C : List ℕ) (t : Checked) (e : checkNumber t ≡ checkRu
     pub drain-output-away : (y : Query) (c : Cursor) (limit : ℕ) (out : List ℕ) → out ≡ drainOutput m W C y c limit out
     unfolding drainOutput drainNumber
     drain-output-away y c limit out = rw (broken, some z, some z)
+
+    pub plain-away : (y : Query) (places : ℕ) → refusedPlain (refusalNumber z) ≡ plainCall m W C y places
+    unfolding plainCall plainNumber
+    plain-away y places = rw (broken, some z, some z)
+
+    pub plain-output-away : (y : Query) (out : List ℕ) → out ≡ plainOutput m W C y out
+    unfolding plainOutput plainNumber
+    plain-output-away y out = rw (broken, some z, some z)
 
     pub remove-away : (s : ℕ) → refusedRemoval m (refusalNumber z) ≡ removeCall m W C s
     unfolding removeCall removeNumber

@@ -6,7 +6,7 @@ use mathlib.Core.List.{List}
 use Prim.Native.Nat.{ℕ, zero, suc}
 use native.Mathlib.Omega.{arith}
 use lib.ListN.{length}
-use lib.Dec.{eqb, ltb}
+use lib.Dec.{eqb, ltb, leb}
 use borrow.Author.Tests.{ne-eqb}
 use Rattle.words.specs.Nodes.{room}
 use Rattle.words.specs.declared.node.Entry.{Entry}
@@ -18,6 +18,7 @@ use Rattle.iset.specs.Check.{first, countNumber, checkRule}
 use Rattle.iset.specs.Remove.{openRemoveNumber, removeNumber}
 use Rattle.iset.specs.Insert.{fullNumber, openInsertNumber, roomThenCheck, insertNumber}
 use Rattle.iset.specs.Lookup.{queryNumber, beginning, formNumber, openStartNumber, openStepNumber, openDrainNumber, startNumber, stepNumber, drainNumber}
+use Rattle.iset.specs.Plain.{openPlainNumber, plainNumber}
 use Rattle.iset.specs.declared.Map.{Map}
 use Rattle.iset.proofs.Checks.{checked-count}
 
@@ -51,6 +52,11 @@ module _ (m : Map) (W C : List ℕ) where
   pub start-order : (q : Query) → startNumber m W C q ≡ first (checkRule m W C) (queryNumber q)
   unfolding startNumber openStartNumber
   start-order q = passed-on (checkRule m W C) (countNumber m W C) (queryNumber q) (checked-count m W C)
+
+  -- then an output with a place for every entry
+  pub plain-order : (q : Query) (places : ℕ) → plainNumber m W C q places ≡ first (startNumber m W C q) (cond (leb (m .count) places) 0 9)
+  unfolding startNumber plainNumber openPlainNumber
+  plain-order q places = grouped (checkRule m W C) (openStartNumber m W C q) (cond (leb (m .count) places) 0 9)
 
   module _ (q : Query) (c : Cursor) where
     -- then the cursor

@@ -8,7 +8,7 @@ use Prim.Native.Nat.{ℕ, zero, suc, _+_, _-_, _/_, _%_, _<_, _≤_}
 use native.Mathlib.Omega.{arith}
 use native.Mathlib.Numerals.{add-one}
 use lib.ListN.{length}
-use lib.Dec.{eqb, ltb}
+use lib.Dec.{eqb, ltb, leb}
 use borrow.Author.Tests.{eq-eqb, ne-eqb, ltb-true, ltb-false, leb-true, leb-false, eqb-true}
 use contract.Lifetimes.{Lfts}
 use borrow.Fn.Kinds as K
@@ -44,7 +44,8 @@ use Rattle.iset.specs.Check.{checkRule, first}
 use Rattle.iset.specs.Remove.{removeNumber, RemoveAnswer, removePaper, removeCall, removeNodes, removeColours}
 use Rattle.iset.specs.Insert.{entryOf, insertNumber, InsertAnswer, insertPaper, insertCall, insertNodes, insertColours}
 use Rattle.iset.specs.Lookup.{ordered, queryNumber, beginning, formNumber, startNumber, stepNumber, drainNumber, StartAnswer, startCall, StepAnswer, stepCall, DrainAnswer, drainPaper, drainCall, drainOutput}
-use Rattle.iset.specs.Refusals.{Rows, accept, refuse, Exactly, NoSuch, BadRange, BadInterval, BadCursor, ShortOutput, checkRows, buildRows, removeRows, insertRows, startRows, stepRows, drainRows}
+use Rattle.iset.specs.Plain.{plainNumber, PlainAnswer, plainPaper, plainCall, plainOutput}
+use Rattle.iset.specs.Refusals.{Rows, accept, refuse, Exactly, NoSuch, BadRange, BadInterval, BadCursor, ShortOutput, checkRows, buildRows, removeRows, insertRows, startRows, stepRows, drainRows, plainRows}
 use Rattle.iset.specs.declared.Map.{Map}
 use Rattle.words.specs.Refusals.{refusalNumber}
 use Rattle.words.specs.declared.refusal.Refusal.{Refusal}
@@ -53,17 +54,20 @@ use Rattle.iset.specs.declared.build.Built.the-variants as built
 use Rattle.iset.specs.declared.remove.Removal.the-variants as removal
 use Rattle.iset.specs.declared.insert.Insertion.the-variants as insertion
 use Rattle.iset.specs.declared.lookup.Emptied.the-variants as emptied
+use Rattle.iset.specs.declared.scan.Looked.the-variants as looked
 use Rattle.iset.proofs.Map.insert.Reads as insert-reads
 use Rattle.iset.proofs.Map.insert.Kinds as insert-kinds
 use Rattle.iset.proofs.Map.remove.Reads as remove-reads
 use Rattle.iset.proofs.Map.remove.Kinds as remove-kinds
 use Rattle.iset.proofs.Map.drain.Reads as drain-reads
 use Rattle.iset.proofs.Map.drain.Kinds as drain-kinds
+use Rattle.iset.proofs.Map.plain.Reads as plain-reads
+use Rattle.iset.proofs.Map.plain.Kinds as plain-kinds
 use Rattle.iset.proofs.Map.build.Reads as build-reads
 use Rattle.iset.proofs.Map.build.Kinds as build-kinds
 use Rattle.iset.proofs.Checks.{cases, check-one, one-check, check-two, two-check}
 use Rattle.iset.proofs.Found.{tree-of, few}
-use Rattle.iset.proofs.Orders.{remove-order, insert-order, start-order, step-order, drain-order}
+use Rattle.iset.proofs.Orders.{remove-order, insert-order, start-order, step-order, drain-order, plain-order}
 
 -- Tables. One after another:
 abbrev followed : Rows → Rows → Rows
@@ -329,6 +333,36 @@ module _ (m : Map) (W C : List ℕ) where
   unfolding startCall
   start-leaves x d = rw (start-no x) (kept (startNumber m W C (Exact x)) _ _ (λ e. d (start-no x ∙ e)))
 
+  -- the plain lookup: the query, then an output with a place for every entry
+  places-row : (places : ℕ) → Exactly (refuse 9 (places < m .count) accept) (cond (leb (m .count) places) 0 9)
+  places-row places =
+      passed-row 9 (places < m .count) accept 0 (leb (m .count) places) (omega arith)
+      (λ t p. omega (arith, leb-true (m .count) places t)) (leb-false (m .count) places) (λ t. refl)
+
+  plain-row : (q : Query) (places : ℕ) → Exactly (plainRows m W C q places) (plainNumber m W C q places)
+  plain-row (Overlap q) places =
+      rw (plain-order m W C (Overlap q) places)
+      (first-then (followed (checkRows m W C) (queryRow (Overlap q))) (refuse 9 (places < m .count) accept) (startNumber m W C (Overlap q))
+      (cond (leb (m .count) places) 0 9) (omega arith) (start-row (Overlap q)) (λ e. places-row places))
+  plain-row (Exact x) places =
+      rw (plain-order m W C (Exact x) places)
+      (first-then (followed (checkRows m W C) (queryRow (Exact x))) (refuse 9 (places < m .count) accept) (startNumber m W C (Exact x))
+      (cond (leb (m .count) places) 0 9) (omega arith) (start-row (Exact x)) (λ e. places-row places))
+
+  plain-no : (q : Query) (places : ℕ) → plainCall m W C q places .no ≡ plainNumber m W C q places
+  unfolding plainCall
+  plain-no q places = number-is (λ (a : PlainAnswer). a .no) (plainNumber m W C q places) _ _ refl refl
+
+  pub plain-refusals : (q : Query) (places : ℕ) → Exactly (plainRows m W C q places) (plainCall m W C q places .no)
+  plain-refusals q places = rw (plain-no q places) (plain-row q places)
+
+  pub plain-leaves : (q : Query) (out : List ℕ) → (plainCall m W C q (length out) .no ≡ 0 → ⊥)
+      → (plainCall m W C q (length out) ≡ record { no = plainCall m W C q (length out) .no; hits = 0; entered = 0 }) × (plainOutput m W C q out ≡ out)
+  unfolding plainCall plainOutput
+  plain-leaves q out d =
+      let f : plainNumber m W C q (length out) ≡ 0 → ⊥ = λ e. d (plain-no q (length out) ∙ e) in
+      (rw (plain-no q (length out)) (kept (plainNumber m W C q (length out)) _ _ f), kept (plainNumber m W C q (length out)) _ _ f)
+
   module _ (c : Cursor) where
     -- by the form that the test finds
     by-form : (f : Form) (B : Type 0) → (f ≡ form.Fresh → B → ⊥) → (f ≡ form.Held → B → ⊥) → (f ≡ form.Ended → B → ⊥) → (f ≡ form.Bad → B)
@@ -475,3 +509,14 @@ drain-code κs a r s p y e =
     let out : List ℕ = now (a .1 .1 .1 .1 .1 .1 .0) in
     let k : refusalNumber y ≡ drainCall m W C q c t (length out) .no = ap (λ (x : DrainAnswer). x .no) (ap (drainPaper c) (sym e) ∙ p .0) in
     p .1 ∙ drain-leaves m W C c t q out (refused-number (drainCall m W C q c t (length out) .no) y k) .1
+
+pub plain-code : (κs : Lfts 3) (a : K.Dens κs plain-kinds.ps) (r : K.resT plain-kinds.r κs .Denot) (s : AtExit (K.endedOf 3 plain-kinds.ps plain-kinds.r) κs)
+    → plain-reads.Post κs a r s → (y : Refusal) → r ≡ looked.Refused y → now (s .1 .1 .1 .1 .0) ≡ now (a .1 .1 .1 .1 .0)
+plain-code κs a r s p y e =
+    let m : Map = a .0 in
+    let W : List ℕ = now (a .1 .0) in
+    let C : List ℕ = now (a .1 .1 .0) in
+    let q : Query = a .1 .1 .1 .0 in
+    let out : List ℕ = now (a .1 .1 .1 .1 .0) in
+    let k : refusalNumber y ≡ plainCall m W C q (length out) .no = ap (λ (x : PlainAnswer). x .no) (ap plainPaper (sym e) ∙ p .0) in
+    p .1 ∙ plain-leaves m W C q out (refused-number (plainCall m W C q (length out) .no) y k) .1

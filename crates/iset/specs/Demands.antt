@@ -28,7 +28,8 @@ use Rattle.iset.specs.Build.{buildRule, buildNodes, buildColour}
 use Rattle.iset.specs.Remove.{refusedRemoval, removeCall, removeNodes, removeColours}
 use Rattle.iset.specs.Insert.{refusedInsertion, insertCall, insertNodes, insertColours}
 use Rattle.iset.specs.Lookup.{startCall, refusedStep, stepCall, refusedDrain, drainCall, drainOutput}
-use Rattle.iset.specs.Refusals.{BadRange, BadInterval, Exactly, checkRows, buildRows, removeRows, insertRows, startRows, stepRows, drainRows}
+use Rattle.iset.specs.Plain.{refusedPlain, plainCall, plainOutput}
+use Rattle.iset.specs.Refusals.{BadRange, BadInterval, Exactly, checkRows, buildRows, removeRows, insertRows, startRows, stepRows, drainRows, plainRows}
 use Rattle.iset.specs.Runs.{Ask, OverlapRun, ExactRun}
 use Rattle.iset.specs.declared.Map.{Map}
 
@@ -43,6 +44,7 @@ pub record Demand1 (m : Map) (W C : List ℕ) : Type 0 where
   pub fresh-exact : (x : Interval) → Exactly (startRows m W C x) (startCall m W C x .no)
   pub step : (q : Query) (c : Cursor) → Exactly (stepRows m W C q c) (stepCall m W C q c .no)
   pub drain : (q : Query) (c : Cursor) (limit places : ℕ) → Exactly (drainRows m W C q c limit places) (drainCall m W C q c limit places .no)
+  pub plain : (q : Query) (places : ℕ) → Exactly (plainRows m W C q places) (plainCall m W C q places .no)
   -- a refused call answers its number with the map or the cursor as given ("a refused build: count 0, root U"), and leaves what was lent
   pub build-leaves : (S : List ℕ) → (buildRule W C S .no ≡ 0 → ⊥)
       → (buildRule W C S ≡ record { no = buildRule W C S .no; count = 0; root = U }) × (buildNodes W C S ≡ W) × (buildColour W C S ≡ C)
@@ -54,6 +56,8 @@ pub record Demand1 (m : Map) (W C : List ℕ) : Type 0 where
   pub step-leaves : (q : Query) (c : Cursor) → (stepCall m W C q c .no ≡ 0 → ⊥) → stepCall m W C q c ≡ refusedStep c (stepCall m W C q c .no)
   pub drain-leaves : (q : Query) (c : Cursor) (limit : ℕ) (out : List ℕ) → (drainCall m W C q c limit (length out) .no ≡ 0 → ⊥)
       → (drainCall m W C q c limit (length out) ≡ refusedDrain c (drainCall m W C q c limit (length out) .no)) × (drainOutput m W C q c limit out ≡ out)
+  pub plain-leaves : (q : Query) (out : List ℕ) → (plainCall m W C q (length out) .no ≡ 0 → ⊥)
+      → (plainCall m W C q (length out) ≡ refusedPlain (plainCall m W C q (length out) .no)) × (plainOutput m W C q out ≡ out)
 
 -- What `Map::remove` answers and leaves, in the form of the rule of removal; what `Map::insert` leaves, in that of insertion.
 abbrev pub removal : Map → List ℕ → List ℕ → ℕ → Removal

@@ -6,6 +6,8 @@ pub mod Insert
 pub mod Sequence
 pub mod Lookup
 pub mod Runs
+pub mod Plain
+pub mod PlainRuns
 pub mod Refusals
 pub mod Below
 pub mod Demands

@@ -1,4 +1,4 @@
--- Document 01's table of refusals, and document 02's item 1: for each public call its rows, a refusal's number and when it is given, in the order in
+-- Document 01's table of refusals, and document 02's items 1 and 5: for each public call its rows, a refusal's number and when it is given, in the order in
 -- which the first is given.
 use mathlib.Core.Path.{_≡_}
 use mathlib.Core.Logic.{_↔_, _⊎_}
@@ -115,6 +115,13 @@ drainRows m W C (Overlap q) c limit places =
 drainRows m W C (Exact x) c limit places =
     refuse 1 (NoRoom m W C) (refuse 2 (Broken m W C) (refuse 5 (BadInterval (x .start) (x .end)) (refuse 7 (BadCursor m W C (Exact x) c)
     (refuse 9 (ShortOutput limit places) accept))))
+
+-- document 02, item 5: "as the drain without 7, and 9 last where the output is shorter than the map's count"
+abbrev pub plainRows : Map → List ℕ → List ℕ → Query → ℕ → Rows
+plainRows m W C (Overlap q) places =
+    refuse 1 (NoRoom m W C) (refuse 2 (Broken m W C) (refuse 4 (BadRange (q .lo) (q .hi)) (refuse 9 (places < m .count) accept)))
+plainRows m W C (Exact x) places =
+    refuse 1 (NoRoom m W C) (refuse 2 (Broken m W C) (refuse 5 (BadInterval (x .start) (x .end)) (refuse 9 (places < m .count) accept)))
 
 -- 10, BadBit, one by one. "length (or `from_elem` length) above bytes × 8"
 abbrev pub TooLong : List ℕ → ℕ → Type 0

@@ -8,6 +8,7 @@ pub mod build;
 pub mod insert;
 pub mod lookup;
 pub mod remove;
+pub mod scan;
 
 use audit::audit;
 use words::ix::U;

@@ -120,7 +120,7 @@ fn one_hit(cursor: Cursor, nodes: &[u64], count: u64, query: Query) -> Step
 
 impl Map {
     // The first refusal of a query in an opened store.
-    fn test_start(self, nodes: &[u64], colours: &[u8], query: Query) -> Checked
+    pub(crate) fn test_start(self, nodes: &[u64], colours: &[u8], query: Query) -> Checked
         ensures { λ r. ⌜ checkNumber r ≡ openStartNumber self (now (nodes .entry)) (now (colours .entry)) query ⌝ }
     {
         let checked = self.test_count(nodes, colours);

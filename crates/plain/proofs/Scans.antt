@@ -6,8 +6,8 @@ use Prim.Native.Nat.{ℕ, zero, suc, _+_, _-_, _<_, _≤_}
 use native.Mathlib.Omega.{arith}
 use native.Mathlib.Numerals.{sub-one, add-one}
 use native.Mathlib.Nat.{sub-zero}
-use lib.ListN.{length, take, drop, set, take-append-drop, length-append, length-set}
-use lib.Seq.{length-take-le, drop-drop, drop-set-lt, take-suc-set}
+use lib.ListN.{length, take, drop, set, take-append-drop, length-set}
+use lib.Seq.{length-take-le, take-suc-set}
 use lib.Dec.{eqb}
 use borrow.Author.Tests.{eq-eqb, ne-eqb}
 use Rattle.words.specs.Ix.{U, linkOf, onLink}
@@ -51,7 +51,7 @@ module _ (n : ℕ) (W : List ℕ) (s : ℕ) where
           go-up h z r (read-linked r n (par W s) w l (λ (k : ℕ). cond (eqb (kid W true k) s) k (ascend n (h - 1) W (par W s))) U e p k q
           (rw (ne-eqb (kid W true k) s (λ y. g (f ∙ y)), ← j) i))
 
--- the tour, m entries of which were gone through
+-- the tour after m entries
 module _ (W : List ℕ) (n : ℕ) where
   abbrev rest : ℕ → ℕ → List ℕ
   rest f k = tour n f W k
@@ -100,7 +100,7 @@ module _ (W : List ℕ) (n : ℕ) where
         let y : length (rest (n - m) k) ≡ 0 = rw z in
         omega arith
 
-  -- the hits, i of them in `out` so far
+  -- the hits, i of which stand in `out`
   module _ (Q : Rules) where
     pub scan-begin : (r k : ℕ) (out : List ℕ) → k ≡ firstOf n W r → plain n W Q r ≡ take 0 out ++ those (Q .match) (rest (n - 0) k)
     unfolding plain entries
@@ -119,7 +119,7 @@ module _ (W : List ℕ) (n : ℕ) where
           go true f = rw (← f, add-one i, take-suc-set out i s (omega (arith, few, big, len, h)), append-assoc)
           go false f = rw (← f)
 
-      -- the end: no entry more, or as many as there are
+      -- the end: there is no next entry, or as many entries as the count were tested
       module _ (most : m ≤ n) (same : drop i out ≡ drop i old) where
         fit : i ≤ length out
         fit = omega arith
@@ -150,7 +150,7 @@ module _ (W : List ℕ) (n : ℕ) where
 pub tally-is : (a b x y : ℕ) → a ≡ x → b ≡ y → _≡_ {A = Tally} (record { hits = a; entered = b }) (record { hits = x; entered = y })
 tally-is a b x y e f = λ t. record { hits = e t; entered = f t }
 
--- what stays, of the places past the hits
+-- the places past the hits stay
 pub drop-noted : (out old : List ℕ) (i s i′ : ℕ) (b : Bool) (new : List ℕ) → drop i out ≡ drop i old → i′ ≡ cond b (i + 1) i → new ≡ cond b (set out i s) out
     → drop i′ new ≡ drop i′ old
 drop-noted out old i s i′ b new e f g = rw (f, g) (go b)

@@ -6,6 +6,6 @@ use Rattle.iter.specs.Walk.{Rules}
 use Rattle.plain_laws.specs.Tour.{entries, plain}
 use Rattle.plain.specs.declared.Tally.{Tally}
 
--- how many hits, and how many entries were gone through
+-- how many hits there are, and how many entries the lookup went through
 abbrev pub tally : ℕ → List ℕ → Rules → ℕ → Tally
 tally n W Q r = record { hits = length (plain n W Q r); entered = length (entries n W r) }

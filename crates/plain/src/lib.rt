@@ -1,5 +1,6 @@
-// The plain lookup: every entry in tree order, by links alone, each tested. It has no stack and reads no hull. In a store that
-// passes the check no way is longer than 32.
+// The plain lookup goes through every entry in tree order by links alone, tests each and writes the hits. It has no stack
+// and reads no hull. It ends on any words: it goes through at most `count` entries, with at most 33 links between two of
+// them. In a store that passes the check no way down or up is longer than 32, so neither number decides there.
 use iter::rules::Query;
 use iter::rules::matches;
 use tree_rm_links::leftmost_from;
@@ -16,13 +17,13 @@ ghost use Rattle.iter.specs.Queries.{rules};
 ghost use Rattle.plain_laws.specs.Tour.{ascend, nextOf, firstOf, plain};
 ghost use Rattle.plain.specs.Answers.{tally};
 
-// How many hits were written, and how many entries were gone through.
+// How many hits were written, and how many entries the lookup went through.
 pub struct Tally {
     pub hits: u64,
     pub entered: u64,
 }
 
-// The first slot above that `slot` is to the left of, at most `height` links up; U where there is none.
+// The first slot above `slot` that has it on the left, at most `height` links up; U if there is none.
 fn next_above(nodes: &[u64], count: u64, slot: u64, height: u64) -> u64
     requires { ⌜ (count * 8 ≤ length (now nodes)) × (slot < count) ⌝ }
     ensures { λ r. ⌜ r ≡ ascend count height (now (nodes .entry)) slot ⌝ }
@@ -39,7 +40,7 @@ fn next_above(nodes: &[u64], count: u64, slot: u64, height: u64) -> u64
     next_above(nodes, count, parent, height - 1)
 }
 
-// The slot after this one in tree order; U where there is none.
+// The slot after `slot` in tree order; U if there is none.
 pub fn next_slot(nodes: &[u64], count: u64, slot: u64) -> u64
     requires { ⌜ (count * 8 ≤ length (now nodes)) × (slot < count) ⌝ }
     ensures { λ r. ⌜ r ≡ nextOf count (now (nodes .entry)) slot ⌝ }
@@ -50,6 +51,7 @@ pub fn next_slot(nodes: &[u64], count: u64, slot: u64) -> u64
     leftmost_from(nodes, count, right, 32)
 }
 
+// The first slot in tree order; U if there is none.
 pub fn first_slot(nodes: &[u64], count: u64, root: u64) -> u64
     requires { ⌜ count * 8 ≤ length (now nodes) ⌝ }
     ensures { λ r. ⌜ r ≡ firstOf count (now (nodes .entry)) root ⌝ }
@@ -60,7 +62,7 @@ pub fn first_slot(nodes: &[u64], count: u64, root: u64) -> u64
     leftmost_from(nodes, count, top, 32)
 }
 
-// Writes a slot after so many hits, where it is one; the answer is how many there are then.
+// If `slot` is a hit it is written after the `hits` that there are. Returns how many there are then.
 fn note(out: &mut [u64], hits: u64, slot: u64, hit: bool) -> u64
     requires { ⌜ hits < length (now out) ⌝ }
     ensures { λ r. ⌜ (r ≡ cond hit (hits + 1) hits) × (now (out .exit) ≡ cond hit (set (now (out .entry)) hits slot) (now (out .entry))) ⌝ }
@@ -73,7 +75,7 @@ fn note(out: &mut [u64], hits: u64, slot: u64, hit: bool) -> u64
     }
 }
 
-// The slots of the entries that are looked for, all of them, in tree order.
+// Writes the slots of all entries that the query asks for, in tree order.
 pub fn scan(nodes: &[u64], count: u64, root: u64, query: Query, out: &mut [u64]) -> Tally
     requires { ⌜ (count * 8 ≤ length (now nodes)) × (count ≤ length (now out)) ⌝ }
     ensures { λ r. ⌜ (r ≡ tally count (now (nodes .entry)) (rules (now (nodes .entry)) count query) root)

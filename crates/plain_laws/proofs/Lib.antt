@@ -1,1 +1,2 @@
 pub mod Tours
+pub mod Five

@@ -1,10 +1,10 @@
--- On a store that passes the tour by links is the slots in tree order, and the plain lookup hands out what a drain from the fresh cursor does.
-use mathlib.Core.Path.{_≡_, refl, sym, ap, _∙_}
-use mathlib.Core.Bool.{Bool, true, false, cond, not}
+-- On a store that passes the check the tour by links is the slots in tree order, and the plain lookup finds what a drain from the fresh cursor finds.
+use mathlib.Core.Path.{_≡_, refl, ap, _∙_}
+use mathlib.Core.Bool.{true, false}
 use mathlib.Core.List.{List, [], _∷_, _++_, append-assoc, append-nil}
-use Prim.Native.Nat.{ℕ, zero, suc, _+_, _*_, _<_, _≤_, max}
+use Prim.Native.Nat.{ℕ, zero, suc, _+_, _<_, _≤_}
 use native.Mathlib.Omega.{arith}
-use native.Mathlib.Nat.{zero-add, add-zero}
+use native.Mathlib.Nat.{zero-add}
 use lib.ListN.{length, length-append}
 use lib.Dec.{eqb}
 use Rattle.words.specs.Ix.{U}
@@ -25,11 +25,11 @@ use Rattle.iter.specs.Drains.{drain}
 use Rattle.iter.specs.Exact.{equals, exact, findFrom}
 use Rattle.iter.specs.Lists.{those}
 use Rattle.iter.specs.Overlap.{meets, overlap}
-use Rattle.iter_laws.proofs.OverlapRuns.{overlap-run, overlap-each}
+use Rattle.iter_laws.proofs.OverlapRuns.{overlap-run}
 use Rattle.iter_laws.proofs.ExactRuns.{exact-run}
 use Rattle.plain_laws.specs.Tour.{ascend, nextOf, firstOf, tour, entries, plain}
 
--- the first slot above a place that the place is to the left of
+-- the first slot above a place that has the place on its left
 abbrev upOf : List Frame → ℕ
 upOf [] = U
 upOf (frame true s far ∷ c) = s

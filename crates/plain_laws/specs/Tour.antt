@@ -9,18 +9,18 @@ use Rattle.tree_rm_laws.specs.Remove.{leftmost}
 use Rattle.iter.specs.Lists.{those}
 use Rattle.iter.specs.Walk.{Rules}
 
--- the first slot above s that s is to the left of, at most `height` links up; U where there is none
+-- the first slot above s that has s on the left, at most `height` links up; U if there is none
 unfoldable pub ascend : ℕ → ℕ → List ℕ → ℕ → ℕ
 ascend n zero W s = U
 ascend n (suc height) W s =
     let up : ℕ = ascend n height W (par W s) in
     onLink n (par W s) (λ p. cond (eqb (kid W true p) s) p up) U
 
--- the slot after s: "the leftmost of its right subtree", or that one above
+-- the slot after s: the leftmost of its right subtree if there is one, else the first above that has s on the left
 unfoldable pub nextOf : ℕ → List ℕ → ℕ → ℕ
 nextOf n W s = onLink n (kid W false s) (λ k. leftmost n 32 W k) (ascend n 32 W s)
 
--- the first slot from the root r
+-- the first slot, from the root r
 unfoldable pub firstOf : ℕ → List ℕ → ℕ → ℕ
 firstOf n W r = onLink n r (λ k. leftmost n 32 W k) U
 
@@ -31,9 +31,10 @@ tour n (suc left) W k =
     let rest : List ℕ = tour n left W (nextOf n W k) in
     onLink n k (λ s. k ∷ rest) []
 
--- all of them, and "tests each": those that are looked for
+-- "every entry in tree order"
 unfoldable pub entries : ℕ → List ℕ → ℕ → List ℕ
 entries n W r = tour n n W (firstOf n W r)
 
+-- "tests each": those that the query asks for
 unfoldable pub plain : ℕ → List ℕ → Rules → ℕ → List ℕ
 plain n W Q r = those (Q .match) (entries n W r)

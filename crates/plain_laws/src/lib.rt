@@ -1,1 +1,1 @@
-// The rule of the plain lookup, which crate plain computes, and what it guarantees. Theory alone.
+// The rule of the plain lookup, which crate plain computes, and what follows from it. It has no code.

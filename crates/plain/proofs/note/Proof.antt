@@ -1,8 +1,5 @@
-use Rattle.words.proofs.Tests.{picked, passed}
 use borrow.Author.Needs.{needs}
-use lib.ListN.{length-set}
 use mathlib.Core.Path.{refl}
-use native.Mathlib.Omega.{arith}
 use Rattle.plain.proofs.note.Statement.{statement}
 use Rattle.plain.proofs.note.Tie as tie
 

@@ -3,7 +3,7 @@ use mathlib.Core.List.{_++_}
 use Prim.Native.Nat.{_+_, _-_, _≤_}
 use native.Mathlib.Omega.{arith}
 use lib.ListN.{length, take, drop}
-use Rattle.words.proofs.Laws.{slot-live, slot-room}
+use Rattle.words.proofs.Laws.{slot-live}
 use Rattle.iter.specs.Lists.{those}
 use Rattle.iter.specs.Queries.{rules}
 use Rattle.plain_laws.specs.Tour.{tour, entries, plain}

@@ -1,5 +1,5 @@
 use Rattle.capi.proofs.Laws.{short-number, short-handed, short-ranged}
-use Rattle.capi.proofs.Laws.{bounded-number, bounded-handed, unbounded-number, unbounded-handed, step-number, step-handed}
+use Rattle.capi.proofs.Laws.{bounded-number, bounded-handed, unbounded-number, unbounded-handed, query-number, query-handed}
 use Rattle.capi.specs.Replies.{stepTold}
 use borrow.Author.Needs.{needs}
 use Rattle.capi.proofs.lookup.iset_step.Statement.{statement}
@@ -14,5 +14,5 @@ iset-step-spec =
     (λ c κs. search needs)
     (λ c κs. search needs)
     (λ c. search needs)
-    (λ c. (search (bounded-number, step-number stepTold), search (bounded-handed, step-handed stepTold)))
+    (λ c. (search (bounded-number, query-number stepTold), search (bounded-handed, query-handed stepTold)))
     (λ c. (search unbounded-number, search unbounded-handed)))

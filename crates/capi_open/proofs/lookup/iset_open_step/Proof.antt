@@ -1,6 +1,6 @@
 use Rattle.capi.proofs.Laws.{short-number, short-handed, short-ranged}
 use Rattle.capi.proofs.Laws.{bounded-number, bounded-handed, unbounded-number, unbounded-handed}
-use Rattle.capi.proofs.Laws.{step-number, step-handed}
+use Rattle.capi.proofs.Laws.{query-number, query-handed}
 use Rattle.capi_open.specs.Replies.{openStepTold}
 use borrow.Author.Needs.{needs}
 use Rattle.capi_open.proofs.lookup.iset_open_step.Statement.{statement}
@@ -15,5 +15,5 @@ iset-open-step-spec =
     (λ c κs. search needs)
     (λ c κs. search needs)
     (λ c. search needs)
-    (λ c. (search (bounded-number, step-number openStepTold), search (bounded-handed, step-handed openStepTold)))
+    (λ c. (search (bounded-number, query-number openStepTold), search (bounded-handed, query-handed openStepTold)))
     (λ c. (search unbounded-number, search unbounded-handed)))

@@ -1,0 +1,32 @@
+// `plain QUERY ROOM`: all hits, by going through every entry, into an output of ROOM places.
+use crate::lookups::query;
+use crate::lookups::query::Kind;
+use crate::lookups::reply::Reply;
+use iset::Map;
+use iset::scan::Looked;
+
+// How many hits, and how many entries the lookup went through.
+fn reply(no: u64, hits: u64, entered: u64) -> Reply {
+    Reply {
+        no,
+        numbers: [hits, entered, 0, 0, 0],
+    }
+}
+
+fn reply_of(a: Looked) -> Reply {
+    match a {
+        Looked::Done(t) => reply(0, t.hits, t.entered),
+        Looked::Refused(why) => reply(why.number(), 0, 0),
+    }
+}
+
+pub(crate) fn plain(
+    m: Map,
+    kind: Kind,
+    numbers: &[u64],
+    nodes: &[u64],
+    colours: &[u8],
+    hits: &mut [u64],
+) -> Reply {
+    reply_of(m.plain(nodes, colours, query::query(kind, numbers), hits))
+}

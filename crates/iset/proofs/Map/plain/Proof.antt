@@ -1,0 +1,16 @@
+use Rattle.iset.proofs.Opened.{plain-through, plain-output-through, plain-away, plain-output-away}
+use borrow.Author.Needs.{needs}
+use Rattle.iset.proofs.Map.plain.Statement.{statement}
+use Rattle.iset.proofs.Map.plain.Tie as tie
+
+pub plain-spec : {M : Type 1} → statement M
+plain-spec =
+    tie.close
+    (tie.spec
+    (λ c κs. search needs)
+    (λ c. search needs)
+    (λ c. search needs)
+    (λ c κs. search needs)
+    (λ c. search needs)
+    (λ c. (search plain-through, search plain-output-through))
+    (λ c. (search plain-away, search plain-output-away)))

@@ -1,0 +1,51 @@
+-- Document 02, item 5: what the plain lookup finds, beside the lookups by steps and drains.
+use mathlib.Core.Path.{_≡_}
+use mathlib.Core.Bool.{Bool}
+use mathlib.Core.List.{List}
+use Prim.Native.Nat.{ℕ, _<_, _≤_}
+use lib.ListN.{length, take}
+use Rattle.words.specs.declared.interval.Interval.{Interval}
+use Rattle.words.specs.declared.interval.Span.{Span}
+use Rattle.tree.specs.Tree.{Tree, slots}
+use Rattle.tree.specs.Passes.{Passes}
+use Rattle.iter.specs.Lists.{those}
+use Rattle.iter.specs.Cursors.{fresh, ended}
+use Rattle.iter.specs.Overlap.{meets}
+use Rattle.iter.specs.Exact.{equals}
+use Rattle.iter.specs.Drains.{limitOf, filled}
+use Rattle.iter.specs.declared.Cursor.{Cursor}
+use Rattle.iter.specs.declared.rules.Query.{Query}
+use Rattle.iter.specs.declared.rules.Query.the-variants.{Overlap, Exact}
+use Rattle.iset.specs.Check.{checkRule}
+use Rattle.iset.specs.Lookup.{startCall, drainCall, drainOutput}
+use Rattle.iset.specs.Refusals.{BadRange, BadInterval}
+use Rattle.iset.specs.Runs.{Ask, run, OnceEach}
+use Rattle.iset.specs.Plain.{plainCall, plainOutput}
+use Rattle.iset.specs.declared.Map.{Map}
+
+-- the slots that a plain lookup hands out: the first places of its output, as many as it answers hits; and those of a drain
+abbrev pub plainSlots : Map → List ℕ → List ℕ → Query → List ℕ → List ℕ
+plainSlots m W C q out = take (plainCall m W C q (length out) .hits) (plainOutput m W C q out)
+
+abbrev pub drainSlots : Map → List ℕ → List ℕ → Query → Cursor → ℕ → List ℕ → List ℕ
+drainSlots m W C q c limit out = take (drainCall m W C q c limit (length out) .hits) (drainOutput m W C q c limit out)
+
+-- A plain lookup for q into `out`, in a store with the tree t: p says which entries are asked for, c is the fresh cursor.
+pub record PlainRun (m : Map) (W C : List ℕ) (q : Query) (c : Cursor) (p : ℕ → Bool) (t : Tree) (out : List ℕ) : Type 0 where
+  -- it is not refused, and "Its entered count is the map's count"
+  pub told : plainCall m W C q (length out) ≡ record { no = 0; hits = length (those p (slots t)); entered = m .count }
+  -- "demand 3's list holds for it too": exactly the entries that are asked for, in tree order, once each; the places past them stay
+  pub written : plainOutput m W C q out ≡ filled (those p (slots t)) out
+  pub once-each : OnceEach (m .count) p (those p (slots t))
+  -- "its list of slots equals that of a fresh drain run to its end": any limit above the number of hits
+  pub drain-agrees : (limit : ℕ) (room : List ℕ) → length (those p (slots t)) < limitOf limit → limitOf limit ≤ length room
+      → (drainCall m W C q c limit (length room) .next ≡ ended) × (plainSlots m W C q out ≡ drainSlots m W C q c limit room)
+  -- and that of any steps and drains from the fresh cursor to the end
+  pub run-agrees : (l : List Ask) → run m W C q c l .next ≡ ended → plainSlots m W C q out ≡ run m W C q c l .slots
+
+-- The request, of every store that passes the check, every accepted query and every output with a place for each entry.
+pub record Request5 (m : Map) (W C : List ℕ) : Type 0 where
+  pub overlap : checkRule m W C ≡ 0 → (q : Span) → (BadRange (q .lo) (q .hi) → ⊥) → (P : Passes W C (m .count) (m .root)) (out : List ℕ)
+      → m .count ≤ length out → PlainRun m W C (Overlap q) (fresh (m .root)) (meets W q) (P .tree) out
+  pub exact : checkRule m W C ≡ 0 → (x : Interval) → (BadInterval (x .start) (x .end) → ⊥) → (P : Passes W C (m .count) (m .root)) (out : List ℕ)
+      → m .count ≤ length out → PlainRun m W C (Exact x) (startCall m W C x .cursor) (equals W x) (P .tree) out

@@ -1,0 +1,53 @@
+// The plain lookup: every entry in tree order, each tested, without pruning. It finds what the other lookups find.
+use crate::Checked;
+use crate::Map;
+use iter::rules::Query;
+use plain::Tally;
+use plain::scan;
+use words::refusal::Refusal;
+ghost use mathlib.Core.Path.{_≡_};
+ghost use lib.ListN.{length};
+ghost use Rattle.iset.specs.Check.{checkNumber};
+ghost use Rattle.iset.specs.Plain.{openPlainNumber, plainPaper, openPlainCall, openPlainOutput, plainCall, plainOutput};
+
+// What the call answers.
+pub enum Looked {
+    Done(Tally),
+    Refused(Refusal),
+}
+
+impl Map {
+    // The first refusal of a plain lookup in an opened store, into an output of `room` places.
+    fn test_plain(self, nodes: &[u64], colours: &[u8], query: Query, room: u64) -> Checked
+        ensures { λ r. ⌜ checkNumber r ≡ openPlainNumber self (now (nodes .entry)) (now (colours .entry)) query room ⌝ }
+    {
+        let checked = self.test_start(nodes, colours, query);
+        let Checked::Sound = checked else {
+            return checked;
+        };
+        Checked::sound_if(self.count <= room, Refusal::ShortOutput)
+    }
+
+    // `plain` for an opened store.
+    pub fn open_plain(self, nodes: &[u64], colours: &[u8], query: Query, out: &mut [u64]) -> Looked
+        ensures { λ r. ⌜ (plainPaper r ≡ openPlainCall self (now (nodes .entry)) (now (colours .entry)) query (length (now (out .entry))))
+            × (now (out .exit) ≡ openPlainOutput self (now (nodes .entry)) (now (colours .entry)) query (now (out .entry))) ⌝ }
+    {
+        let room = out.len() as u64;
+        let Checked::Refused(why) = self.test_plain(nodes, colours, query, room) else {
+            return Looked::Done(scan(nodes, self.count, self.root, query, out));
+        };
+        Looked::Refused(why)
+    }
+
+    // The slots of all entries that the query asks for, in tree order, into an output that has a place for every entry.
+    pub fn plain(self, nodes: &[u64], colours: &[u8], query: Query, out: &mut [u64]) -> Looked
+        ensures { λ r. ⌜ (plainPaper r ≡ plainCall self (now (nodes .entry)) (now (colours .entry)) query (length (now (out .entry))))
+            × (now (out .exit) ≡ plainOutput self (now (nodes .entry)) (now (colours .entry)) query (now (out .entry))) ⌝ }
+    {
+        let Checked::Refused(why) = self.check(nodes, colours) else {
+            return self.open_plain(nodes, colours, query, out);
+        };
+        Looked::Refused(why)
+    }
+}
