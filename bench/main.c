@@ -45,9 +45,10 @@ static size_t n, colour_bytes;
 static uint64_t root;
 static map *crate;
 
+/* The processor's time: other work beside the program does not count. */
 static double now(void) {
     struct timespec t;
-    clock_gettime(CLOCK_MONOTONIC, &t);
+    clock_gettime(CLOCK_PROCESS_CPUTIME_ID, &t);
     return (double)t.tv_sec + (double)t.tv_nsec * 1e-9;
 }
 

@@ -33,7 +33,7 @@ def drains(s, q, limit, room):
         print("drain", *q, *cursor, limit, room)
         if cursor == (U, 0, 0) or model.refuse_query(q):
             return
-        cursor = model.lookup(s, q, cursor, limit)[3]
+        cursor = model.lookup(s, q, cursor, limit or room)[3]
 
 
 def overlap(a, x, b, y):
@@ -153,16 +153,26 @@ def outputs():
     print("# limits and outputs")
     a = built(A)
     show(a)
-    for limit, room in (0, 63), (0, 64), (0, 65), (0, 0), (1, 0), (1, 1), (5, 4), (6, 5), (6, 6), (2, 5), (64, 63), (TOP, 5), (TOP, 4096):
+    for limit, room in (1, 0), (1, 1), (5, 4), (6, 5), (6, 6), (2, 5), (64, 63), (64, 64), (64, 70), (TOP, 5), (TOP, 4096):
         print("drain", *EVERY, 2, 1, 0, limit, room)
+    print("# a limit of 0: as many as fit")
+    for room in 0, 1, 4, 5, 6, 63, 64, 65:
+        print("drain", *EVERY, 2, 1, 0, 0, room)
+    for cursor in (2, 1, 0), (1, 2, 6), (U, 0, 0), (1, 2, 7):
+        for room in 0, 2:
+            print("drain", *EVERY, *cursor, 0, room)
+    print("drain", *overlap(0, 9, 1, 5), 2, 1, 0, 0, 0)
+    print("drain", "e", 30, 10, 2, 1, 0, 0, 0)
+    drains(a, EVERY, 0, 2)
     for limit in 1, 2, 4, 5:
         drains(a, EVERY, limit, limit)
     drains(a, overlap(0, 20, 1, 25), 1, 1)
     s = built([x for k in range(70) for x in (k // 2, 40 + k // 3, k)])
     print("# more hits than 64")
     show(s)
-    print("drain", *EVERY, s.root, 1, 0, 0, 64)
-    print("drain", *EVERY, s.root, 1, 0, 70, 70)
+    for limit, room in (0, 64), (0, 70), (0, 71), (64, 64), (64, 70), (70, 70):
+        print("drain", *EVERY, s.root, 1, 0, limit, room)
+    drains(s, EVERY, 0, 7)
     drains(s, overlap(0, 20, 1, 25), 0, 66)
     drains(s, ("e", 3, 42), 1, 2)
 

@@ -393,10 +393,12 @@ def step(s, q, cursor):
 
 
 def drain(s, q, cursor, limit, room):
-    limit = limit or 64
+    limit = limit or room
     no, hits, entered, after_it = lookup(s, q, cursor, limit)
     if not no and limit > room:
         no, hits, entered, after_it = 9, [], 0, cursor
+    elif not no and limit == 0:
+        hits, entered, after_it = [], 0, cursor
     output = hits + [777777] * (room - len(hits))
     return " ".join(map(str, (no, len(hits), entered) + after_it + (room,) + tuple(output)))
 

@@ -366,6 +366,9 @@ static void bad_queries(void) {
     now.count = 6, step("a kind 3, count 6", range(3, 0, 0, 0)), step("count 6", all);
     store_a(), fresh("fresh", all);
     limit = 65, drain("limit 65", all), limit = 0, now.places = 63, drain("limit 0, 63 places", all);
+    store_a(), fresh("fresh", all), now.places = 2, drain("limit 0, 2 places", all), drain("limit 0, 2 places", all);
+    now.places = 0, drain("limit 0, no place", all), now.places = 3;
+    store_a(), fresh("fresh", all);
     limit = 4, now.places = 3, drain("limit 4, 3 places", all), limit = 3, drain("limit 3", all);
 }
 

@@ -49,6 +49,10 @@ impl<'a> Hits<'a> {
             None => self.map.begin(self.nodes, self.colours, self.query)?,
         };
         let limit = self.buffer.len() as u64;
+        // A drain with the limit 0 into no place would answer no hits, as if there were none.
+        if limit == 0 {
+            return Err(Refusal::ShortOutput);
+        }
         let drained = self.map.drain(
             self.nodes,
             self.colours,

@@ -416,7 +416,7 @@ impl Map {
         told(number, step)
     }
 
-    /// Steps until the end, or until `limit` hits are written to `out`; a limit of 0 means 64. Places past the hits stay. Refusals: those of a
+    /// Steps until the end, or until `limit` hits are written to `out`; a limit of 0 means `out.len()`, as many as fit. Places past the hits stay. Refusals: those of a
     /// step, then ShortOutput.
     pub fn drain(
         self,

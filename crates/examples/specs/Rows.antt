@@ -115,7 +115,7 @@ stepsFrom t q (suc k) c =
     let rest : List Step = stepsFrom t q k (a .next) in
     (outcome a entering a .entered) ∷ cond (a .hit) rest []
 
--- from a cursor on; "limit 0 means 64", so the output has 64 places
+-- from a cursor on, with the limit 0 and an output of 64 places, more than the stores have entries
 unfoldable pub foundFrom : Store → Query → Cursor → Found
 foundFrom t q c =
     let d : DrainAnswer = drainCall (t .map) (t .words) (t .colours) q c 0 64 in

@@ -183,15 +183,19 @@ table =
     }) ∷
     -- "Its colour bit keeps what the repair left in it": the emptied slot 5 was red, and its bit stays 1
     remove (storeA′ plus entry 25 30 6) 5 gives removed (record { no = 0; value = 6; count = 5; root = 2; pairs = moved [] }) (colours 41) ∷
-    -- "limit 0 means 64, for refusal 9 too": an output of 63 places is too short
-    drain storeA Unbounded Unbounded (fresh 2) 0 (replicate 63 7) gives
-    drained (record { no = refusalNumber ShortOutput; hits = 0; entered = 0; next = fresh 2 }) (replicate 63 7) ∷
-    -- of 63 hits it comes to the end; of 64, and of 65, it stops at the 64th, in slot 63
-    drain storeC Unbounded (Excluded 63) (fresh 32) 0 (replicate 66 7) gives
-    drained (record { no = 0; hits = 63; entered = 64; next = ended }) (from 0 63 ++ (7 ∷ 7 ∷ 7 ∷ [])) ∷
-    drain storeC Unbounded (Excluded 64) (fresh 32) 0 (replicate 66 7) gives
-    drained (record { no = 0; hits = 64; entered = 64; next = held 63 5 511 }) (from 0 64 ++ (7 ∷ 7 ∷ [])) ∷
+    -- document 02, item 8: "0 means the output's length, so 9 cannot occur for it"; it stops at the third hit, which is the root, and comes to
+    -- the end where there is a place more than there are hits
+    drain storeA Unbounded Unbounded (fresh 2) 0 (7 ∷ 7 ∷ 7 ∷ []) gives
+    drained (record { no = 0; hits = 3; entered = 3; next = held 2 1 1 }) (0 ∷ 1 ∷ 2 ∷ []) ∷
+    drain storeA Unbounded Unbounded (fresh 2) 0 (replicate 6 7) gives
+    drained (record { no = 0; hits = 5; entered = 5; next = ended }) (from 0 5 ++ (7 ∷ [])) ∷
+    -- "An output of length 0 gets no hits and its cursor back unmoved."
+    drain storeA Unbounded Unbounded (fresh 2) 0 [] gives drained (record { no = 0; hits = 0; entered = 0; next = fresh 2 }) [] ∷
+    drain storeA Unbounded Unbounded (held 1 2 6) 0 [] gives drained (record { no = 0; hits = 0; entered = 0; next = held 1 2 6 }) [] ∷
+    -- "a lookup with 70 hits looked complete": with 65 hits 0 hands out all of them; 64 stops at the 64th, in slot 63, as 0 did before
     drain storeC Unbounded Unbounded (fresh 32) 0 (replicate 66 7) gives
+    drained (record { no = 0; hits = 65; entered = 65; next = ended }) (from 0 65 ++ (7 ∷ [])) ∷
+    drain storeC Unbounded Unbounded (fresh 32) 64 (replicate 66 7) gives
     drained (record { no = 0; hits = 64; entered = 64; next = held 63 5 511 }) (from 0 64 ++ (7 ∷ 7 ∷ [])) ∷
     -- document 02, item 5: the plain lookup goes through all five entries, and has the one hit that the pruned one has
     plain storeA (Overlap (span (Included 20) (Excluded 25))) (7 ∷ 7 ∷ 7 ∷ 7 ∷ 7 ∷ 7 ∷ []) gives

@@ -29,7 +29,6 @@ use Rattle.iter.specs.declared.Cursor.{Cursor}
 use Rattle.iter.specs.declared.drain.Drained.{Drained}
 use Rattle.iter.specs.declared.seek.Step.the-variants.{Hit, End}
 use Rattle.plain.specs.declared.Tally.{Tally}
-use Rattle.iter.specs.declared.rules.Query.{Query}
 use Rattle.iter.specs.declared.rules.Query.the-variants.{Exact}
 use Rattle.iter_laws.specs.Highest.{Highest}
 use Rattle.iter_laws.proofs.ExactRuns.{exact-start}
@@ -37,7 +36,7 @@ use Rattle.iset.specs.Check.{checkRule}
 use Rattle.iset.specs.Build.{buildNumber, buildPaper, buildRule, buildNodes, buildColour}
 use Rattle.iset.specs.Remove.{removeNumber, removePaper, removeCall, removeNodes, removeColours}
 use Rattle.iset.specs.Insert.{insertNumber, insertPaper, insertCall, insertNodes, insertColours}
-use Rattle.iset.specs.Lookup.{startNumber, startPaper, startCall, stepPaper, stepCall, openDrainNumber, drainNumber, drainPaper, drainCall, drainOutput}
+use Rattle.iset.specs.Lookup.{startNumber, startPaper, startCall, stepPaper, stepCall, drainPaper, drainCall}
 use Rattle.iset.specs.Plain.{plainPaper, plainCall}
 use Rattle.iset.specs.Demands.{removal, insertion}
 use Rattle.iset.specs.declared.Map.{Map}
@@ -130,16 +129,6 @@ module _ (m : Map) (W C : List ℕ) (x : Interval) (e : startCall m W C x .no �
       let z : startNumber m W C (Exact x) ≡ 0 = sym (start-no m W C x) ∙ e in
       rw (eq-eqb (startNumber m W C (Exact x)) 0 z)
       (refl, exact-start W C (m .count) (m .root) x (few m W C (Exact x) z) P (λ u a. inl (u, a)) inr)
-
--- "limit 0 means 64, for refusal 9 too"
-module _ (m : Map) (W C : List ℕ) (q : Query) (c : Cursor) where
-  pub drain-zero : (places : ℕ) → drainCall m W C q c 0 places ≡ drainCall m W C q c 64 places
-  unfolding drainCall drainNumber openDrainNumber
-  drain-zero places = refl
-
-  pub drain-zero-output : (out : List ℕ) → drainOutput m W C q c 0 out ≡ drainOutput m W C q c 64 out
-  unfolding drainOutput drainNumber openDrainNumber
-  drain-zero-output out = refl
 
 -- Said of the code: where an answer r that a call's promise allows from its arguments a is no refusal, its parts are those above.
 pub build-done : (κs : Lfts 3) (a : K.Dens κs build-kinds.ps) (r : K.resT build-kinds.r κs .Denot) (s : AtExit (K.endedOf 3 build-kinds.ps build-kinds.r) κs)

@@ -197,11 +197,11 @@ module _ (m : Map) (W C X D : List ℕ) (s : SameBelow (m .count) W C X D) where
 
       pub drain-below : (places : ℕ) → drainCall m W C q c limit places ≡ drainCall m X D q c limit places
       unfolding drainCall
-      drain-below places = rw (same-drainNumber places, same-drain n W X (s .words) q (limitOf limit) c)
+      drain-below places = rw (same-drainNumber places, same-drain n W X (s .words) q (limitOf limit places) c)
 
       pub output-below : (out : List ℕ) → drainOutput m W C q c limit out ≡ drainOutput m X D q c limit out
       unfolding drainOutput
-      output-below out = rw (same-drainNumber (length out), same-drain n W X (s .words) q (limitOf limit) c)
+      output-below out = rw (same-drainNumber (length out), same-drain n W X (s .words) q (limitOf limit (length out)) c)
 
   -- a call that is refused, by the number k, or not
   by-number : (k : ℕ) (j : ℕ) (Y Z E F I T G H : List ℕ) → (k ≡ 0 → SameBelow j Y E Z F) → SameBelow j I G T H

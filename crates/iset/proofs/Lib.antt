@@ -18,3 +18,4 @@ pub mod Below
 pub mod Laws
 pub mod Determined
 pub mod Demands
+pub mod Fits

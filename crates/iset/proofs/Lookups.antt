@@ -39,12 +39,12 @@ use Rattle.iset.proofs.Checks.{both-zero, count-zero}
 use Rattle.iset.proofs.Orders.{start-order, step-order, drain-order}
 
 -- an output that holds the limit
-holds : (limit out : ℕ) → _≡_ {A = ℕ} (cond (ltb out (drains.limitOf limit)) 9 0) 0 → drains.limitOf limit ≤ out
-holds limit out e = go (ltb out (drains.limitOf limit)) refl e
+holds : (limit out : ℕ) → _≡_ {A = ℕ} (cond (ltb out (drains.limitOf limit out)) 9 0) 0 → drains.limitOf limit out ≤ out
+holds limit out e = go (ltb out (drains.limitOf limit out)) refl e
   where
-    go : (b : Bool) → ltb out (drains.limitOf limit) ≡ b → _≡_ {A = ℕ} (cond b 9 0) 0 → drains.limitOf limit ≤ out
+    go : (b : Bool) → ltb out (drains.limitOf limit out) ≡ b → _≡_ {A = ℕ} (cond b 9 0) 0 → drains.limitOf limit out ≤ out
     go true f y = absurd (omega arith)
-    go false f y = ltb-false out (drains.limitOf limit) f
+    go false f y = ltb-false out (drains.limitOf limit out) f
 
 -- what a lookup that is not refused has passed: an opened one
 module _ (m : Map) (W C : List ℕ) (q : Query) where
@@ -58,11 +58,11 @@ module _ (m : Map) (W C : List ℕ) (q : Query) where
     unfolding openStepNumber
     open-step-accepts e = both-zero (openStartNumber m W C q) (formNumber (formOf W (m .count) (beginning m W q) c)) e
 
-    pub open-drain-accepts : (limit out : ℕ) → openDrainNumber m W C q c limit out ≡ 0 → (openStepNumber m W C q c ≡ 0) × (drains.limitOf limit ≤ out)
+    pub open-drain-accepts : (limit out : ℕ) → openDrainNumber m W C q c limit out ≡ 0 → (openStepNumber m W C q c ≡ 0) × (drains.limitOf limit out ≤ out)
     unfolding openDrainNumber
     open-drain-accepts limit out e =
-        let z : (openStepNumber m W C q c ≡ 0) × (_≡_ {A = ℕ} (cond (ltb out (drains.limitOf limit)) 9 0) 0) =
-        both-zero (openStepNumber m W C q c) (cond (ltb out (drains.limitOf limit)) 9 0) e in
+        let z : (openStepNumber m W C q c ≡ 0) × (_≡_ {A = ℕ} (cond (ltb out (drains.limitOf limit out)) 9 0) 0) =
+        both-zero (openStepNumber m W C q c) (cond (ltb out (drains.limitOf limit out)) 9 0) e in
         (z .0, holds limit out (z .1))
 
   held : openStartNumber m W C q ≡ 0 → m .count ≤ room (length W) (length C)
@@ -78,10 +78,10 @@ module _ (m : Map) (W C : List ℕ) (q : Query) where
     step-accepts e =
         both-zero (startNumber m W C q) (formNumber (formOf W (m .count) (beginning m W q) c)) (sym (step-order m W C q c) ∙ e)
 
-    pub drain-accepts : (limit out : ℕ) → drainNumber m W C q c limit out ≡ 0 → (stepNumber m W C q c ≡ 0) × (drains.limitOf limit ≤ out)
+    pub drain-accepts : (limit out : ℕ) → drainNumber m W C q c limit out ≡ 0 → (stepNumber m W C q c ≡ 0) × (drains.limitOf limit out ≤ out)
     drain-accepts limit out e =
-        let z : (stepNumber m W C q c ≡ 0) × (_≡_ {A = ℕ} (cond (ltb out (drains.limitOf limit)) 9 0) 0) =
-        both-zero (stepNumber m W C q c) (cond (ltb out (drains.limitOf limit)) 9 0) (sym (drain-order m W C q c limit out) ∙ e) in
+        let z : (stepNumber m W C q c ≡ 0) × (_≡_ {A = ℕ} (cond (ltb out (drains.limitOf limit out)) 9 0) 0) =
+        both-zero (stepNumber m W C q c) (cond (ltb out (drains.limitOf limit out)) 9 0) (sym (drain-order m W C q c limit out) ∙ e) in
         (z .0, holds limit out (z .1))
 
 pub not-bad : (f : Form) → formNumber f ≡ 0 → f ≡ Bad → ⊥
@@ -112,7 +112,7 @@ module _ (m : Map) (W C : List ℕ) (q : Query) (t : Checked) (s : t ≡ Sound) 
       step-placed = fit step-zero .1
 
     module _ (limit out : ℕ) (e : checkNumber t ≡ openDrainNumber m W C q c limit out) where
-      drain-zero : (openStepNumber m W C q c ≡ 0) × (drains.limitOf limit ≤ out)
+      drain-zero : (openStepNumber m W C q c ≡ 0) × (drains.limitOf limit out ≤ out)
       drain-zero = open-drain-accepts m W C q c limit out (sym e ∙ ap checkNumber s)
 
       pub drain-words : m .count * 8 ≤ length W
@@ -124,7 +124,7 @@ module _ (m : Map) (W C : List ℕ) (q : Query) (t : Checked) (s : t ≡ Sound) 
       pub drain-placed : Placed (m .count) c
       drain-placed = fit (drain-zero .0) .1
 
-      pub drain-limit : (l : ℕ) → l ≡ drains.limitOf limit → l ≤ out
+      pub drain-limit : (l : ℕ) → l ≡ drains.limitOf limit out → l ≤ out
       drain-limit l f = omega (arith, drain-zero .1)
 
 -- the code's answers, as the rules have them

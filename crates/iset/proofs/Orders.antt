@@ -65,6 +65,6 @@ module _ (m : Map) (W C : List ℕ) where
     step-order = grouped (checkRule m W C) (openStartNumber m W C q) (formNumber (formOf W (m .count) (beginning m W q) c))
 
     -- "drain as its step, then 9"
-    pub drain-order : (limit places : ℕ) → drainNumber m W C q c limit places ≡ first (stepNumber m W C q c) (cond (ltb places (limitOf limit)) 9 0)
+    pub drain-order : (limit places : ℕ) → drainNumber m W C q c limit places ≡ first (stepNumber m W C q c) (cond (ltb places (limitOf limit places)) 9 0)
     unfolding stepNumber drainNumber openDrainNumber
-    drain-order limit places = grouped (checkRule m W C) (openStepNumber m W C q c) (cond (ltb places (limitOf limit)) 9 0)
+    drain-order limit places = grouped (checkRule m W C) (openStepNumber m W C q c) (cond (ltb places (limitOf limit places)) 9 0)

@@ -424,25 +424,25 @@ module _ (m : Map) (W C : List ℕ) where
     step-leaves q d = rw (step-no q) (kept (stepNumber m W C q c) _ _ (λ e. d (step-no q ∙ e)))
 
     module _ (limit : ℕ) where
-      short-is : (l places : ℕ) → ShortOutput l places ↔ (places < limitOf l)
-      short-is zero places = (λ p. p, λ p. p)
+      short-is : (l places : ℕ) → ShortOutput l places ↔ (places < limitOf l places)
+      short-is zero places = (λ p. absurd p, λ p. omega arith)
       short-is (suc k) places = rw (ne-eqb (suc k) 0 (λ z. omega arith)) (λ p. p, λ p. p)
 
-      room-row : (places : ℕ) → Exactly (refuse 9 (ShortOutput limit places) accept) (cond (ltb places (limitOf limit)) 9 0)
+      room-row : (places : ℕ) → Exactly (refuse 9 (ShortOutput limit places) accept) (cond (ltb places (limitOf limit places)) 9 0)
       room-row places =
-          failed-row 9 (ShortOutput limit places) accept 0 (ltb places (limitOf limit)) (omega arith)
-          (λ t. short-is limit places .1 (ltb-true places (limitOf limit) t))
-          (λ t p. omega (arith, ltb-false places (limitOf limit) t, short-is limit places .0 p)) (λ t. refl)
+          failed-row 9 (ShortOutput limit places) accept 0 (ltb places (limitOf limit places)) (omega arith)
+          (λ t. short-is limit places .1 (ltb-true places (limitOf limit places) t))
+          (λ t p. omega (arith, ltb-false places (limitOf limit places) t, short-is limit places .0 p)) (λ t. refl)
 
       drain-row : (q : Query) (places : ℕ) → Exactly (drainRows m W C q c limit places) (drainNumber m W C q c limit places)
       drain-row (Overlap q) places =
           rw (drain-order m W C (Overlap q) c limit places)
           (first-then (stepRows m W C (Overlap q) c) (refuse 9 (ShortOutput limit places) accept) (stepNumber m W C (Overlap q) c)
-          (cond (ltb places (limitOf limit)) 9 0) (omega arith) (step-row (Overlap q)) (λ e. room-row places))
+          (cond (ltb places (limitOf limit places)) 9 0) (omega arith) (step-row (Overlap q)) (λ e. room-row places))
       drain-row (Exact x) places =
           rw (drain-order m W C (Exact x) c limit places)
           (first-then (stepRows m W C (Exact x) c) (refuse 9 (ShortOutput limit places) accept) (stepNumber m W C (Exact x) c)
-          (cond (ltb places (limitOf limit)) 9 0) (omega arith) (step-row (Exact x)) (λ e. room-row places))
+          (cond (ltb places (limitOf limit places)) 9 0) (omega arith) (step-row (Exact x)) (λ e. room-row places))
 
       drain-no : (q : Query) (places : ℕ) → drainCall m W C q c limit places .no ≡ drainNumber m W C q c limit places
       unfolding drainCall

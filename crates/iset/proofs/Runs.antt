@@ -110,24 +110,24 @@ module _ (m : Map) (W C : List ℕ) (q : Query) (start : startNumber m W C q ≡
       go a l false = rw append-nil
 
   module _ (limit : ℕ) (out : List ℕ) (c : Cursor) (e : Accepted c) where
-    drain-number : drainNumber m W C q c limit (length out) ≡ cond (ltb (length out) (limitOf limit)) 9 0
+    drain-number : drainNumber m W C q c limit (length out) ≡ cond (ltb (length out) (limitOf limit (length out))) 9 0
     drain-number = rw (drain-order m W C q c limit (length out), eq-eqb (stepNumber m W C q c) 0 e)
 
-    drain-short : ltb (length out) (limitOf limit) ≡ true → given m W C q c (drain limit out) ≡ part 9 0 c
+    drain-short : ltb (length out) (limitOf limit (length out)) ≡ true → given m W C q c (drain limit out) ≡ part 9 0 c
     unfolding drainCall drainOutput drains.drain calls
     drain-short i = rw (drain-number, i)
 
-    drain-given : ltb (length out) (limitOf limit) ≡ false → given m W C q c (drain limit out) ≡ part 0 (limitOf limit) c
+    drain-given : ltb (length out) (limitOf limit (length out)) ≡ false → given m W C q c (drain limit out) ≡ part 0 (limitOf limit (length out)) c
     unfolding drainCall drainOutput filled
     drain-given i = rw (drain-number, i, take-append-seam)
 
-    either : (b : Bool) → ltb (length out) (limitOf limit) ≡ b → given m W C q c (drain limit out) ≡ part (cond b 9 0) (cond b 0 (limitOf limit)) c
+    either : (b : Bool) → ltb (length out) (limitOf limit (length out)) ≡ b → given m W C q c (drain limit out) ≡ part (cond b 9 0) (cond b 0 (limitOf limit (length out))) c
     either true i = drain-short i
     either false i = drain-given i
 
   given-is : (x : Ask) (c : Cursor) → Accepted c → given m W C q c x ≡ part (short x) (wanted x) c
   given-is step c e = step-given c e
-  given-is (drain limit out) c e = either limit out c e (ltb (length out) (limitOf limit)) refl
+  given-is (drain limit out) c e = either limit out c e (ltb (length out) (limitOf limit (length out))) refl
 
   next-is : (x : Ask) (c : Cursor) → Accepted c → given m W C q c x .next ≡ drains.drain W n Q (wanted x) c .next
   next-is x c e = ap (λ (g : Given). g .next) (given-is x c e)
@@ -153,7 +153,7 @@ module _ (m : Map) (W C : List ℕ) (q : Query) (start : startNumber m W C q ≡
   all-accepted [] c e h = tt
   all-accepted (step ∷ l) c e h = (call-sound step c e .number, all-accepted l (given m W C q c step .next) (next-accepted step c e) h)
   all-accepted (drain limit out ∷ l) c e h = (
-    call-sound (drain limit out) c e .number ∙ rw (le-ltb (length out) (limitOf limit) (h .0)),
+    call-sound (drain limit out) c e .number ∙ rw (le-ltb (length out) (limitOf limit (length out)) (h .0)),
     all-accepted l (given m W C q c (drain limit out) .next) (next-accepted (drain limit out) c e) (h .1),
   )
 

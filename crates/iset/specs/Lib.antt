@@ -11,3 +11,4 @@ pub mod PlainRuns
 pub mod Refusals
 pub mod Below
 pub mod Demands
+pub mod Fits

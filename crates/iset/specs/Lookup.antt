@@ -66,7 +66,7 @@ unfoldable pub openStepNumber : Map → List ℕ → List ℕ → Query → Curs
 openStepNumber m W C q c = first (openStartNumber m W C q) (formNumber (formOf W (m .count) (beginning m W q) c))
 
 unfoldable pub openDrainNumber : Map → List ℕ → List ℕ → Query → Cursor → ℕ → ℕ → ℕ
-openDrainNumber m W C q c limit room = first (openStepNumber m W C q c) (cond (ltb room (drains.limitOf limit)) 9 0)
+openDrainNumber m W C q c limit room = first (openStepNumber m W C q c) (cond (ltb room (drains.limitOf limit room)) 9 0)
 
 -- and of the public calls
 unfoldable pub startNumber : Map → List ℕ → List ℕ → Query → ℕ
@@ -143,23 +143,23 @@ abbrev pub drainPaper : Cursor → Emptied → DrainAnswer
 drainPaper c (emptied.Done d) = record { no = 0; hits = d .hits; entered = d .entered; next = d .next }
 drainPaper c (emptied.Refused y) = refusedDrain c (refusalNumber y)
 
-abbrev pub drainBy : Map → List ℕ → Query → Cursor → ℕ → ℕ → DrainAnswer
-drainBy m W q c limit k =
-    cond (eqb k 0) (drainAnswer (drains.drain W (m .count) (rules W (m .count) q) (drains.limitOf limit) c)) (refusedDrain c k)
+abbrev pub drainBy : Map → List ℕ → Query → Cursor → ℕ → ℕ → ℕ → DrainAnswer
+drainBy m W q c limit room k =
+    cond (eqb k 0) (drainAnswer (drains.drain W (m .count) (rules W (m .count) q) (drains.limitOf limit room) c)) (refusedDrain c k)
 
 -- "Places past the hits written stay."
 abbrev pub drainOutputBy : Map → List ℕ → Query → Cursor → ℕ → List ℕ → ℕ → List ℕ
 drainOutputBy m W q c limit out k =
-    cond (eqb k 0) (drains.filled (drains.drain W (m .count) (rules W (m .count) q) (drains.limitOf limit) c .slots) out) out
+    cond (eqb k 0) (drains.filled (drains.drain W (m .count) (rules W (m .count) q) (drains.limitOf limit (length out)) c .slots) out) out
 
 unfoldable pub openDrainCall : Map → List ℕ → List ℕ → Query → Cursor → ℕ → ℕ → DrainAnswer
-openDrainCall m W C q c limit room = drainBy m W q c limit (openDrainNumber m W C q c limit room)
+openDrainCall m W C q c limit room = drainBy m W q c limit room (openDrainNumber m W C q c limit room)
 
 unfoldable pub openDrainOutput : Map → List ℕ → List ℕ → Query → Cursor → ℕ → List ℕ → List ℕ
 openDrainOutput m W C q c limit out = drainOutputBy m W q c limit out (openDrainNumber m W C q c limit (length out))
 
 unfoldable pub drainCall : Map → List ℕ → List ℕ → Query → Cursor → ℕ → ℕ → DrainAnswer
-drainCall m W C q c limit room = drainBy m W q c limit (drainNumber m W C q c limit room)
+drainCall m W C q c limit room = drainBy m W q c limit room (drainNumber m W C q c limit room)
 
 unfoldable pub drainOutput : Map → List ℕ → List ℕ → Query → Cursor → ℕ → List ℕ → List ℕ
 drainOutput m W C q c limit out = drainOutputBy m W q c limit out (drainNumber m W C q c limit (length out))

@@ -70,9 +70,9 @@ BadCursor m W C (Exact x) c =
     × ((P : Passes W C (m .count) (m .root)) (h : Highest W x (P .tree) (beginning m W (Exact x)))
     → Held (node (h .left) (beginning m W (Exact x)) (h .right)) c → ⊥)
 
--- 9: "drain limit above the output's length"; "limit 0 means 64, for refusal 9 too"
+-- 9: "drain limit above the output's length"; and document 02, item 8: "0 means the output's length, so 9 cannot occur for it"
 abbrev pub ShortOutput : ℕ → ℕ → Type 0
-ShortOutput zero places = places < 64
+ShortOutput zero places = ⊥
 ShortOutput (suc k) places = places < suc k
 
 -- "the check by itself 1, 2"

@@ -55,7 +55,7 @@ given m W C q c (drain limit out) =
     record {
       no = a .no;
       slots = take (a .hits) (drainOutput m W C q c limit out);
-      nodes = when (eqb (a .no) 0) (calls W (m .count) (rules W (m .count) q) (limitOf limit) c);
+      nodes = when (eqb (a .no) 0) (calls W (m .count) (rules W (m .count) q) (limitOf limit (length out)) c);
       entered = a .entered;
       next = a .next;
     }
@@ -77,12 +77,12 @@ run m W C q c (x ∷ l) =
 -- 9 for a drain whose output does not hold its limit, else 0
 abbrev pub short : Ask → ℕ
 short step = 0
-short (drain limit out) = cond (ltb (length out) (limitOf limit)) 9 0
+short (drain limit out) = cond (ltb (length out) (limitOf limit (length out))) 9 0
 
 -- how many hits a call may hand out
 abbrev pub wanted : Ask → ℕ
 wanted step = 1
-wanted (drain limit out) = cond (ltb (length out) (limitOf limit)) 0 (limitOf limit)
+wanted (drain limit out) = cond (ltb (length out) (limitOf limit (length out))) 0 (limitOf limit (length out))
 
 abbrev pub total : List Ask → ℕ
 total [] = 0
@@ -108,7 +108,7 @@ AllSound m W C q c (x ∷ l) = Sound m W C q c x × AllSound m W C q (given m W 
 abbrev pub Hold : List Ask → Type 0
 Hold [] = Unit {0}
 Hold (step ∷ l) = Hold l
-Hold (drain limit out ∷ l) = (limitOf limit ≤ length out) × Hold l
+Hold (drain limit out ∷ l) = (limitOf limit (length out) ≤ length out) × Hold l
 
 -- and no call is refused
 abbrev pub NoneRefused : Map → List ℕ → List ℕ → Query → Cursor → List Ask → Type 0

@@ -85,17 +85,17 @@ fn test_form(form: Form) -> Checked
     }
 }
 
-// A limit of 0 means 64.
-fn limit_of(limit: u64) -> u64
-    ensures { λ r. ⌜ r ≡ limitOf limit ⌝ }
+// How many hits a drain may write to an output of `room` places: a limit of 0 means as many as fit.
+fn limit_of(limit: u64, room: u64) -> u64
+    ensures { λ r. ⌜ r ≡ limitOf limit room ⌝ }
 {
-    if limit == 0 { 64 } else { limit }
+    if limit == 0 { room } else { limit }
 }
 
 fn test_room(limit: u64, room: u64) -> Checked
-    ensures { λ r. ⌜ checkNumber r ≡ cond (ltb room (limitOf limit)) 9 0 ⌝ }
+    ensures { λ r. ⌜ checkNumber r ≡ cond (ltb room (limitOf limit room)) 9 0 ⌝ }
 {
-    if room < limit_of(limit) {
+    if room < limit_of(limit, room) {
         Checked::Refused(Refusal::ShortOutput)
     } else {
         Checked::Sound
@@ -220,7 +220,13 @@ impl Map {
         let room = out.len() as u64;
         let Checked::Refused(why) = self.test_drain(nodes, colours, query, cursor, limit, room)
         else {
-            return Emptied::Done(cursor.drain(nodes, self.count, query, limit_of(limit), out));
+            return Emptied::Done(cursor.drain(
+                nodes,
+                self.count,
+                query,
+                limit_of(limit, room),
+                out,
+            ));
         };
         Emptied::Refused(why)
     }
@@ -245,7 +251,7 @@ impl Map {
         Stepped::Refused(why)
     }
 
-    // Steps until the end, or until `limit` hits are written to `out`; a limit of 0 means 64.
+    // Steps until the end, or until `limit` hits are written to `out`; a limit of 0 means as many as fit.
     pub fn drain(
         self,
         nodes: &[u64],

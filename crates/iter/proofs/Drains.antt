@@ -15,12 +15,12 @@ use Rattle.iter.specs.declared.Cursor.{Cursor}
 use Rattle.iter.proofs.Events.{Event, hitSlots, nodes}
 use Rattle.iter.proofs.Steps.{cases, hits-not, hits-live, Plays, first-hits, plays-on, step-is, call-is, step-count, no-slot, step-end, step-stops}
 
--- "limit 0 means 64"; any other limit means itself
-pub limit-zero : limitOf 0 ≡ 64
-limit-zero = refl
+-- "0 means the output's length"; any other limit means itself
+pub limit-zero : (places : ℕ) → limitOf 0 places ≡ places
+limit-zero places = refl
 
-pub limit-own : (k : ℕ) → limitOf (suc k) ≡ suc k
-limit-own k = rw (ne-eqb (suc k) 0 (λ z. omega arith))
+pub limit-own : (k places : ℕ) → limitOf (suc k) places ≡ suc k
+limit-own k places = rw (ne-eqb (suc k) 0 (λ z. omega arith))
 
 module _ (W : List ℕ) (n : ℕ) (Q : Rules) where
   -- no more hits than the limit

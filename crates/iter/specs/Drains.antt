@@ -37,9 +37,9 @@ calls W n Q (suc limit) c =
     let r : List ℕ = calls W n Q limit (a .next) in
     call W n Q (fuel n) c ++ cond (ltb (a .slot) n) r []
 
--- "limit 0 means 64"
-abbrev pub limitOf : ℕ → ℕ
-limitOf limit = cond (eqb limit 0) 64 limit
+-- Document 02, item 8: "0 means the output's length". How many hits a drain with this limit may write to an output of so many places.
+abbrev pub limitOf : ℕ → ℕ → ℕ
+limitOf limit places = cond (eqb limit 0) places limit
 
 -- the output after a drain
 unfoldable pub filled : List ℕ → List ℕ → List ℕ

@@ -236,8 +236,13 @@ impl<'a> Gen<'a> {
         let mut c = fresh;
         for _ in 0..most / 4 + 1 {
             let limit = [0, 1, 2, 5, self.session.store.count + 1][self.rng.below(5) as usize];
-            let needed = if limit == 0 { 64 } else { limit };
-            let room = if self.rng.one_in(12) { needed - 1 } else { needed + self.rng.below(3) };
+            let room = if limit == 0 {
+                self.rng.below(67)
+            } else if self.rng.one_in(12) {
+                limit - 1
+            } else {
+                limit + self.rng.below(3)
+            };
             let (hits, next) = self.drain(query, c, limit, room);
             c = next;
             if hits == 0 {

@@ -407,7 +407,7 @@ impl Session {
 
     fn drain(&self, query: Query, mut c: Cursor, limit: u64, room: u64) -> String {
         let map = self.map();
-        let limit = if limit == 0 { 64 } else { limit };
+        let limit = if limit == 0 { room } else { limit };
         let mut no = self.step_refusal(&map, query, c);
         if no == 0 && limit > room {
             no = 9;
