@@ -101,11 +101,11 @@ module _ (m : Map) (W C : List ℕ) (q : Query) (e : startNumber m W C q ≡ 0) 
     run-same : (l : List Ask) → run m W C q c l .next ≡ ended → plainSlots m W C q out ≡ run m W C q c l .slots
     run-same l i = slots-are ∙ sym (L l .slots-all i)
 
-    drain-same : (limit : ℕ) (room : List ℕ) → length found < limitOf limit → limitOf limit ≤ length room
+    drain-same : (limit : ℕ) (room : List ℕ) → length found < limitOf limit (length room) → limitOf limit (length room) ≤ length room
         → (drainCall m W C q c limit (length room) .next ≡ ended) × (plainSlots m W C q out ≡ drainSlots m W C q c limit room)
     drain-same limit room k f =
         let l : List Ask = drain limit room ∷ [] in
-        let w : total l ≡ limitOf limit = rw (le-ltb (length room) (limitOf limit) f, add-zero) in
+        let w : total l ≡ limitOf limit (length room) = rw (le-ltb (length room) (limitOf limit (length room)) f, add-zero) in
         let i : run m W C q c l .next ≡ ended = L l .ends (rw w k) in
         (i, run-same l i ∙ append-nil _)
 

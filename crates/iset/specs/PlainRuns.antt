@@ -38,7 +38,7 @@ pub record PlainRun (m : Map) (W C : List ℕ) (q : Query) (c : Cursor) (p : ℕ
   pub written : plainOutput m W C q out ≡ filled (those p (slots t)) out
   pub once-each : OnceEach (m .count) p (those p (slots t))
   -- "its list of slots equals that of a fresh drain run to its end": any limit above the number of hits
-  pub drain-agrees : (limit : ℕ) (room : List ℕ) → length (those p (slots t)) < limitOf limit → limitOf limit ≤ length room
+  pub drain-agrees : (limit : ℕ) (room : List ℕ) → length (those p (slots t)) < limitOf limit (length room) → limitOf limit (length room) ≤ length room
       → (drainCall m W C q c limit (length room) .next ≡ ended) × (plainSlots m W C q out ≡ drainSlots m W C q c limit room)
   -- and that of any steps and drains from the fresh cursor to the end
   pub run-agrees : (l : List Ask) → run m W C q c l .next ≡ ended → plainSlots m W C q out ≡ run m W C q c l .slots
