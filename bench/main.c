@@ -37,7 +37,7 @@ uint64_t store_exact(const store *s, uint64_t start, uint64_t end);
 /* Rust's libraries name it; nothing here unwinds. */
 void rust_eh_personality(void) {}
 
-enum { ROUNDS = 15, MOST = 65535, LOOKUPS = 10000, PLAINS = 20, PIECE = 64 };
+enum { ROUNDS = 15, MOST = 65535, LOOKUPS = 10000, PLAINS = 200, PIECE = 64 };
 
 static uint64_t list[3 * MOST], mixed[3 * MOST], words[8 * MOST], spare[8 * MOST], held[8 * MOST], out[MOST], slots[MOST];
 static uint8_t bytes[MOST / 8 + 1], spare_bytes[MOST / 8 + 1], held_bytes[MOST / 8 + 1];
