@@ -8,7 +8,7 @@ use lib.ListN.{length, getD}
 use lib.Dec.{eqb, ltb, leb}
 use borrow.Author.Tests.{le-leb, lt-leb, lt-ltb, leb-true, ltb-true, eqb-true}
 use Rattle.bitvec.specs.Bits.{bitAt, setBit, fill}
-use Rattle.bitvec.specs.Calls.{done, allowed, roomy, getRule, setRule, setBytes, pushRule, pushBytes, popRule, swapRemoveRule, gapClosed, swapRemoveBytes, bytesFor, fromElemRule, fromElemBytes}
+use Rattle.bitvec.specs.Calls.{done, badBit, allowed, roomy, getRule, setRule, setBytes, pushRule, pushBytes, popRule, swapRemoveRule, gapClosed, swapRemoveBytes, bytesFor, fromElemRule, fromElemBytes}
 use Rattle.bitvec.specs.Written.{Writes, Fills, refusedBy}
 use Rattle.bitvec.proofs.Numbers.{bit-weight}
 use Rattle.bitvec.proofs.Bytes.{length-setBit, bitAt-same, bitAt-other, length-fill, bitAt-fill, bitAt-fill-rest}
@@ -41,7 +41,9 @@ module _ (s : List ℕ) (len : ℕ) (holds : len ≤ length s * 8) where
   -- the last of i + 1 bits is bit i
   pub pop-says : (i : ℕ) → len ≡ suc i → popRule s len ≡ done (bitAt s i) i
   unfolding popRule
-  pop-says i e = let q : len - 1 ≡ i = omega arith in rw (allowed-is 0 (omega arith), q)
+  pop-says i e =
+      let q : len - 1 ≡ i = omega arith in
+      ap (λ (b : Bool). cond b (done (bitAt s (len - 1)) (len - 1)) (badBit len)) (allowed-is 0 (omega arith)) ∙ rw q
 
   -- bit i is answered, and the last bit takes its place
   pub swap-remove-says : (i last : ℕ) → i < len → len ≡ suc last

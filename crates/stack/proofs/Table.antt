@@ -96,9 +96,12 @@ unfolding pushRule pushed
 push-says s h = rw (lt-leb 32 (s .levels) h) (writes s (s .levels + 1) (s .levels) entered (omega arith))
 
 -- `new`: one level, 00, and 0 above it
-pub new-says : (start .levels ≡ 1) × ((k : ℕ) → stateAt (start .bits) k ≡ entered)
+no-bits : (k : ℕ) → stateAt 0 k ≡ entered
 unfolding stateAt
-new-says = (refl, λ k. rw (div-eq-of-lt (four k .1)))
+no-bits k = rw (div-eq-of-lt (four k .1))
+
+pub new-says : (start .levels ≡ 1) × ((k : ℕ) → stateAt (start .bits) k ≡ entered)
+new-says = (refl, no-bits)
 
 pub is-empty-says : (s : ActionStack) → (s .levels ≡ 0 → isEmptyRule s ≡ done true s) × (1 ≤ s .levels → s .levels ≤ 32 → isEmptyRule s ≡ done false s)
 unfolding isEmptyRule
