@@ -211,15 +211,22 @@ fn drained() {
         .unwrap();
     assert_eq!((drained.hits, drained.entered, drained.next), (2, 3, ENDED));
     assert_eq!(out[..3], [1, 2, 777]);
-    let short = a.map.drain(
-        &a.nodes,
-        &a.colours,
-        query,
-        a.map.fresh(),
-        0,
-        &mut out[..63],
-    );
+    let from = a.map.fresh();
+    let short = a
+        .map
+        .drain(&a.nodes, &a.colours, query, from, 2, &mut out[..1]);
     assert_eq!(short, Err(Refusal::ShortOutput));
+    // A limit of 0 means as many as fit: one, and none with the cursor as given.
+    let one = a
+        .map
+        .drain(&a.nodes, &a.colours, query, from, 0, &mut out[..1])
+        .unwrap();
+    assert_eq!((one.hits, one.entered, one.next.slot), (1, 3, 1));
+    let none = a
+        .map
+        .drain(&a.nodes, &a.colours, query, from, 0, &mut [])
+        .unwrap();
+    assert_eq!((none.hits, none.entered, none.next), (0, 0, from));
 }
 
 #[test]
