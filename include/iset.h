@@ -146,6 +146,7 @@ uint64_t iset_step_exact(uint64_t count, uint64_t root, const uint64_t *nodes, s
     uint64_t start, uint64_t end, uint64_t slot, uint64_t levels, uint64_t bits, uint64_t *answer, size_t answer_len);
 
 /* Steps until the end, or until `limit` slots are written to `out`; a limit of 0 means `out_len`, as many as fit. Places of `out` past them stay.
+ * If the next cursor's slot is not ISET_U there may be more hits: call again with that cursor. A host that shows one screen passes 64 itself.
  * Answer: how many slots were written, how many nodes were entered, the next cursor's slot, levels, bits. At the end that cursor has slot ISET_U.
  * Refusals: those of iset_step, then SHORT_OUTPUT. */
 uint64_t iset_drain(uint64_t count, uint64_t root, const uint64_t *nodes, size_t nodes_len, const uint8_t *colours, size_t colours_len,
