@@ -179,7 +179,7 @@ fn drain(
     }
 }
 
-// Steps from a cursor until the end, or until `limit` slots are in `out`; a limit of 0 means 64. Answer: how many slots were written,
+// Steps from a cursor until the end, or until `limit` slots are in `out`; a limit of 0 means as many as fit. Answer: how many slots were written,
 // nodes entered, the next cursor's slot, levels, bits.
 #[no_mangle]
 pub extern "C" fn iset_open_drain(
