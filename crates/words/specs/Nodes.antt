@@ -1,8 +1,8 @@
 -- "Nodes: eight 64-bit words a slot: start, end, value, hull start, hull end, left, right, parent."
 use mathlib.Core.Bool.{Bool, true, false, not}
 use mathlib.Core.List.{List}
-use Prim.Native.Nat.{ℕ, _+_, _*_, _/_, min}
-use lib.ListN.{getD, set}
+use Prim.Native.Nat.{ℕ, _+_, _*_, _/_, _<_, _≤_, min}
+use lib.ListN.{getD, set, length}
 use Rattle.words.specs.Ix.{onLink}
 use Rattle.words.specs.Intervals.{eq, extended}
 use Rattle.words.specs.declared.interval.Interval.{Interval}
@@ -94,6 +94,27 @@ fix n W s = putHull W s (hullOf n W s)
 -- the eight words of a slot
 unfoldable pub putNode : List ℕ → ℕ → Entry → Interval → ℕ → ℕ → ℕ → List ℕ
 putNode W s e h left right up = putPar (putKid (putKid (putHull (putEntry W s e) s h) true s left) false s right) s up
+
+-- how many words n nodes take, and how many bits n bytes have
+abbrev pub wordsOf : (nodes : ℕ) → ℕ
+wordsOf n = n * 8
+
+abbrev pub bitsOf : (bytes : ℕ) → ℕ
+bitsOf n = n * 8
+
+-- The words W hold the nodes of n slots, and that of slot s.
+abbrev pub Holds : (words : List ℕ) (count : ℕ) → Type 0
+Holds W n = wordsOf n ≤ length W
+
+abbrev pub Has : (words : List ℕ) (slot : ℕ) → Type 0
+Has W s = wordsOf s + 8 ≤ length W
+
+-- The bytes C hold n bits, as the colours of n slots, and the bit i.
+abbrev pub HoldsBits : (bytes : List ℕ) (count : ℕ) → Type 0
+HoldsBits C n = n ≤ bitsOf (length C)
+
+abbrev pub HasBit : (bytes : List ℕ) (bit : ℕ) → Type 0
+HasBit C i = i < bitsOf (length C)
 
 -- "Capacity: the least of node words div 8, colour bytes × 8, and 65,535."
 abbrev pub room : ℕ → ℕ → ℕ
