@@ -15,3 +15,7 @@ dye C s v = setBit C s v
 -- a link leads to a red slot
 abbrev pub redAt : ℕ → List ℕ → ℕ → Bool
 redAt n C k = onLink n k (λ s. red C s) false
+
+-- a link that leads to a slot has it dyed
+unfoldable pub dyeAt : ℕ → List ℕ → ℕ → Bool → List ℕ
+dyeAt n C k v = onLink n k (λ s. dye C s v) C

@@ -7,7 +7,7 @@ use lib.ListN.{length, getD}
 use lib.Dec.{eqb, ltb}
 use Rattle.words.specs.declared.interval.Interval.{Interval}
 use Rattle.words.specs.declared.node.Entry.{Entry}
-use Rattle.tree_rm_laws.specs.declared.pairs.Pairs.{Pairs}
+use Rattle.words.specs.declared.pair.Pairs.{Pairs}
 use Rattle.iter.specs.Answers.{answer}
 use Rattle.iter.specs.Drains.{filled}
 use Rattle.iter.specs.declared.Cursor.{Cursor}

@@ -6,11 +6,14 @@ use Rattle.bitvec.specs.Bits.{bit, put as putBit, bitAt, setBit}
 use Rattle.audit.specs.Survey.{survey, wholeOf}
 use Rattle.builder.specs.Input.{startOf, endOf, valueOf, every, properAt, inOrder, allProper, sorted as sortedList}
 use Rattle.builder.specs.Build.{spanHull, spanWords, painted, log, levels, buildWords, buildColours, buildRoot}
-use Rattle.tree_rm_laws.specs.Links.{adopt, setChild, redirected, removeChild, redirect, replaced, rootAfter, fixUp}
-use Rattle.tree_rm_laws.specs.Repair.{turn, turn-2, turn-4, dyeAt, choose, turnOf, turnAt, step, repair}
+use Rattle.tree_edit.specs.Links.{adopt, setChild, redirected, removeChild, redirect, replaced, rootAfter, fixUp, leftmost}
+use Rattle.tree_edit.specs.Rotations.{turn, turn-2, turn-4}
+use Rattle.bitvec.specs.Colours.{dyeAt}
+use Rattle.tree_rm_laws.specs.Repair.{choose, turnOf, turnAt, step, repair}
 use Rattle.tree_rm_laws.specs.Pairs.{instead, emptied, home, named, lower, upper, sorted, moved}
-use Rattle.tree_rm_laws.specs.Remove.{leftmost, vacated, exchanged, child, restructure, handed, above, cutWords, cutRoot, copied, relinked, cleared, swapRemove, finish, removeFrom, removeRule}
-use Rattle.tree_rm_laws.specs.Reach.{differs, upHulls, turnOfHulls, turnAtHulls, stepHulls, repairHulls, restructureHulls, cutHulls, vacateHulls, removeHullsFrom, removeHulls}
+use Rattle.tree_rm_laws.specs.Remove.{vacated, exchanged, child, restructure, handed, above, cutWords, cutRoot, copied, relinked, cleared, swapRemove, finish, removeFrom, removeRule}
+use Rattle.tree_edit.specs.Reach.{differs, upHulls}
+use Rattle.tree_rm_laws.specs.Reach.{turnOfHulls, turnAtHulls, stepHulls, repairHulls, restructureHulls, cutHulls, vacateHulls, removeHullsFrom, removeHulls}
 use Rattle.tree_in_laws.specs.Descent.{goesLeft, descend, under}
 use Rattle.tree_in_laws.specs.Mend.{rotated, outer, inner, recoloured, mendAt, mendBelow, mendStep, mend}
 use Rattle.tree_in_laws.specs.Insert.{hungNode, hungWords, hungRoot, hung, mended, insertRule}

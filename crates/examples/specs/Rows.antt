@@ -12,8 +12,8 @@ use Rattle.words.specs.declared.interval.Span.{Span}
 use Rattle.words.specs.declared.node.Entry.{Entry}
 use Rattle.tree.specs.Tree.{Tree, height}
 use Rattle.tree_rm_laws.specs.Pairs.{none}
-use Rattle.tree_rm_laws.specs.declared.pairs.Pair.{Pair}
-use Rattle.tree_rm_laws.specs.declared.pairs.Pairs.{Pairs}
+use Rattle.words.specs.declared.pair.Pair.{Pair}
+use Rattle.words.specs.declared.pair.Pairs.{Pairs}
 use Rattle.iter.specs.Cursors.{fresh}
 use Rattle.iter.specs.declared.Cursor.{Cursor}
 use Rattle.iter.specs.declared.rules.Query.{Query}

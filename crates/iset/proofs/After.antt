@@ -17,8 +17,8 @@ use Rattle.tree.proofs.Checked.{slot-live}
 use Rattle.tree_rm_laws.specs.Names.{changed, same, tally, Names}
 use Rattle.tree_rm_laws.specs.Remove.{Removal, removeRule}
 use Rattle.tree_rm_laws.specs.Removed.{Removed}
-use Rattle.tree_rm_laws.specs.declared.pairs.Pair.{Pair}
-use Rattle.tree_rm_laws.specs.declared.pairs.Pairs.{Pairs}
+use Rattle.words.specs.declared.pair.Pair.{Pair}
+use Rattle.words.specs.declared.pair.Pairs.{Pairs}
 use Rattle.tree_rm_laws.proofs.PairLaws.{same-else, same-here}
 use Rattle.tree_rm_laws.proofs.Rows.{times-without}
 use Rattle.iset.specs.Remove.{removeNumber, removeCall, removeNodes, moved, slotAfter}

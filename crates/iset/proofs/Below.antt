@@ -17,8 +17,9 @@ use Rattle.words.specs.declared.node.Field.the-variants.{Start, End, HullStart,
 use Rattle.audit.proofs.Unread.{whole-below}
 use Rattle.tree_rm_laws.specs.Remove.{removeRule}
 use Rattle.tree.specs.Below.{Agree}
-use Rattle.tree_rm_laws.specs.Below.{Alike}
-use Rattle.tree_rm_laws.proofs.Below.{link-same, SameRemoval, removed-below}
+use Rattle.tree_edit.specs.Below.{Alike}
+use Rattle.tree_edit.proofs.Below.{link-same}
+use Rattle.tree_rm_laws.proofs.Below.{SameRemoval, removed-below}
 use Rattle.tree_rm_laws.proofs.Below as removal
 use Rattle.tree_in_laws.specs.Insert.{insertRule}
 use Rattle.tree_in_laws.proofs.Below.{inserted-below}

@@ -15,13 +15,14 @@ use Rattle.tree.specs.Tree.{leaf}
 use Rattle.tree.specs.Passes.{Passes}
 use Rattle.builder.specs.Build.{buildWords, buildColours, buildRoot}
 use Rattle.builder_laws.specs.Built.{Built}
-use Rattle.tree_rm_laws.specs.Remove.{Store, store, Removal, removeRule}
-use Rattle.tree_rm_laws.specs.Removed.{Inside}
+use Rattle.tree_edit.specs.Store.{Store, store}
+use Rattle.tree_rm_laws.specs.Remove.{Removal, removeRule}
+use Rattle.tree_edit.specs.Inside.{Inside}
 use Rattle.tree_rm_laws.proofs.Inside.{removed-inside}
 use Rattle.tree_in_laws.specs.Insert.{insertRule}
-use Rattle.tree_in_laws.specs.Sequence.{Change, run, total, TakesAll}
+use Rattle.tree_changes.specs.Sequence.{Change, run, total, TakesAll}
 use Rattle.tree_in_laws.proofs.Inside.{inserted-inside}
-use Rattle.tree_in_laws.proofs.Sequence.{ran}
+use Rattle.tree_changes.proofs.Sequence.{ran}
 use Rattle.iset.specs.Check.{checkRule}
 use Rattle.iset.specs.Build.{buildNumber, BuildAnswer, buildRule, buildNodes, buildColour}
 use Rattle.iset.specs.Remove.{removeNumber, RemoveAnswer, refusedRemoval, removeDone, removeReach, removeCall, removeNodes, removeColours}

@@ -8,8 +8,8 @@ use Rattle.words.specs.Ix.{U}
 use Rattle.words.specs.Nodes.{room}
 use Rattle.words.specs.Refusals.{refusalNumber}
 use Rattle.words.specs.declared.node.Entry.{Entry}
-use Rattle.tree_rm_laws.specs.Remove.{Store}
-use Rattle.tree_rm_laws.specs.Reach.{changes}
+use Rattle.tree_edit.specs.Store.{Store}
+use Rattle.tree_edit.specs.Reach.{changes}
 use Rattle.tree_in_laws.specs.Insert.{insertRule}
 use Rattle.tree_in_laws.specs.Reach.{insertHulls}
 use Rattle.iset.specs.Check.{first, checkRule}

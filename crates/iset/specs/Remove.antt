@@ -7,9 +7,10 @@ use Rattle.words.specs.Ix.{U}
 use Rattle.words.specs.Refusals.{refusalNumber}
 use Rattle.tree_rm_laws.specs.Pairs.{none}
 use Rattle.tree_rm_laws.specs.Remove as rule
-use Rattle.tree_rm_laws.specs.Reach.{changes, removeHulls}
-use Rattle.tree_rm_laws.specs.declared.pairs.Pair.{Pair}
-use Rattle.tree_rm_laws.specs.declared.pairs.Pairs.{Pairs}
+use Rattle.tree_edit.specs.Reach.{changes}
+use Rattle.tree_rm_laws.specs.Reach.{removeHulls}
+use Rattle.words.specs.declared.pair.Pair.{Pair}
+use Rattle.words.specs.declared.pair.Pairs.{Pairs}
 use Rattle.iset.specs.Check.{first, countNumber, checkRule}
 use Rattle.iset.specs.declared.Map.{Map}
 use Rattle.iset.specs.declared.remove.Removal.{Removal}

@@ -2,8 +2,8 @@
 use crate::Checked;
 use crate::Map;
 use tree_rm::remove::remove_at;
-use tree_rm_laws::pairs::Pairs;
 use words::ix::U;
+use words::pair::Pairs;
 use words::refusal::Refusal;
 ghost use mathlib.Core.Path.{_≡_};
 ghost use Prim.Native.Nat.{_*_, _≤_, _<_};

@@ -14,13 +14,12 @@ use Rattle.words.specs.Ix.{U, linkOf, onLink}
 use Rattle.words.specs.Nodes.{kid, par}
 use Rattle.words.specs.declared.ix.Link.{Link}
 use Rattle.words.specs.declared.ix.Link.the-variants.{Slot, Nil}
-use Rattle.tree_rm_links.proofs.LinkLaws.{read-linked, read-unlinked, slot-is}
+use Rattle.tree_links.proofs.LinkLaws.{read-linked, read-unlinked, slot-is}
 use Rattle.iter.specs.Drains.{filled}
 use Rattle.iter.specs.Lists.{those}
 use Rattle.iter.specs.Walk.{Rules}
 use Rattle.iter.proofs.Fills.{drop-on}
 use Rattle.plain_laws.specs.Tour.{ascend, nextOf, firstOf, tour, entries, plain}
-use Rattle.plain.specs.Answers.{tally}
 use Rattle.plain.specs.declared.Tally.{Tally}
 
 -- the way up

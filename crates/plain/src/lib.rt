@@ -3,7 +3,7 @@
 // them. In a store that passes the check no way down or up is longer than 32, so neither number decides there.
 use iter::rules::Query;
 use iter::rules::matches;
-use tree_rm_links::leftmost_from;
+use tree_links::leftmost_from;
 use words::ix::Link;
 use words::ix::U;
 use words::node::child_of;

@@ -5,7 +5,7 @@ use mathlib.Core.List.{List, [], _∷_}
 use Prim.Native.Nat.{ℕ}
 use Rattle.words.specs.Ix.{U, onLink}
 use Rattle.words.specs.Nodes.{word}
-use Rattle.tree_rm_laws.specs.Remove.{leftmost}
+use Rattle.tree_edit.specs.Links.{leftmost}
 use Rattle.plain_laws.specs.Tour.{ascend, nextOf, firstOf, tour, entries}
 
 -- a node in front of others, by its left, right and parent

@@ -5,7 +5,7 @@ use Prim.Native.Nat.{ℕ, zero, suc}
 use lib.Dec.{eqb}
 use Rattle.words.specs.Ix.{U, onLink}
 use Rattle.words.specs.Nodes.{kid, par}
-use Rattle.tree_rm_laws.specs.Remove.{leftmost}
+use Rattle.tree_edit.specs.Links.{leftmost}
 use Rattle.iter.specs.Lists.{those}
 use Rattle.iter.specs.Walk.{Rules}
 

@@ -11,7 +11,7 @@ use borrow.Author.Tests.{ltb-true, eqb-true, eq-eqb, le-leb}
 use Rattle.words.specs.Ix.{U}
 use Rattle.builder.specs.Build.{buildRoot}
 use Rattle.tree_rm_laws.specs.Remove.{removeRule}
-use Rattle.tree_rm_laws.specs.Removed.{Inside}
+use Rattle.tree_edit.specs.Inside.{Inside}
 use Rattle.tree_rm_laws.proofs.Inside.{removed-inside}
 use Rattle.iset.specs.Build.{BuildAnswer, buildNumber, buildRule, buildNodes, buildColour}
 use Rattle.iset.specs.Remove.{RemoveAnswer, removeNumber, refusedRemoval, removeDone, removeReach, removeCall, removeNodes, removeColours}

@@ -1,13 +1,14 @@
 -- A tree, and a way up, stay where the words that they name stay; and the way from a place to the root and back.
+use lib.ListN.{length}
 use mathlib.Core.Path.{_≡_, refl, sym, _∙_}
 use mathlib.Core.Logic.{_≢_}
 use mathlib.Core.Bool.{Bool, true, false, not}
 use mathlib.Core.List.{List, [], _∷_}
-use Prim.Native.Nat.{ℕ, _<_, _≤_}
+use Prim.Native.Nat.{ℕ, _<_, _≤_, suc, _+_}
 use native.Mathlib.Omega.{arith}
 use Rattle.words.specs.Ix.{U}
 use Rattle.words.specs.Nodes.{kid, par}
-use Rattle.tree.specs.Tree.{Tree, leaf, node, occ, Node, Shape}
+use Rattle.tree.specs.Tree.{Tree, leaf, node, occ, Node, Shape, height}
 use Rattle.tree.specs.Zipper.{bin, Frame, frame, plug, occs, Above}
 use Rattle.tree.proofs.Slots.{hit-same, occ-cases, apart, occ-plug}
 
@@ -136,3 +137,34 @@ module _ (W : List ℕ) (n r : ℕ) where
       let (p, k, a, q) = unplug-shape c (bin b t s far) h in
       let (d, u) = go-down W n r b s c p k t far a q in
       (s, kid W b s, d, u)
+
+-- a way up and what is below it are no higher than the whole
+pub way-height : (c : List Frame) (t : Tree) → length c + height t ≤ height (plug c t)
+way-height [] t = omega arith
+way-height (frame b s far ∷ c) t = go b (way-height c (bin b t s far))
+  where
+    go : (b : Bool) → length c + height (bin b t s far) ≤ height (plug c (bin b t s far)) → suc (length c) + height t ≤ height (plug c (bin b t s far))
+    go true h = omega arith
+    go false h = omega arith
+
+-- the count may fall where no slot of the tree is lost
+pub shrink : (W : List ℕ) (n m p k : ℕ) (t : Tree) → ((s : ℕ) → 0 < occ s t → s < m) → Shape W n p k t → Shape W m p k t
+shrink W n m p k leaf f h = h
+shrink W n m p k (node l s r) f h =
+    record {
+      here = h .here;
+      live = f s (omega (arith, hit-same s));
+      up = h .up;
+      left = shrink W n m s (kid W true s) l (λ a o. f a (omega arith)) (h .left);
+      right = shrink W n m s (kid W false s) r (λ a o. f a (omega arith)) (h .right);
+    }
+
+-- the place of a slot
+pub find : {A : Type 0} (s : ℕ) (t : Tree) (c : List Frame) → 0 < occ s t
+    → ((d : List Frame) (l r : Tree) → plug c t ≡ plug d (node l s r) → A) → A
+find s leaf c o k = absurd (omega arith)
+find s (node l a r) c o k =
+    occ-cases s a l r o
+    (λ i. find s l (frame true a r ∷ c) i k)
+    (λ e. k c l r (rw e))
+    (λ i. find s r (frame false a l ∷ c) i k)

@@ -4,7 +4,7 @@ use contract.Lifetimes.{Lfts}
 use borrow.Fn.Kinds as K
 use denote.Triple.Clauses.{AtExit}
 use denote.Ref.{now}
-use Rattle.tree_rm_repair.proofs.Determined.{repaired-told}
+use Rattle.tree_links.proofs.Determined.{repaired-told}
 use Rattle.tree_in.proofs.force_insert.Reads as reads
 use Rattle.tree_in.proofs.force_insert.Kinds as kinds
 

@@ -13,11 +13,12 @@ use Rattle.words.specs.declared.ix.Link.the-variants.{Slot, Nil}
 use Rattle.words.specs.declared.node.Entry.{Entry}
 use Rattle.words.proofs.Laws.{linked, slot-live}
 use Rattle.bitvec.specs.Colours.{dye}
-use Rattle.tree_rm_laws.specs.Links.{fixUp}
-use Rattle.tree_rm_laws.specs.Remove.{Store, store, ending}
-use Rattle.tree_rm_laws.specs.Reach.{changes, upHulls}
-use Rattle.tree_rm_laws.proofs.Reached.{changes-append, changes-le, up-most}
-use Rattle.tree_rm_links.proofs.LinkLaws.{read-linked, read-unlinked}
+use Rattle.tree_edit.specs.Links.{fixUp}
+use Rattle.tree_edit.specs.Store.{Store, store}
+use Rattle.tree_edit.specs.Rounds.{ending}
+use Rattle.tree_edit.specs.Reach.{changes, upHulls}
+use Rattle.tree_edit.proofs.Reached.{changes-append, changes-le, up-most}
+use Rattle.tree_links.proofs.LinkLaws.{read-linked, read-unlinked}
 use Rattle.tree_in_laws.specs.Descent.{goesLeft, descend, under}
 use Rattle.tree_in_laws.specs.Insert.{own, hungNode, hungWords, hungRoot, hung, mended, insertRule}
 use Rattle.tree_in_laws.specs.Mend.{mend}

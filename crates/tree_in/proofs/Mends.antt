@@ -12,13 +12,14 @@ use Rattle.words.specs.Nodes.{kid, par, fix}
 use Rattle.words.specs.declared.ix.Link.{Link}
 use Rattle.words.specs.declared.ix.Link.the-variants.{Slot, Nil}
 use Rattle.bitvec.specs.Colours.{red, redAt, dye}
-use Rattle.tree_rm_laws.specs.Links.{rootAfter}
-use Rattle.tree_rm_laws.specs.Repair.{turn, Next, done, again}
-use Rattle.tree_rm_laws.specs.Reach.{Work, changes, bothHulls}
-use Rattle.tree_rm_laws.proofs.Reached.{changes-append, changes-le}
-use Rattle.tree_rm_links.proofs.LinkLaws.{read-linked, read-unlinked, hulls-linked, hulls-unlinked}
-use Rattle.tree_rm_repair.proofs.Loops.{Loop, Counted, link-stays}
-use Rattle.tree_rm_repair.proofs.Turns.{at-side, side-changes, red-child, red-fits}
+use Rattle.tree_edit.specs.Links.{rootAfter}
+use Rattle.tree_edit.specs.Rotations.{turn}
+use Rattle.tree_edit.specs.Rounds.{Next, done, again}
+use Rattle.tree_edit.specs.Reach.{Work, changes, bothHulls}
+use Rattle.tree_edit.proofs.Reached.{changes-append, changes-le}
+use Rattle.tree_links.proofs.LinkLaws.{read-linked, read-unlinked, hulls-linked, hulls-unlinked}
+use Rattle.tree_links.proofs.Loops.{Loop, Counted, link-stays, at-side, side-changes}
+use Rattle.tree_edit.proofs.Paint.{red-child, red-fits}
 use Rattle.tree_in_laws.specs.Mend.{rotated, outer, inner, recoloured, mendAt, mendBelow, mendStep, mend}
 use Rattle.tree_in_laws.specs.Reach.{rotatedHulls, outerHulls, innerHulls, mendAtHulls, mendBelowHulls, mendStepHulls, mendHulls}
 use Rattle.tree_in_laws.proofs.Reached.{mend-turn-le}

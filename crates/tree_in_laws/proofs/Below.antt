@@ -17,13 +17,13 @@ use Rattle.words.proofs.Nodes.{entry-putNode, hull-putNode, kid-putNode, par-pu
 use Rattle.bitvec.specs.Colours.{red, redAt, dye}
 use Rattle.bitvec.proofs.Bytes.{length-setBit, bitAt-same, bitAt-other}
 use Rattle.tree.proofs.Cases.{compare}
-use Rattle.tree_rm_laws.specs.Repair.{turn, Next, done, again, goOn}
-use Rattle.tree_rm_laws.specs.Remove.{ending}
-use Rattle.tree_rm_laws.specs.Reach.{Work, changes, upHulls}
+use Rattle.tree_edit.specs.Rotations.{turn}
+use Rattle.tree_edit.specs.Rounds.{Next, done, again, goOn, ending}
+use Rattle.tree_edit.specs.Reach.{Work, changes, upHulls}
 use Rattle.tree.specs.Below.{Agree, Hued}
-use Rattle.tree_rm_laws.specs.Below.{Alike}
-use Rattle.tree_rm_laws.proofs.Mended.{red-slot}
-use Rattle.tree_rm_laws.proofs.Below.{link-same, same-redAt, agree-put, agree-putNode, agree-fix, agree-fixUp, agree-turn, same-rootAfter, Both, both-dye, SameNext, AlikeIn, same-ending, Sums, sums-append, sums-both, sums-up, sums-onward}
+use Rattle.tree_edit.specs.Below.{Alike}
+use Rattle.tree_edit.proofs.Paint.{red-slot}
+use Rattle.tree_edit.proofs.Below.{link-same, same-redAt, agree-put, agree-putNode, agree-fix, agree-fixUp, agree-turn, same-rootAfter, Both, both-dye, SameNext, AlikeIn, same-ending, Sums, sums-append, sums-both, sums-up, sums-onward}
 use Rattle.tree_in_laws.specs.Descent.{goesLeft, descend, under}
 use Rattle.tree_in_laws.specs.Mend.{rotated, outer, inner, recoloured, mendAt, mendBelow, mendStep, mend}
 use Rattle.tree_in_laws.specs.Insert.{own, hungNode, hungWords, hungRoot, hung, mended, insertRule}

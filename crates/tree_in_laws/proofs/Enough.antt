@@ -7,8 +7,8 @@ use Rattle.words.specs.Ix.{U}
 use Rattle.words.specs.Nodes.{kid}
 use Rattle.words.specs.declared.interval.Interval.{Interval}
 use Rattle.tree.proofs.Cases.{compare}
-use Rattle.tree_rm_laws.specs.Repair.{Next, done, again, goOn}
-use Rattle.tree_rm_laws.proofs.Links.{on-slot, on-none}
+use Rattle.tree_edit.specs.Rounds.{Next, done, again, goOn}
+use Rattle.tree_edit.proofs.Links.{on-slot, on-none}
 use Rattle.tree_in_laws.specs.Descent.{goesLeft, descend}
 use Rattle.tree_in_laws.specs.Mend.{mendStep, mend}
 use Rattle.tree_in_laws.proofs.Ways.{no-link}

@@ -1,21 +1,20 @@
 -- Insertions worked out by the rule: each store is the one that tests/model.py leaves, and so is the sum of changed hulls.
 use mathlib.Core.Path.{_≡_, refl}
-use mathlib.Core.List.{List, [], _∷_, map}
-use Prim.Native.Nat.{ℕ}
+use mathlib.Core.List.{List, [], _∷_}
+use Prim.Native.Nat.{ℕ, _+_}
 use lib.ListN.{replicate}
 use Rattle.words.specs.Ix.{U, onLink}
 use Rattle.words.specs.Nodes.{word, put, putEntry, putHull, joined, hullOf, altered, fix, putNode}
 use Rattle.words.specs.declared.node.Entry.{Entry}
 use Rattle.bitvec.specs.Bits.{bit, put as putBit, bitAt, setBit}
-use Rattle.tree_rm_laws.specs.Links.{adopt, setChild, redirected, redirect, replaced, rootAfter, fixUp}
-use Rattle.tree_rm_laws.specs.Repair.{turn}
-use Rattle.tree_rm_laws.specs.Remove.{Store, store}
-use Rattle.tree_rm_laws.specs.Reach.{differs, changes, upHulls}
+use Rattle.tree_edit.specs.Links.{adopt, setChild, redirected, redirect, replaced, rootAfter, fixUp}
+use Rattle.tree_edit.specs.Rotations.{turn}
+use Rattle.tree_edit.specs.Store.{Store, store}
+use Rattle.tree_edit.specs.Reach.{differs, changes, upHulls}
 use Rattle.tree_in_laws.specs.Descent.{goesLeft, descend, under}
 use Rattle.tree_in_laws.specs.Mend.{rotated, outer, inner, recoloured, mendAt, mendBelow, mendStep, mend}
 use Rattle.tree_in_laws.specs.Insert.{hungNode, hungWords, hungRoot, hung, mended, insertRule}
 use Rattle.tree_in_laws.specs.Reach.{rotatedHulls, outerHulls, innerHulls, mendAtHulls, mendBelowHulls, mendStepHulls, mendHulls, mendedHulls, insertHulls}
-use Rattle.tree_in_laws.specs.Sequence.{insert, run}
 
 -- what the rows compute with
 reading : Unit {0}
@@ -43,7 +42,8 @@ empty m = store (replicate m 0) (0 ∷ []) U
 
 -- the store after each entry of a list is inserted into one of n entries
 abbrev filled : Store → ℕ → List Entry → Store
-filled S n l = run S n (map insert l)
+filled S n [] = S
+filled S n (e ∷ l) = filled (insertRule (S .words) (S .colours) n (S .root) e) (n + 1) l
 
 -- store A of document 01, with room for two more
 abbrev storeA : Store

@@ -15,10 +15,9 @@ use Rattle.tree.specs.Zipper.{Frame, frame, plug, occs, Above}
 use Rattle.tree.specs.Order.{RisingAt}
 use Rattle.tree.proofs.Cases.{compare}
 use Rattle.tree.proofs.Slots.{hit-same, hit-cases, hit-le, apart, apart-way, occ-plug}
-use Rattle.tree.proofs.Frames.{Same, shape-live, way-live, keep, above-keep, unplug-shape}
-use Rattle.tree_rm_laws.proofs.Links.{on-slot, on-none, not-not}
-use Rattle.tree_rm_laws.proofs.Stand.{Stand}
-use Rattle.tree_rm_laws.proofs.Moves.{shrink}
+use Rattle.tree.proofs.Frames.{Same, shape-live, way-live, keep, above-keep, unplug-shape, shrink}
+use Rattle.tree_edit.proofs.Links.{on-slot, on-none, not-not}
+use Rattle.tree_edit.proofs.Stand.{Stand}
 use Rattle.tree_in_laws.specs.Descent.{goesLeft, descend, under}
 use Rattle.tree_in_laws.specs.Insert.{own, hungWords, hungRoot}
 use Rattle.tree_in_laws.proofs.Ways.{Parted, Hangs, descends}

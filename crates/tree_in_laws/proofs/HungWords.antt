@@ -13,8 +13,8 @@ use Rattle.words.specs.declared.node.Entry.{Entry}
 use Rattle.words.specs.declared.node.Field.{Field}
 use Rattle.words.specs.declared.node.Field.the-variants.{Child, Parent}
 use Rattle.tree.proofs.Frames.{Same}
-use Rattle.tree_rm_laws.proofs.Carried.{Kept, kept-entry}
-use Rattle.tree_rm_laws.proofs.Links.{by-link, on-slot}
+use Rattle.tree_edit.proofs.Carried.{Kept, kept-entry}
+use Rattle.tree_edit.proofs.Links.{by-link, on-slot}
 use Rattle.tree_in_laws.specs.Descent.{goesLeft}
 use Rattle.tree_in_laws.specs.Insert.{own, hungNode, hungWords}
 

@@ -21,21 +21,18 @@ use Rattle.tree.specs.Hulls.{Hulls}
 use Rattle.tree.specs.Passes.{Passes}
 use Rattle.tree.proofs.Cases.{not-any}
 use Rattle.tree.proofs.Slots.{hit-same, hit-cases, hit-zero, occ-plug, times-append, times-slots}
-use Rattle.tree.proofs.Frames.{shape-live, unplug-shape}
+use Rattle.tree.proofs.Frames.{shape-live, unplug-shape, find, way-height}
 use Rattle.tree.proofs.Sizes.{size-le}
 use Rattle.tree.proofs.Balance.{height-30, height-32}
 use Rattle.tree.proofs.Checked.{slot-live, slot-once, tree-size}
-use Rattle.tree_rm_laws.specs.Links.{fixUp}
-use Rattle.tree_rm_laws.specs.Repair.{Next, done, again}
-use Rattle.tree_rm_laws.specs.Remove.{Store, ending}
-use Rattle.tree_rm_laws.proofs.Enough.{fixUp-more}
-use Rattle.tree_rm_laws.proofs.Paint.{paint, paint-same, red-dye}
-use Rattle.tree_rm_laws.proofs.Fits.{plug-fits}
-use Rattle.tree_rm_laws.proofs.Beside.{HullsBy, occs-parts, by-same, hulls-by}
-use Rattle.tree_rm_laws.proofs.Walk.{walk}
-use Rattle.tree_rm_laws.proofs.Moves.{find}
-use Rattle.tree_rm_laws.proofs.Cut.{way-height}
-use Rattle.tree_rm_laws.proofs.Rows.{map-same}
+use Rattle.tree_edit.specs.Links.{fixUp}
+use Rattle.tree_edit.specs.Rounds.{Next, done, again, ending}
+use Rattle.tree_edit.specs.Store.{Store}
+use Rattle.tree_edit.proofs.Walk.{fixUp-more, walk}
+use Rattle.tree_edit.proofs.Paint.{paint, paint-same, red-dye}
+use Rattle.tree_edit.proofs.Fits.{plug-fits}
+use Rattle.tree_edit.proofs.Beside.{HullsBy, occs-parts, by-same, hulls-by}
+use Rattle.tree_edit.proofs.Rows.{map-same}
 use Rattle.tree_in_laws.specs.Descent.{under}
 use Rattle.tree_in_laws.specs.Mend.{mend}
 use Rattle.tree_in_laws.specs.Insert.{own, hungWords, hungRoot, hung, mended, insertRule}

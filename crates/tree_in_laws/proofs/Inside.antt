@@ -12,14 +12,16 @@ use Rattle.words.specs.Nodes.{kid, par, entry, fix}
 use Rattle.words.specs.declared.node.Entry.{Entry}
 use Rattle.words.specs.declared.node.Field.the-variants.{Child}
 use Rattle.bitvec.specs.Colours.{red, dye, redAt}
-use Rattle.tree_rm_laws.specs.Repair.{turn, Next, done, again, goOn}
-use Rattle.tree_rm_laws.specs.Remove.{Store, store, ending}
-use Rattle.tree_rm_laws.specs.Removed.{Inside}
-use Rattle.tree_rm_laws.proofs.Carried.{kept-entry}
-use Rattle.tree_rm_laws.proofs.Links.{by-link, kept-turn}
-use Rattle.tree_rm_laws.proofs.Walk.{entry-fix, entry-fixUp}
-use Rattle.tree_rm_laws.proofs.Low.{Low, low-trans, low-three, low-put, low-putNode, low-fix, low-fixUp, low-turn, dyed, dyed-refl}
-use Rattle.tree_rm_laws.proofs.Mended.{Mended, mended-refl, red-slot}
+use Rattle.tree_edit.specs.Rotations.{turn}
+use Rattle.tree_edit.specs.Rounds.{Next, done, again, goOn, ending}
+use Rattle.tree_edit.specs.Store.{Store, store}
+use Rattle.tree_edit.specs.Inside.{Inside}
+use Rattle.tree_edit.proofs.Carried.{kept-entry}
+use Rattle.tree_edit.proofs.Links.{by-link, kept-turn}
+use Rattle.tree_edit.proofs.Walk.{entry-fix, entry-fixUp}
+use Rattle.tree_edit.proofs.Low.{Low, low-trans, low-three, low-put, low-putNode, low-fix, low-fixUp, low-turn, dyed, dyed-refl}
+use Rattle.tree_edit.proofs.InPlace.{Mended, mended-refl}
+use Rattle.tree_edit.proofs.Paint.{red-slot}
 use Rattle.tree_in_laws.specs.Descent.{goesLeft, under}
 use Rattle.tree_in_laws.specs.Mend.{rotated, outer, inner, recoloured, mendAt, mendBelow, mendStep, mend}
 use Rattle.tree_in_laws.specs.Insert.{own, hungNode, hungWords, hung, mended, insertRule}

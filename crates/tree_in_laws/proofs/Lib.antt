@@ -12,5 +12,4 @@ pub mod Hang
 pub mod Inside
 pub mod Insertion
 pub mod Reached
-pub mod Sequence
 pub mod Below

@@ -14,11 +14,11 @@ use Rattle.tree.specs.Zipper.{bin, Frame, frame, plug, occs}
 use Rattle.tree.specs.Hues.{rootRed, Hues}
 use Rattle.tree.proofs.Slots.{hit-same, hit-zero, apart, occ-bin, occ-plug}
 use Rattle.tree.proofs.Frames.{bin-flip, plug-shape}
-use Rattle.tree_rm_laws.specs.Links.{rootAfter}
-use Rattle.tree_rm_laws.proofs.Links.{on-slot}
-use Rattle.tree_rm_laws.proofs.Paint.{paint, paint-same, paint-other}
-use Rattle.tree_rm_laws.proofs.Fits.{Fits, Keeps, keeps, fits-plug}
-use Rattle.tree_rm_laws.proofs.Stand.{stand-up}
+use Rattle.tree_edit.specs.Links.{rootAfter}
+use Rattle.tree_edit.proofs.Links.{on-slot}
+use Rattle.tree_edit.proofs.Paint.{paint, paint-same, paint-other}
+use Rattle.tree_edit.proofs.Fits.{Fits, Keeps, keeps, fits-plug}
+use Rattle.tree_edit.proofs.Stand.{stand-up}
 use Rattle.tree_in_laws.specs.Mend.{rotated}
 use Rattle.tree_in_laws.proofs.Partly.{Partly, make-partly, hulls-partly, plug-partly}
 use Rattle.tree_in_laws.proofs.Rotate.{Placed, rotate}

@@ -15,12 +15,12 @@ use Rattle.tree.specs.Hues.{rootRed}
 use Rattle.tree.proofs.Slots.{hit-same, occ-bin}
 use Rattle.tree.proofs.Frames.{off-link, open-bin}
 use Rattle.tree.proofs.Once.{root-par}
-use Rattle.tree_rm_laws.specs.Links.{rootAfter}
-use Rattle.tree_rm_laws.specs.Repair.{Next, done, again, goOn}
-use Rattle.tree_rm_laws.proofs.Links.{on-slot, on-none}
-use Rattle.tree_rm_laws.proofs.Stand.{Stand}
-use Rattle.tree_rm_laws.proofs.Turns.{side-of}
-use Rattle.tree_rm_laws.proofs.Repaired.{red-link, dye-one, dye-two, dye-three}
+use Rattle.tree_edit.specs.Links.{rootAfter}
+use Rattle.tree_edit.specs.Rounds.{Next, done, again, goOn}
+use Rattle.tree_edit.proofs.Links.{on-slot, on-none}
+use Rattle.tree_edit.proofs.Stand.{Stand}
+use Rattle.tree_edit.proofs.Turns.{side-of}
+use Rattle.tree_edit.proofs.Paint.{red-link, dye-one, dye-two, dye-three}
 use Rattle.tree_in_laws.specs.Mend.{rotated, outer, inner, recoloured, mendAt, mendBelow, mendStep, mend}
 use Rattle.tree_in_laws.proofs.Loop.{Held, Settled, at-root, below-black, not-root, red-uncle, outer-child, inner-child}
 

@@ -12,9 +12,9 @@ use Rattle.tree.specs.Zipper.{bin, Frame, frame, plug, occs}
 use Rattle.tree.specs.Hulls.{Hulls}
 use Rattle.tree.proofs.Slots.{hit-same, apart, occ-bin}
 use Rattle.tree.proofs.Frames.{open-bin, keep}
-use Rattle.tree_rm_laws.proofs.Carried.{Kept}
-use Rattle.tree_rm_laws.proofs.Beside.{HullsBy, hulls-same}
-use Rattle.tree_rm_laws.proofs.Walk.{same-fix, fix-bin}
+use Rattle.tree_edit.proofs.Carried.{Kept}
+use Rattle.tree_edit.proofs.Beside.{HullsBy, hulls-same}
+use Rattle.tree_edit.proofs.Walk.{same-fix, fix-bin}
 
 abbrev pub Partly : List ℕ → ℕ → Tree → Type 0
 Partly W z leaf = Unit {0}

@@ -2,7 +2,7 @@
 use mathlib.Core.Path.{_≡_, refl, _∙_}
 use mathlib.Core.Logic.{_≢_}
 use mathlib.Core.Bool.{Bool, true, false, cond, not}
-use mathlib.Core.List.{List, [], _∷_, _++_}
+use mathlib.Core.List.{List, [], _++_}
 use Prim.Native.Nat.{ℕ, zero, suc, _+_, _*_, _≤_}
 use native.Mathlib.Omega.{arith}
 use lib.ListN.{length}
@@ -13,11 +13,12 @@ use Rattle.words.specs.declared.node.Field.the-variants.{Child}
 use Rattle.words.proofs.Nodes.{word-put-field, inLinks, hull-putNode}
 use Rattle.words.specs.declared.node.Entry.{Entry}
 use Rattle.bitvec.specs.Colours.{red, redAt, dye}
-use Rattle.tree_rm_laws.specs.Repair.{turn, Next, done, again, goOn}
-use Rattle.tree_rm_laws.specs.Remove.{Store, store, ending}
-use Rattle.tree_rm_laws.specs.Reach.{changes, onward, upHulls, Follows}
-use Rattle.tree_rm_laws.proofs.Links.{by-link, kept-turn}
-use Rattle.tree_rm_laws.proofs.Reached.{kept-hull, kept-stays, then, follows-up, changes-append, changes-le}
+use Rattle.tree_edit.specs.Rotations.{turn}
+use Rattle.tree_edit.specs.Rounds.{Next, done, again, goOn, ending}
+use Rattle.tree_edit.specs.Store.{Store}
+use Rattle.tree_edit.specs.Reach.{changes, onward, upHulls, Follows}
+use Rattle.tree_edit.proofs.Links.{by-link, kept-turn}
+use Rattle.tree_edit.proofs.Reached.{kept-hull, kept-stays, then, follows-up, changes-append, changes-le}
 use Rattle.tree_in_laws.specs.Descent.{goesLeft, under}
 use Rattle.tree_in_laws.specs.Mend.{rotated, outer, inner, recoloured, mendAt, mendBelow, mendStep, mend}
 use Rattle.tree_in_laws.specs.Insert.{own, hungNode, hungWords, hungRoot, hung, mended, insertRule}

@@ -8,8 +8,8 @@ use Rattle.tree.specs.Tree.{Tree, occ}
 use Rattle.tree.specs.Zipper.{bin, Frame, occs}
 use Rattle.tree.specs.Hues.{rootRed, blacks, Hue, Hues}
 use Rattle.tree.proofs.Slots.{apart, apart-way}
-use Rattle.tree_rm_laws.proofs.Paint.{paint, paint-other}
-use Rattle.tree_rm_laws.proofs.Fits.{Fits, Keeps, keeps, fits-keep, open-hue, make-hue, blacks-bin, root-bin}
+use Rattle.tree_edit.proofs.Paint.{paint, paint-other}
+use Rattle.tree_edit.proofs.Fits.{Fits, Keeps, keeps, fits-keep, open-hue, make-hue, blacks-bin, root-bin}
 
 -- m blacks on each way down; and a root that is not red besides
 pub record Even (K : ℕ → Bool) (m : ℕ) (t : Tree) : Type 0 where

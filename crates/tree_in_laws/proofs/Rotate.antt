@@ -8,14 +8,14 @@ use Rattle.words.specs.Nodes.{kid, par, fix}
 use Rattle.tree.specs.Tree.{Tree, slots, hit, occ}
 use Rattle.tree.specs.Zipper.{bin, Frame, frame, plug, occs}
 use Rattle.tree.proofs.Slots.{hit-same, occ-bin}
-use Rattle.tree_rm_laws.specs.Links.{rootAfter}
-use Rattle.tree_rm_laws.specs.Repair.{turn}
-use Rattle.tree_rm_laws.proofs.Links.{kept-turn}
-use Rattle.tree_rm_laws.proofs.Beside.{HullsBy, by-same}
-use Rattle.tree_rm_laws.proofs.Walk.{by-fix}
-use Rattle.tree_rm_laws.proofs.Stand.{Stand, stand-up, stand-down, stand-fix}
-use Rattle.tree_rm_laws.proofs.Turns.{stand-turn}
-use Rattle.tree_rm_laws.proofs.Rows.{turned-slots}
+use Rattle.tree_edit.specs.Links.{rootAfter}
+use Rattle.tree_edit.specs.Rotations.{turn}
+use Rattle.tree_edit.proofs.Links.{kept-turn}
+use Rattle.tree_edit.proofs.Beside.{HullsBy, by-same}
+use Rattle.tree_edit.proofs.Walk.{by-fix}
+use Rattle.tree_edit.proofs.Stand.{Stand, stand-up, stand-down, stand-fix}
+use Rattle.tree_edit.proofs.Turns.{stand-turn}
+use Rattle.tree_edit.proofs.Rows.{turned-slots}
 use Rattle.tree_in_laws.specs.Mend.{rotated}
 use Rattle.tree_in_laws.proofs.Partly.{Partly, open-partly, partly-same, partly-turned}
 

@@ -15,7 +15,7 @@ use Rattle.tree.proofs.Cases.{compare}
 use Rattle.tree.proofs.Slots.{hit-same, hit-cases, times-append, times-slots}
 use Rattle.tree.proofs.Orders.{after-trans, le-sound, le-complete, rising-left, rising-right, rising-at}
 use Rattle.tree.proofs.Frames.{open-bin}
-use Rattle.tree_rm_laws.proofs.Links.{on-slot, on-none, not-not}
+use Rattle.tree_edit.proofs.Links.{on-slot, on-none, not-not}
 use Rattle.tree_in_laws.specs.Descent.{goesLeft, descend}
 
 -- the slots before a place, and those after it

@@ -12,8 +12,9 @@ use Rattle.words.specs.declared.node.Entry.{Entry}
 use Rattle.bitvec.specs.Colours.{dye}
 use Rattle.tree.specs.Tree.{slots}
 use Rattle.tree.specs.Passes.{Passes}
-use Rattle.tree_rm_laws.specs.Links.{fixUp}
-use Rattle.tree_rm_laws.specs.Remove.{Store, store, ending}
+use Rattle.tree_edit.specs.Links.{fixUp}
+use Rattle.tree_edit.specs.Store.{Store, store}
+use Rattle.tree_edit.specs.Rounds.{ending}
 use Rattle.tree_in_laws.specs.Descent.{descend}
 use Rattle.tree_in_laws.specs.Mend.{mend}
 use Rattle.tree_in_laws.specs.Insert.{own, hungWords, hungRoot}

@@ -3,4 +3,3 @@ pub mod Mend
 pub mod Insert
 pub mod Reach
 pub mod Inserted
-pub mod Sequence

@@ -7,8 +7,9 @@ use lib.Dec.{eqb}
 use Rattle.words.specs.Ix.{onLink}
 use Rattle.words.specs.Nodes.{kid, par, fix}
 use Rattle.bitvec.specs.Colours.{red, redAt, dye}
-use Rattle.tree_rm_laws.specs.Links.{rootAfter}
-use Rattle.tree_rm_laws.specs.Repair.{turn, Next, done, again, goOn}
+use Rattle.tree_edit.specs.Links.{rootAfter}
+use Rattle.tree_edit.specs.Rotations.{turn}
+use Rattle.tree_edit.specs.Rounds.{Next, done, again, goOn}
 
 -- `rotate_left` at `true`, `rotate_right` at `false`: the child S of P on the side that b is not comes up over P. "A rotation works out the hull
 -- of the node that went down, then of the one that came up".

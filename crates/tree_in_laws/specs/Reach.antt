@@ -7,9 +7,10 @@ use Rattle.words.specs.Ix.{onLink}
 use Rattle.words.specs.Nodes.{kid, par}
 use Rattle.words.specs.declared.node.Entry.{Entry}
 use Rattle.bitvec.specs.Colours.{red, redAt}
-use Rattle.tree_rm_laws.specs.Repair.{turn}
-use Rattle.tree_rm_laws.specs.Remove.{Store, ending}
-use Rattle.tree_rm_laws.specs.Reach.{Work, bothHulls, onward, upHulls}
+use Rattle.tree_edit.specs.Rotations.{turn}
+use Rattle.tree_edit.specs.Store.{Store}
+use Rattle.tree_edit.specs.Rounds.{ending}
+use Rattle.tree_edit.specs.Reach.{Work, bothHulls, onward, upHulls}
 use Rattle.tree_in_laws.specs.Descent.{under}
 use Rattle.tree_in_laws.specs.Mend.{rotated, mendStep, mend}
 use Rattle.tree_in_laws.specs.Insert.{own, hung}

@@ -1,27 +1,29 @@
 -- The steps of a removal, in the form that `search` takes.
 use mathlib.Core.Path.{_≡_, refl, ap, _∙_}
-use mathlib.Core.Bool.{Bool, true, false, cond, _||_}
+use mathlib.Core.Bool.{Bool, true, false, _||_}
 use mathlib.Core.List.{List}
-use Prim.Native.Nat.{ℕ, zero, suc, _+_, _-_, _<_, _≤_, min}
+use Prim.Native.Nat.{ℕ, _+_, _-_, _<_, _≤_, min}
 use native.Mathlib.Omega.{arith}
-use native.Mathlib.Numerals.{sub-one}
-use lib.Dec.{eqb, leb}
-use borrow.Author.Tests.{le-leb, lt-leb, leb-false, eq-eqb, ne-eqb}
+use lib.Dec.{leb}
+use borrow.Author.Tests.{lt-leb, leb-false, eq-eqb, ne-eqb}
 use Rattle.words.specs.Ix.{linkOf, onLink}
 use Rattle.words.specs.Nodes.{value, kid, par, hull, entry, putNode, swap}
 use Rattle.words.specs.declared.interval.Interval.{Interval}
 use Rattle.words.specs.declared.ix.Link.{Link}
 use Rattle.words.specs.declared.ix.Link.the-variants.{Slot, Nil}
 use Rattle.words.specs.declared.node.Entry.{Entry}
-use Rattle.words.proofs.Laws.{linked, unlinked, slot-live}
+use Rattle.words.proofs.Laws.{unlinked, slot-live}
 use Rattle.bitvec.specs.Colours.{red, dye}
-use Rattle.tree_rm_laws.specs.declared.pairs.Pairs.{Pairs}
-use Rattle.tree_rm_laws.specs.Links.{adopt, removeChild, redirect, fixUp}
+use Rattle.words.specs.declared.pair.Pairs.{Pairs}
+use Rattle.tree_edit.specs.Links.{adopt, removeChild, redirect, fixUp, leftmost}
 use Rattle.tree_rm_laws.specs.Pairs.{instead, emptied, moved}
-use Rattle.tree_rm_laws.specs.Remove.{leftmost, vacated, store, restructure, exchanged, child, handed, above, cutWords, cutRoot, copied, relinked, cleared, swapRemove, Removal, finish, removeFrom, removeRule}
-use Rattle.tree_rm_laws.specs.Reach.{changes, upHulls, cutHulls, restructureHulls, vacateHulls, removeHullsFrom, removeHulls}
-use Rattle.tree_rm_laws.proofs.Reached.{changes-append, cut-most, restructure-most}
-use Rattle.tree_rm_links.proofs.LinkLaws.{slot-is, nil-is, read-linked, hulls-linked}
+use Rattle.tree_rm_laws.specs.Remove.{vacated, restructure, exchanged, child, handed, above, cutWords, cutRoot, copied, relinked, cleared, swapRemove, Removal, finish, removeFrom, removeRule}
+use Rattle.tree_edit.specs.Store.{store}
+use Rattle.tree_edit.specs.Reach.{changes, upHulls}
+use Rattle.tree_rm_laws.specs.Reach.{cutHulls, restructureHulls, vacateHulls, removeHullsFrom, removeHulls}
+use Rattle.tree_edit.proofs.Reached.{changes-append}
+use Rattle.tree_rm_laws.proofs.Reached.{cut-most, restructure-most}
+use Rattle.tree_links.proofs.LinkLaws.{slot-is, read-linked, hulls-linked}
 
 -- the test of the right link, which stands there twice
 once : (t u : Bool) → (t || t) ≡ u → t ≡ u

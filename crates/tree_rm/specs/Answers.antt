@@ -1,7 +1,8 @@
 -- What the code's answer stands for. This definition tells any two answers apart (`removal-told` of proofs/Determined).
 use mathlib.Core.List.{List}
 use Prim.Native.Nat.{ℕ}
-use Rattle.tree_rm_laws.specs.Remove.{store, Removal}
+use Rattle.tree_edit.specs.Store.{store}
+use Rattle.tree_rm_laws.specs.Remove.{Removal}
 use Rattle.tree_rm.specs.declared.remove.Removed.{Removed}
 
 -- the whole answer of a removal, with the words and the colours that it leaves

@@ -1,13 +1,12 @@
 // The removal of one entry.
-use tree_rm_laws::pairs::Pairs;
-use tree_rm_links::adopt_child;
-use tree_rm_links::fix_intervals_up;
-use tree_rm_links::leftmost_from;
-use tree_rm_links::remove_child;
-use tree_rm_links::replace_child_at;
+use bitvec::colours::copy_colour;
+use tree_links::adopt_child;
+use tree_links::fix_intervals_up;
+use tree_links::leftmost_from;
+use tree_links::remove_child;
+use tree_links::replace_child_at;
 use tree_rm_pairs::after_move;
 use tree_rm_pairs::moved_pairs;
-use tree_rm_repair::copy_colour;
 use tree_rm_repair::restructure_rm;
 use words::interval::Interval;
 use words::interval::smaller;
@@ -21,14 +20,17 @@ use words::node::parent_of;
 use words::node::put_node;
 use words::node::swap_with;
 use words::node::value_of;
+use words::pair::Pairs;
 ghost use mathlib.Core.Path.{_≡_};
 ghost use mathlib.Core.Bool.{true, false};
 ghost use Prim.Native.Nat.{_+_, _-_, _*_, _<_, _≤_};
 ghost use lib.ListN.{length};
 ghost use Rattle.words.specs.Nodes.{par, value, swap};
 ghost use Rattle.tree_rm_laws.specs.Pairs.{emptied};
-ghost use Rattle.tree_rm_laws.specs.Remove.{vacated, exchanged, child, store, restructure, handed, above, cutWords, cutRoot, copied, relinked, cleared, swapRemove, finish, removeFrom, removeRule};
-ghost use Rattle.tree_rm_laws.specs.Reach.{changes, cutHulls, vacateHulls, removeHullsFrom, removeHulls};
+ghost use Rattle.tree_rm_laws.specs.Remove.{vacated, exchanged, child, restructure, handed, above, cutWords, cutRoot, copied, relinked, cleared, swapRemove, finish, removeFrom, removeRule};
+ghost use Rattle.tree_edit.specs.Store.{store};
+ghost use Rattle.tree_edit.specs.Reach.{changes};
+ghost use Rattle.tree_rm_laws.specs.Reach.{cutHulls, vacateHulls, removeHullsFrom, removeHulls};
 ghost use Rattle.tree_rm.specs.Answers.{removal};
 
 // Swap values and intervals for `i`-th and `j`-th nodes.

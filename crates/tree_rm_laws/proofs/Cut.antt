@@ -1,38 +1,30 @@
 -- From a store that is ready for it, the vacated slot is cut off and the hulls are worked out up to the root.
 use mathlib.Core.Path.{_≡_, refl, sym, ap, _∙_}
-use mathlib.Core.Bool.{Bool, true, false}
-use mathlib.Core.List.{List, [], _∷_, _++_}
-use Prim.Native.Nat.{ℕ, suc, _+_, _*_, _<_, _≤_}
+use mathlib.Core.Bool.{Bool, false}
+use mathlib.Core.List.{List, _∷_, _++_}
+use Prim.Native.Nat.{ℕ, _+_, _*_, _<_, _≤_}
 use native.Mathlib.Omega.{arith}
 use lib.ListN.{length}
 use Rattle.words.specs.Ix.{U, onLink}
 use Rattle.words.specs.Nodes.{par, entry}
-use Rattle.tree.specs.Tree.{Tree, slots, without, hit, occ, size, height, Shape, leaf, times}
-use Rattle.tree.specs.Zipper.{bin, Frame, plug, occs, Above, frame}
+use Rattle.tree.specs.Tree.{Tree, slots, without, hit, occ, size, Shape, leaf, times}
+use Rattle.tree.specs.Zipper.{Frame, plug, occs, Above}
 use Rattle.tree.specs.Hulls.{Hulls}
 use Rattle.tree.specs.Hues.{rootRed, Hues}
 use Rattle.tree.proofs.Slots.{hit-same, occ-plug, times-append, times-slots}
-use Rattle.tree.proofs.Frames.{shape-live, unplug-shape}
+use Rattle.tree.proofs.Frames.{shape-live, unplug-shape, way-height}
 use Rattle.tree.proofs.Sizes.{size-le}
 use Rattle.tree.proofs.Balance.{height-32}
-use Rattle.tree_rm_laws.specs.Links.{redirected, removeChild, redirect, rootAfter, fixUp}
+use Rattle.tree_edit.specs.Links.{redirected, removeChild, redirect, rootAfter, fixUp}
 use Rattle.tree_rm_laws.specs.Remove.{cutWords, cutRoot}
-use Rattle.tree_rm_laws.proofs.Carried.{kept-entry}
-use Rattle.tree_rm_laws.proofs.Links.{by-link, on-slot, on-none, length-redirect, kept-redirect}
-use Rattle.tree_rm_laws.proofs.Beside.{by-same}
-use Rattle.tree_rm_laws.proofs.Walk.{walk, entry-fixUp, length-fixUp, no-walk}
-use Rattle.tree_rm_laws.proofs.Fits.{fits-plug}
+use Rattle.tree_edit.proofs.Carried.{kept-entry}
+use Rattle.tree_edit.proofs.Links.{by-link, on-slot, on-none, length-redirect, kept-redirect}
+use Rattle.tree_edit.proofs.Beside.{by-same}
+use Rattle.tree_edit.proofs.Walk.{walk, entry-fixUp, length-fixUp, no-walk}
+use Rattle.tree_edit.proofs.Fits.{fits-plug}
 use Rattle.tree_rm_laws.proofs.Loop.{Bare, Fixed}
 use Rattle.tree_rm_laws.proofs.Rows.{without-at, around}
 use Rattle.tree_rm_laws.proofs.Moves.{cut-way}
-
-pub way-height : (c : List Frame) (t : Tree) → length c + height t ≤ height (plug c t)
-way-height [] t = omega arith
-way-height (frame b s far ∷ c) t = go b (way-height c (bin b t s far))
-  where
-    go : (b : Bool) → length c + height (bin b t s far) ≤ height (plug c (bin b t s far)) → suc (length c) + height t ≤ height (plug c (bin b t s far))
-    go true h = omega arith
-    go false h = omega arith
 
 -- the words after the cut
 cut-is : (n : ℕ) (W : List ℕ) (g v : ℕ) → cutWords n W g v ≡ fixUp n 32 (redirect n W g v U) g

@@ -20,22 +20,21 @@ use Rattle.tree.specs.Tree.{Tree, slots, occ, height, leaf, node}
 use Rattle.tree.specs.Zipper.{Frame, plug}
 use Rattle.tree.specs.Passes.{Passes}
 use Rattle.tree.proofs.Slots.{hit-cases, hit-zero}
-use Rattle.tree.proofs.Frames.{unplug-shape}
+use Rattle.tree.proofs.Frames.{unplug-shape, find, way-height}
 use Rattle.tree.proofs.Checked.{slot-once, tree-low}
 use Rattle.tree_rm_laws.specs.Pairs.{none, instead, home, named, lower, upper, sorted, moved}
-use Rattle.tree_rm_laws.specs.Remove.{leftmost, vacated, vacated′, exchanged, child, cutWords, cutRoot, swapRemove, Removal, finish, removeFrom, removeRule, removeRule′}
+use Rattle.tree_edit.specs.Links.{leftmost}
+use Rattle.tree_rm_laws.specs.Remove.{vacated, vacated′, exchanged, child, cutWords, cutRoot, swapRemove, Removal, finish, removeFrom, removeRule, removeRule′}
 use Rattle.tree_rm_laws.specs.Reach.{cutHulls, restructureHulls, vacateHulls, removeHullsFrom, removeHulls, removeHulls′}
-use Rattle.tree_rm_laws.specs.declared.pairs.Pair.{Pair}
-use Rattle.tree_rm_laws.specs.declared.pairs.Pairs.{Pairs}
-use Rattle.tree_rm_laws.proofs.Links.{on-slot}
-use Rattle.tree_rm_laws.proofs.Moves.{find}
+use Rattle.words.specs.declared.pair.Pair.{Pair}
+use Rattle.words.specs.declared.pair.Pairs.{Pairs}
+use Rattle.tree_edit.proofs.Links.{on-slot}
 use Rattle.tree_rm_laws.proofs.Rows.{instead-here, instead-other, instead-self}
-use Rattle.tree_rm_laws.proofs.Beside.{hulls-by}
+use Rattle.tree_edit.proofs.Beside.{hulls-by}
 use Rattle.tree_rm_laws.proofs.Vacate.{leftmost-at}
 use Rattle.tree_rm_laws.proofs.Steps.{emptied-slot, emptied-none, above-slot, above-none, handed-slot, handed-none, restructure-red, restructure-child}
 use Rattle.tree_rm_laws.proofs.Spot.{Spot, red-y, black-x, bare-y, at-y, child-y, x≢y}
 use Rattle.tree_rm_laws.proofs.Loop.{Bare}
-use Rattle.tree_rm_laws.proofs.Cut.{way-height}
 use Rattle.tree_rm_laws.proofs.PairLaws.{by-order}
 
 -- a pair that is told comes before one that is not

@@ -8,29 +8,31 @@ use native.Mathlib.Omega.{arith}
 use lib.ListN.{length}
 use borrow.Author.Tests.{le-leb}
 use Rattle.words.specs.Ix.{U, onLink}
-use Rattle.words.specs.Nodes.{kid, par, fix}
+use Rattle.words.specs.Nodes.{kid, par}
 use Rattle.bitvec.specs.Colours.{red, dye}
 use Rattle.tree.specs.Tree.{Tree, slots, occ, hit, height, Shape, leaf, node, times}
-use Rattle.tree.specs.Zipper.{bin, Frame, frame, plug, occs, Above}
+use Rattle.tree.specs.Zipper.{bin, Frame, plug, occs, Above}
 use Rattle.tree.specs.Passes.{Passes}
 use Rattle.tree.proofs.Slots.{hit-same}
-use Rattle.tree.proofs.Frames.{above-keep, unplug-shape}
+use Rattle.tree.proofs.Frames.{unplug-shape, find, way-height}
 use Rattle.tree.proofs.Checked.{slot-once, tree-low}
-use Rattle.tree_rm_laws.specs.Links.{redirected, removeChild, redirect, rootAfter, fixUp}
-use Rattle.tree_rm_laws.specs.Repair.{Next, done, again, step, goOn, repair}
-use Rattle.tree_rm_laws.specs.Remove.{leftmost, vacated, exchanged, child, Store, store, restructure, handed, above, cutWords, finish, removeFrom, removeRule}
+use Rattle.tree_edit.specs.Links.{redirected, removeChild, redirect, rootAfter, fixUp, leftmost}
+use Rattle.tree_edit.specs.Rounds.{Next, done, again, goOn}
+use Rattle.tree_rm_laws.specs.Repair.{step, repair}
+use Rattle.tree_rm_laws.specs.Remove.{vacated, exchanged, child, restructure, handed, above, cutWords, finish, removeFrom, removeRule}
+use Rattle.tree_edit.specs.Store.{Store, store}
 use Rattle.tree_rm_laws.specs.Pairs.{emptied}
 use Rattle.tree_rm_laws.specs.With.{vacatedWith, restructureWith, cutWordsWith, finishWith, removeFromWith, removeWith}
-use Rattle.tree_rm_laws.proofs.Links.{by-link, on-slot, on-none}
-use Rattle.tree_rm_laws.proofs.Walk.{same-fix, no-walk}
-use Rattle.tree_rm_laws.proofs.Moves.{find, cut-way}
+use Rattle.tree_edit.proofs.Links.{by-link, on-slot, on-none}
+use Rattle.tree_edit.proofs.Walk.{no-walk, fixUp-more}
+use Rattle.tree_rm_laws.proofs.Moves.{cut-way}
 use Rattle.tree_rm_laws.proofs.Vacate.{leftmost-at, Chosen, chosen}
 use Rattle.tree_rm_laws.proofs.Steps.{restructure-child}
 use Rattle.tree_rm_laws.proofs.Spot.{Spot, child-y}
 use Rattle.tree_rm_laws.proofs.Loop.{Fixed}
 use Rattle.tree_rm_laws.proofs.Repaired.{Finished, repaired}
 use Rattle.tree_rm_laws.proofs.Prepare.{ReadyIn, live-y, reds, as-black}
-use Rattle.tree_rm_laws.proofs.Cut.{way-height, two, place, short}
+use Rattle.tree_rm_laws.proofs.Cut.{two, place, short}
 use Rattle.tree_rm_laws.proofs.Removal.{count, spot, ready}
 
 -- with its own numbers it is the rule, on any words
@@ -62,19 +64,6 @@ repair-more n x base (suc turns) (suc m) W C r ix h e = go (λ W C r ix. repair-
         → goOn s (λ X D q i. repair n m X D q i) ≡ goOn s (λ X D q i. repair n turns X D q i)
     go rec (done W C r) e = refl
     go rec (again W C r ix) e = rec W C r ix e
-
--- the way up from p, where it is not longer
-pub fixUp-more : (c : List Frame) (height m : ℕ) (W : List ℕ) (n r p k : ℕ) → n ≤ 65535 → length c ≤ height → height ≤ m → Above W n r c p k
-    → fixUp n m W p ≡ fixUp n height W p
-unfolding fixUp
-fixUp-more [] height m W n r p k small l h a =
-    no-walk n m W p (omega (arith, a .0)) ∙ sym (no-walk n height W p (omega (arith, a .0)))
-fixUp-more (frame b s far ∷ c) zero m W n r p k small l h a = absurd (omega arith)
-fixUp-more (frame b s far ∷ c) (suc height) zero W n r p k small l h a = absurd (omega arith)
-fixUp-more (frame b s far ∷ c) (suc height) (suc m) W n r p k small l h a =
-    rw (a .at, on-slot n s (a .live), on-slot n s (a .live))
-    (fixUp-more c height m (fix n W s) n r (par W s) s small (omega arith) (omega arith)
-    (above-keep W (fix n W s) n r c (par W s) s (λ x y. same-fix n W s x) (a .rest)))
 
 -- the words after the cut
 cut-with : (m n : ℕ) (W : List ℕ) (g v : ℕ) → cutWordsWith m n W g v ≡ fixUp n m (redirect n W g v U) g

@@ -1,16 +1,18 @@
 -- Removals worked out by the rule: how many hulls change. tests/model.py counts the same.
 use mathlib.Core.Path.{_≡_, refl}
 use mathlib.Core.Bool.{true}
-use mathlib.Core.List.{List, [], _∷_}
-use Prim.Native.Nat.{ℕ}
+use mathlib.Core.List.{[], _∷_}
 use Rattle.words.specs.Ix.{U, onLink}
 use Rattle.words.specs.Nodes.{word, put, putEntry, putHull, swap, joined, hullOf, altered, fix}
 use Rattle.bitvec.specs.Bits.{bit, put as putBit, bitAt, setBit}
-use Rattle.tree_rm_laws.specs.Links.{adopt, setChild, redirected, removeChild, redirect, replaced, rootAfter, fixUp}
-use Rattle.tree_rm_laws.specs.Repair.{turn, turn-2, turn-4, four, dyeAt, turnOf, turnAt, step, repair}
+use Rattle.tree_edit.specs.Links.{adopt, setChild, redirected, removeChild, redirect, replaced, rootAfter, fixUp, leftmost}
+use Rattle.tree_edit.specs.Rotations.{turn, turn-2, turn-4}
+use Rattle.tree_rm_laws.specs.Repair.{four, turnOf, turnAt, step, repair}
+use Rattle.bitvec.specs.Colours.{dyeAt}
 use Rattle.tree_rm_laws.specs.Pairs.{emptied}
-use Rattle.tree_rm_laws.specs.Remove.{leftmost, vacated, exchanged, child, restructure, handed, above}
-use Rattle.tree_rm_laws.specs.Reach.{differs, changes, upHulls, actHulls, turnOfHulls, turnAtHulls, stepHulls, repairHulls, restructureHulls, cutHulls, vacateHulls, removeHullsFrom, removeHulls}
+use Rattle.tree_rm_laws.specs.Remove.{vacated, exchanged, child, restructure, handed, above}
+use Rattle.tree_edit.specs.Reach.{differs, changes, upHulls}
+use Rattle.tree_rm_laws.specs.Reach.{actHulls, turnOfHulls, turnAtHulls, stepHulls, repairHulls, restructureHulls, cutHulls, vacateHulls, removeHullsFrom, removeHulls}
 
 -- what the rows compute with
 reading : Unit {0}
@@ -33,16 +35,6 @@ pub reach-two : changes 2 (removeHulls
     (2 ∷ []) 2 0 0) ≡ 1
 unfolding reading repairing reaching
 reach-two = refl
-
--- The walk from slot 0, which holds [0, 100), is below slot 2 and has a hull that is right: it goes on, and the hull of slot 2, which came up over it
--- in a turn, changes.
-pub reach-past : changes 4 (upHulls 4 32
-    (0 ∷ 100 ∷ 1 ∷ 0 ∷ 100 ∷ U ∷ U ∷ 2 ∷
-    0 ∷ 50 ∷ 2 ∷ 0 ∷ 50 ∷ U ∷ U ∷ 0 ∷
-    20 ∷ 30 ∷ 3 ∷ 20 ∷ 50 ∷ 0 ∷ 3 ∷ U ∷
-    40 ∷ 50 ∷ 4 ∷ 40 ∷ 50 ∷ U ∷ U ∷ 2 ∷ []) 0) ≡ 1
-unfolding reading reaching
-reach-past = refl
 
 -- The close nephew's case: slot 3 comes up over slot 2, to the right of slot 0, and both hulls change.
 pub reach-nephew : changes 4 (actHulls 4 four

@@ -15,18 +15,28 @@ use Rattle.words.specs.declared.node.Entry.{Entry}
 use Rattle.words.specs.declared.node.Field.{Field}
 use Rattle.words.specs.declared.node.Field.the-variants.{Start, End, Value, HullStart, HullEnd, Child, Parent}
 use Rattle.bitvec.specs.Colours.{red, dye}
-use Rattle.tree_rm_laws.specs.Links.{redirected, removeChild, fixUp}
+use Rattle.tree_edit.specs.Links.{redirected, removeChild, fixUp, leftmost}
 use Rattle.tree_rm_laws.specs.Pairs.{instead, emptied, moved}
-use Rattle.tree_rm_laws.specs.Remove.{leftmost, vacated, exchanged, child, Store, store, restructure, handed, above, cutWords, cutRoot, relinked, blank, cleared, swapRemove, finish, removeFrom, removeRule}
-use Rattle.tree_rm_laws.specs.Removed.{Inside}
+use Rattle.tree_rm_laws.specs.Remove.{vacated, exchanged, child, restructure, handed, above, cutWords, cutRoot, relinked, blank, cleared, swapRemove, finish, removeFrom, removeRule, copied}
+use Rattle.tree_edit.specs.Store.{Store, store}
+use Rattle.tree_edit.specs.Inside.{Inside}
 use Rattle.tree_rm_laws.specs.Corrected.{swapRemove-01, finish-01, removeFrom-01, removeRule-01, blankWord, Corrected}
-use Rattle.tree_rm_laws.specs.declared.pairs.Pairs.{Pairs}
-use Rattle.tree_rm_laws.proofs.Links.{by-link}
+use Rattle.words.specs.declared.pair.Pairs.{Pairs}
+use Rattle.tree_edit.proofs.Links.{by-link}
 use Rattle.tree_rm_laws.proofs.Steps.{emptied-live}
-use Rattle.tree_rm_laws.proofs.Low.{Low, low-refl, low-trans, low-put, low-link, low-fixUp, low-swap, low-cleared, low-three, low-relinked, Dyed, dyed-refl, dyed}
+use Rattle.tree_edit.proofs.Low.{Low, low-refl, low-trans, low-put, low-link, low-fixUp, low-swap, low-three, Dyed, dyed-refl, dyed, low-adopt, low-redirect, low-putNode}
 use Rattle.tree_rm_laws.proofs.Mended.{mended-restructure}
 
 module _ (n : ℕ) where
+  low-cleared : (W : List ℕ) (z : ℕ) → z < n → Low n W (cleared W z)
+  unfolding cleared
+  low-cleared W z h = low-putNode n W z _ _ _ _ _ h
+
+  low-relinked : (W : List ℕ) (z v : ℕ) → v < n → Low n W (relinked n W z v)
+  unfolding relinked copied
+  low-relinked W z v h =
+      low-three n W _ _ _ (low-putNode n W v _ _ _ _ _ h) (low-adopt n _ _ _) (low-trans n _ _ _ (low-adopt n _ _ _) (low-redirect n _ _ _ _))
+
   -- the steps after it
   low-handed : (W : List ℕ) (x y : ℕ) → x < n → Low n W (handed n W x y)
   unfolding handed
@@ -43,10 +53,10 @@ module _ (n : ℕ) where
   inside-swapRemove W C r z v lz lv = go (eqb v z)
     where
       a : Low n W (cleared W z)
-      a = low-cleared n W z lz
+      a = low-cleared W z lz
 
       b : Low n W (cleared (relinked n W z v) z)
-      b = low-trans n W (relinked n W z v) _ (low-relinked n W z v lv) (low-cleared n (relinked n W z v) z lz)
+      b = low-trans n W (relinked n W z v) _ (low-relinked W z v lv) (low-cleared (relinked n W z v) z lz)
 
       d : Dyed n C (dye C v (red C z))
       d = dyed n C C v (red C z) lv (dyed-refl n C)

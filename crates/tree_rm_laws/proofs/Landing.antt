@@ -18,16 +18,17 @@ use Rattle.tree.specs.Zipper.{Frame, plug, occs, Above, frame}
 use Rattle.tree.specs.View.{datum, view}
 use Rattle.tree.proofs.Cases.{compare}
 use Rattle.tree.proofs.Slots.{hit-same, hit-ne, hit-cases, hit-zero, apart, occ-plug}
-use Rattle.tree.proofs.Frames.{shape-live, off-link, keep, unplug-shape}
+use Rattle.tree.proofs.Frames.{shape-live, off-link, keep, unplug-shape, shrink, find}
 use Rattle.tree.proofs.Views.{view-keep}
-use Rattle.tree_rm_laws.specs.Links.{rootAfter}
+use Rattle.tree_edit.specs.Links.{rootAfter}
 use Rattle.tree_rm_laws.specs.Pairs.{instead}
-use Rattle.tree_rm_laws.specs.Remove.{Store, store, relinked, cleared, swapRemove}
-use Rattle.tree_rm_laws.proofs.Carried.{Carried, Kept, datum-carried}
-use Rattle.tree_rm_laws.proofs.Links.{on-slot, on-none, by-side}
-use Rattle.tree_rm_laws.proofs.Turns.{off-parent}
+use Rattle.tree_edit.specs.Store.{Store, store}
+use Rattle.tree_rm_laws.specs.Remove.{relinked, cleared, swapRemove}
+use Rattle.tree_edit.proofs.Carried.{Carried, Kept, datum-carried}
+use Rattle.tree_edit.proofs.Links.{on-slot, on-none, by-side}
+use Rattle.tree_edit.proofs.Turns.{off-parent}
 use Rattle.tree_rm_laws.proofs.Rows.{instead-here, instead-other}
-use Rattle.tree_rm_laws.proofs.Moves.{move-to, shrink, find, is-moved, kept-relinked, carried-relinked, word-cleared}
+use Rattle.tree_rm_laws.proofs.Moves.{move-to, is-moved, kept-relinked, carried-relinked, word-cleared}
 use Rattle.tree_rm_laws.proofs.Rename.{rename, view-rename, rename-away, rename-at}
 
 -- the store S has the tree t of W and C, with the slot z called v

@@ -1,15 +1,7 @@
-pub mod Links
-pub mod Stand
-pub mod Turns
 pub mod Nephew
 pub mod Moves
-pub mod Carried
 pub mod Rows
 pub mod Rename
-pub mod Beside
-pub mod Walk
-pub mod Paint
-pub mod Fits
 pub mod Recolour
 pub mod Repaint
 pub mod Vacate
@@ -27,11 +19,9 @@ pub mod SwapRemove
 pub mod Enough
 pub mod Doubled
 pub mod Unique
-pub mod Low
 pub mod Mended
 pub mod Inside
 pub mod Reached
 pub mod Examples
 pub mod Sequence
 pub mod Below
-pub mod Told

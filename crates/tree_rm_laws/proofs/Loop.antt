@@ -14,19 +14,19 @@ use Rattle.tree.specs.Zipper.{bin, Frame, plug, occs, frame}
 use Rattle.tree.specs.Hues.{rootRed, blacks, Hues}
 use Rattle.tree.proofs.Slots.{hit-same, hit-zero, occ-bin, occ-plug}
 use Rattle.tree.proofs.Frames.{open-bin, plug-shape}
-use Rattle.tree_rm_laws.specs.Links.{rootAfter}
-use Rattle.tree_rm_laws.specs.Repair.{turn, turn-2, turn-4}
-use Rattle.tree_rm_laws.proofs.Links.{kept-turn, kept-turn-2, kept-turn-4}
-use Rattle.tree_rm_laws.proofs.Beside.{HullsBy, by-turn}
-use Rattle.tree_rm_laws.proofs.Walk.{by-four}
-use Rattle.tree_rm_laws.proofs.Stand.{Stand, stand-up, stand-fix}
-use Rattle.tree_rm_laws.proofs.Turns.{stand-turn, stand-turn-2}
+use Rattle.tree_edit.specs.Links.{rootAfter}
+use Rattle.tree_edit.specs.Rotations.{turn, turn-2, turn-4}
+use Rattle.tree_edit.proofs.Links.{kept-turn, kept-turn-2, kept-turn-4}
+use Rattle.tree_edit.proofs.Beside.{HullsBy, by-turn}
+use Rattle.tree_edit.proofs.Walk.{by-four}
+use Rattle.tree_edit.proofs.Stand.{Stand, stand-up, stand-fix}
+use Rattle.tree_edit.proofs.Turns.{stand-turn, stand-turn-2}
 use Rattle.tree_rm_laws.proofs.Nephew.{stand-turn-4}
-use Rattle.tree_rm_laws.proofs.Paint.{paint, paint-same, paint-other}
-use Rattle.tree_rm_laws.proofs.Fits.{Fits, Keeps, keeps, root-bin}
+use Rattle.tree_edit.proofs.Paint.{paint, paint-same, paint-other}
+use Rattle.tree_edit.proofs.Fits.{Fits, Keeps, keeps, root-bin}
 use Rattle.tree_rm_laws.proofs.Repaint.{paint-1, paint-2, paint-3, paint-4, paint-5}
 use Rattle.tree_rm_laws.proofs.Weight.{weight, weight-le, weight-red, weight-distant}
-use Rattle.tree_rm_laws.proofs.Rows.{turned-slots, slots-four}
+use Rattle.tree_edit.proofs.Rows.{turned-slots, slots-four}
 
 abbrev pub Bare : ℕ → Tree
 Bare x = node leaf x leaf

@@ -2,7 +2,7 @@
 use mathlib.Core.Path.{_≡_, refl, sym, _∙_}
 use mathlib.Core.Logic.{_≢_}
 use mathlib.Core.Bool.{Bool, true, false, not}
-use mathlib.Core.List.{List, _∷_}
+use mathlib.Core.List.{List}
 use Prim.Native.Nat.{ℕ, _+_, _*_, _<_, _≤_}
 use native.Mathlib.Omega.{arith}
 use lib.ListN.{length}
@@ -12,15 +12,15 @@ use Rattle.words.specs.Nodes.{word, kid, par}
 use Rattle.words.proofs.Nodes.{length-putNode, word-putNode-slot, entry-putNode, hull-putNode, kid-putNode, par-putNode}
 use Rattle.words.specs.declared.node.Field.{Field}
 use Rattle.words.specs.declared.node.Field.the-variants.{Child, Parent}
-use Rattle.tree.specs.Tree.{Tree, hit, occ, Shape, leaf, node}
-use Rattle.tree.specs.Zipper.{Frame, plug, occs, Above, frame}
-use Rattle.tree.proofs.Slots.{hit-same, occ-cases}
+use Rattle.tree.specs.Tree.{Tree, hit, occ, Shape, node}
+use Rattle.tree.specs.Zipper.{Frame, plug, occs, Above}
+use Rattle.tree.proofs.Slots.{hit-same}
 use Rattle.tree.proofs.Frames.{shape-live, way-live, off-link, move, plug-shape}
-use Rattle.tree_rm_laws.specs.Links.{adopt, redirect, rootAfter}
+use Rattle.tree_edit.specs.Links.{adopt, redirect, rootAfter}
 use Rattle.tree_rm_laws.specs.Remove.{copied, relinked, cleared}
-use Rattle.tree_rm_laws.proofs.Carried.{Carried, Kept, carry}
-use Rattle.tree_rm_laws.proofs.Links.{by-side, length-adopt, kept-adopt, kid-adopt, par-adopt, word-adopt-slot, par-adopt-kept, kept-redirect, par-redirect, word-redirect-slot, kid-redirect, kid-redirect-not}
-use Rattle.tree_rm_laws.proofs.Turns.{swing, off-parent}
+use Rattle.tree_edit.proofs.Carried.{Carried, Kept, carry}
+use Rattle.tree_edit.proofs.Links.{by-side, length-adopt, kept-adopt, kid-adopt, par-adopt, word-adopt-slot, par-adopt-kept, kept-redirect, par-redirect, word-redirect-slot, kid-redirect, kid-redirect-not}
+use Rattle.tree_edit.proofs.Turns.{swing, off-parent}
 
 -- what led to x is undefined
 pub cut-way : (W : List ℕ) (n r : ℕ) (c : List Frame) (x : ℕ) → n ≤ 65535 → n * 8 ≤ length W → x < n
@@ -105,28 +105,6 @@ module _ (W X : List ℕ) (n r : ℕ) (c : List Frame) (l r′ : Tree) (z x : �
         left = rw (v .kid-x true) (new-kid true l r′ (t .left) (t .right) (λ s. refl));
         right = rw (v .kid-x false) (new-kid false r′ l (t .right) (t .left) (λ s. omega arith));
       })
-
--- the count may fall where no slot of the tree is lost
-pub shrink : (W : List ℕ) (n m p k : ℕ) (t : Tree) → ((s : ℕ) → 0 < occ s t → s < m) → Shape W n p k t → Shape W m p k t
-shrink W n m p k leaf f h = h
-shrink W n m p k (node l s r) f h =
-    record {
-      here = h .here;
-      live = f s (omega (arith, hit-same s));
-      up = h .up;
-      left = shrink W n m s (kid W true s) l (λ a o. f a (omega arith)) (h .left);
-      right = shrink W n m s (kid W false s) r (λ a o. f a (omega arith)) (h .right);
-    }
-
--- the place of a slot
-pub find : {A : Type 0} (s : ℕ) (t : Tree) (c : List Frame) → 0 < occ s t
-    → ((d : List Frame) (l r : Tree) → plug c t ≡ plug d (node l s r) → A) → A
-find s leaf c o k = absurd (omega arith)
-find s (node l a r) c o k =
-    occ-cases s a l r o
-    (λ i. find s l (frame true a r ∷ c) i k)
-    (λ e. k c l r (rw e))
-    (λ i. find s r (frame false a l ∷ c) i k)
 
 -- `swap_remove`: what its words say, where slot v is none of those next to z
 module _ (n : ℕ) (W : List ℕ) (z v : ℕ) (fit : v * 8 + 8 ≤ length W)

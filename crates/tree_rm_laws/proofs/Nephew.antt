@@ -10,11 +10,11 @@ use Rattle.tree.specs.Tree.{Tree}
 use Rattle.tree.specs.Zipper.{bin, Frame, frame}
 use Rattle.tree.proofs.Slots.{hit-same}
 use Rattle.tree.proofs.Frames.{bin-flip}
-use Rattle.tree_rm_laws.specs.Links.{rootAfter}
-use Rattle.tree_rm_laws.specs.Repair.{turn-4}
-use Rattle.tree_rm_laws.proofs.Links.{on-slot, length-turn-4}
-use Rattle.tree_rm_laws.proofs.Stand.{Stand, stand-up, stand-down}
-use Rattle.tree_rm_laws.proofs.Turns.{side-of, Turned, is-turn-4, stand-turned}
+use Rattle.tree_edit.specs.Links.{rootAfter}
+use Rattle.tree_edit.specs.Rotations.{turn-4}
+use Rattle.tree_edit.proofs.Links.{on-slot, length-turn-4}
+use Rattle.tree_edit.proofs.Stand.{Stand, stand-up, stand-down}
+use Rattle.tree_edit.proofs.Turns.{side-of, Turned, is-turn-4, stand-turned}
 
 module _ (W : List ℕ) (n r ix : ℕ) (b : Bool) (P S : ℕ) (c : List Frame) (t X : Tree) (Q : ℕ) (Y D : Tree)
     (h : Stand W n r ix P (frame b P (bin b (bin b X Q Y) S D) ∷ c) t) where

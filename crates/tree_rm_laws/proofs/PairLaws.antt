@@ -12,7 +12,7 @@ use Rattle.tree.specs.Tree.{hit, times}
 use Rattle.tree.proofs.Cases.{compare}
 use Rattle.tree.proofs.Slots.{hit-same, hit-ne, hit-cases, hit-zero}
 use Rattle.tree_rm_laws.specs.Pairs.{none, emptied, home, named, lower, upper, sorted, moved}
-use Rattle.tree_rm_laws.specs.declared.pairs.Pair.{Pair}
+use Rattle.words.specs.declared.pair.Pair.{Pair}
 use Rattle.tree_rm_laws.specs.Names.{changed, same, tally, Rest, Names}
 use Rattle.tree_rm_laws.proofs.Rows.{instead-other}
 

@@ -16,21 +16,22 @@ use Rattle.tree.specs.Tree.{Tree, slots, without, hit, leaf, node, times}
 use Rattle.tree.specs.Zipper.{bin, Frame, plug, occs, frame}
 use Rattle.tree.specs.Hues.{dark}
 use Rattle.tree.proofs.Slots.{hit-same, occ-bin, occ-plug, times-slots}
-use Rattle.tree.proofs.Frames.{Same, shape-live, keep}
-use Rattle.tree_rm_laws.specs.Repair.{done, Next, repair, again}
+use Rattle.tree.proofs.Frames.{Same, shape-live, keep, way-height}
+use Rattle.tree_edit.specs.Rounds.{done, Next, again, ending}
+use Rattle.tree_rm_laws.specs.Repair.{repair}
 use Rattle.tree_rm_laws.specs.Pairs.{instead, emptied}
-use Rattle.tree_rm_laws.specs.Remove.{child, Store, store, ending, restructure, handed, above}
-use Rattle.tree_rm_laws.proofs.Links.{by-side}
-use Rattle.tree_rm_laws.proofs.Carried.{Kept, kept-entry}
+use Rattle.tree_rm_laws.specs.Remove.{child, restructure, handed, above}
+use Rattle.tree_edit.specs.Store.{Store, store}
+use Rattle.tree_edit.proofs.Links.{by-side}
+use Rattle.tree_edit.proofs.Carried.{Kept, kept-entry}
 use Rattle.tree_rm_laws.proofs.Rows.{instead-other, times-without, map-id, couple, exchange, exchange-slots, around}
-use Rattle.tree_rm_laws.proofs.Beside.{beside, occs-parts, by-same}
-use Rattle.tree_rm_laws.proofs.Fits.{Fits, fits-black}
+use Rattle.tree_edit.proofs.Beside.{beside, occs-parts, by-same}
+use Rattle.tree_edit.proofs.Fits.{Fits, fits-black}
 use Rattle.tree_rm_laws.proofs.Steps.{emptied-slot, emptied-none, above-slot, above-none, handed-slot, handed-none, restructure-red, restructure-child, restructure-repair}
 use Rattle.tree_rm_laws.proofs.Spot.{Spot, parts, at-x, fits-x, no-child, red-y, black-x, near-bare, at-y, child-y, parts-y}
 use Rattle.tree_rm_laws.proofs.Weight.{weight-le}
 use Rattle.tree_rm_laws.proofs.Loop.{Bare, Lighter, Fixed}
 use Rattle.tree_rm_laws.proofs.Repaired.{Finished, repaired}
-use Rattle.tree_rm_laws.proofs.Cut.{way-height}
 use Rattle.tree_rm_laws.proofs.Mended.{mended}
 
 -- A store of words Y, colours D and root q is ready: its slot v, which is x or the child y of x, hangs from g and may be cut off.

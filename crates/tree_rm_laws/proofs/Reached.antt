@@ -1,57 +1,29 @@
 -- Between the hulls that a removal works out, one after the other, no hull changes before its last step. On any words.
-use mathlib.Core.Path.{_≡_, refl, _∙_}
+use mathlib.Core.Path.{_≡_, refl}
 use mathlib.Core.Bool.{Bool, true, false, cond, not}
-use mathlib.Core.List.{List, [], _∷_, _++_}
+use mathlib.Core.List.{List, [], _++_}
 use Prim.Native.Nat.{ℕ, zero, suc, _+_, _*_, _≤_}
 use native.Mathlib.Omega.{arith}
 use lib.ListN.{length, length-append}
-use lib.Dec.{eqb, leb}
-use Rattle.words.specs.Ix.{U, onLink}
-use Rattle.words.specs.Nodes.{kid, par, hull, altered, fix, swap, putKid}
+use lib.Dec.{eqb}
+use Rattle.words.specs.Ix.{U}
+use Rattle.words.specs.Nodes.{kid, par, swap, putKid}
 use Rattle.words.specs.declared.node.Field.the-variants.{HullStart, HullEnd, Child}
 use Rattle.words.proofs.Nodes.{word-swap, word-put-field, inLinks}
 use Rattle.bitvec.specs.Colours.{red, redAt, dye}
-use Rattle.tree_rm_laws.specs.Links.{removeChild, redirected, fixUp}
+use Rattle.tree_edit.specs.Links.{removeChild, redirected, fixUp}
 use Rattle.tree_rm_laws.specs.Pairs.{emptied}
-use Rattle.tree_rm_laws.specs.Repair.{turn, turn-2, turn-4, Case, one, two, three, four, five, choose, Next, done, again, act, turnOf, turnAt, step, goOn, repair}
-use Rattle.tree_rm_laws.specs.Remove.{vacated, exchanged, child, Store, store, ending, restructure, handed, above, cutWords, finish, removeFrom, removeRule}
-use Rattle.tree_rm_laws.specs.Reach.{Work, work, changes, differs, upHulls, actHulls, turnOfHulls, turnAtHulls, stepHulls, onward, repairHulls, restructureHulls, cutHulls, vacateHulls, removeHullsFrom, removeHulls, cutFrom, lastStep, Stays, Follows}
-use Rattle.tree_rm_laws.proofs.Carried.{Kept}
-use Rattle.tree_rm_laws.proofs.Links.{by-link, kept-turn, kept-turn-2, kept-turn-4}
-
-pub kept-hull : (W X : List ℕ) (a : ℕ) → Kept W X a → hull X a ≡ hull W a
-kept-hull W X a f = λ t. record { start = f HullStart refl t; end = f HullEnd refl t }
-
-pub kept-stays : (W X : List ℕ) → ((a : ℕ) → Kept W X a) → Stays W X
-kept-stays W X f a = kept-hull W X a (f a)
+use Rattle.tree_edit.specs.Rotations.{turn, turn-2, turn-4}
+use Rattle.tree_rm_laws.specs.Repair.{Case, one, two, three, four, five, choose, act, turnOf, turnAt, step, repair}
+use Rattle.tree_edit.specs.Rounds.{Next, done, again, goOn, ending}
+use Rattle.tree_rm_laws.specs.Remove.{vacated, exchanged, child, restructure, handed, above, cutWords, finish, removeFrom, removeRule}
+use Rattle.tree_edit.specs.Store.{Store, store}
+use Rattle.tree_edit.specs.Reach.{changes, upHulls, onward, Stays, Follows}
+use Rattle.tree_rm_laws.specs.Reach.{actHulls, turnOfHulls, turnAtHulls, stepHulls, repairHulls, restructureHulls, cutHulls, vacateHulls, removeHullsFrom, removeHulls, cutFrom, lastStep}
+use Rattle.tree_edit.proofs.Links.{by-link, kept-turn, kept-turn-2, kept-turn-4}
+use Rattle.tree_edit.proofs.Reached.{kept-stays, from, then, linked, linked-next, follows-up, changes-le, up-most}
 
 module _ (n : ℕ) where
-  -- one after the other
-  from : (W X : List ℕ) (l : List Work) (Z : List ℕ) → Stays W X → Follows n X l Z → Follows n W l Z
-  from W X [] Z f g = λ a. g a ∙ f a
-  from W X (w ∷ l) Z f g = (λ a. g .0 a ∙ f a, g .1)
-
-  pub then : (W X : List ℕ) (l m : List Work) (Z : List ℕ) → Follows n W l X → Follows n X m Z → Follows n W (l ++ m) Z
-  then W X [] m Z f g = from W X m Z f g
-  then W X (w ∷ l) m Z f g = (f .0, then (fix n (w .words) (w .slot)) X l m Z (f .1) g)
-
-  -- a link word by cases, in the list and in the words
-  linked : (W : List ℕ) (k : ℕ) (l : ℕ → List Work) (X : ℕ → List ℕ) → Follows n W (l k) (X k) → Follows n W (onLink n k l []) (onLink n k X W)
-  unfolding onLink
-  linked W k l X f = go (leb n k)
-    where
-      go : (t : Bool) → Follows n W (cond t [] (l k)) (cond t W (X k))
-      go true = λ a. refl
-      go false = f
-
-  -- the walk upward
-  pub follows-up : (height : ℕ) (W : List ℕ) (k : ℕ) → Follows n W (upHulls n height W k) (fixUp n height W k)
-  unfolding upHulls fixUp
-  follows-up zero W k = λ a. refl
-  follows-up (suc height) W k =
-      linked W k (λ s. work W k ∷ upHulls n height (fix n W k) (par W k)) (λ s. fixUp n height (fix n W k) (par W k))
-      (λ a. refl, follows-up height (fix n W k) (par W k))
-
   -- a turn of the repair
   follows-act : (k : Case) (W C : List ℕ) (r ix : ℕ) (b : Bool) (P S c d : ℕ)
       → Follows n W (actHulls n k W b P S c) (ending (act n k W C r ix b P S c d) .words)
@@ -61,24 +33,15 @@ module _ (n : ℕ) where
   follows-act four W C r ix b P S c d = (kept-stays W (turn-4 n W b P S c) (kept-turn-4 n W b P S c), (λ a. refl, λ a. refl))
   follows-act five W C r ix b P S c d = kept-stays W (turn n W b P S) (kept-turn n W b P S)
 
-  linked-next : (W C : List ℕ) (r k : ℕ) (l : ℕ → List Work) (X : ℕ → Next) → Follows n W (l k) (ending (X k) .words)
-      → Follows n W (onLink n k l []) (ending (onLink n k X (done W C r)) .words)
-  unfolding onLink
-  linked-next W C r k l X f = go (leb n k)
-    where
-      go : (t : Bool) → Follows n W (cond t [] (l k)) (ending (cond t (done W C r) (X k)) .words)
-      go true = λ a. refl
-      go false = f
-
   follows-step : (W C : List ℕ) (r ix : ℕ) → Follows n W (stepHulls n W C ix) (ending (step n W C r ix) .words)
   unfolding stepHulls turnAtHulls turnOfHulls step turnAt turnOf
   follows-step W C r ix =
-      linked-next W C r (par W ix) (λ P. turnAtHulls n W C P (eqb (kid W true P) ix)) (λ P. turnAt n W C r ix P (eqb (kid W true P) ix))
+      linked-next n W C r (par W ix) (λ P. turnAtHulls n W C P (eqb (kid W true P) ix)) (λ P. turnAt n W C r ix P (eqb (kid W true P) ix))
       (at (par W ix) (eqb (kid W true (par W ix)) ix))
     where
       at : (P : ℕ) (b : Bool) → Follows n W (turnAtHulls n W C P b) (ending (turnAt n W C r ix P b) .words)
       at P b =
-          linked-next W C r (kid W (not b) P) (λ S. turnOfHulls n W C P b S) (λ S. turnOf n W C r ix P b S)
+          linked-next n W C r (kid W (not b) P) (λ S. turnOfHulls n W C P b S) (λ S. turnOf n W C r ix P b S)
           (follows-act (choose (red C P) (red C (kid W (not b) P)) (redAt n C (kid W b (kid W (not b) P))) (redAt n C (kid W (not b) (kid W (not b) P))))
           W C r ix b P (kid W (not b) P) (kid W b (kid W (not b) P)) (kid W (not b) (kid W (not b) P)))
 
@@ -90,8 +53,8 @@ module _ (n : ℕ) where
       go : ((X D : List ℕ) (q i : ℕ) → Follows n X (repairHulls n turns X D q i) (ending (repair n turns X D q i) .words)) → (s : Next)
           → Follows n W (stepHulls n W C ix) (ending s .words)
           → Follows n W (stepHulls n W C ix ++ onward s (λ X D q i. repairHulls n turns X D q i)) (ending (goOn s (λ X D q i. repair n turns X D q i)) .words)
-      go rec (done X D q) f = then W X (stepHulls n W C ix) [] X f (λ a. refl)
-      go rec (again X D q i) f = then W X (stepHulls n W C ix) (repairHulls n turns X D q i) (ending (repair n turns X D q i) .words) f (rec X D q i)
+      go rec (done X D q) f = then n W X (stepHulls n W C ix) [] X f (λ a. refl)
+      go rec (again X D q i) f = then n W X (stepHulls n W C ix) (repairHulls n turns X D q i) (ending (repair n turns X D q i) .words) f (rec X D q i)
 
   follows-restructure : (W C : List ℕ) (r x y : ℕ) → Follows n W (restructureHulls n W C r x y) (restructure n W C r x y .words)
   unfolding restructureHulls restructure
@@ -106,10 +69,10 @@ module _ (n : ℕ) where
   follows-cut : (W : List ℕ) (g v : ℕ) → Follows n W (cutHulls n W g v) (cutWords n W g v)
   unfolding cutHulls cutWords removeChild redirected
   follows-cut W g v =
-      linked W g (λ s. upHulls n 32 (putKid W (eqb (kid W true s) v) s U) s) (λ s. fixUp n 32 (putKid W (eqb (kid W true s) v) s U) s)
-      (from W (putKid W (eqb (kid W true g) v) g U) (upHulls n 32 (putKid W (eqb (kid W true g) v) g U) g) (fixUp n 32 (putKid W (eqb (kid W true g) v) g U) g)
+      linked n W g (λ s. upHulls n 32 (putKid W (eqb (kid W true s) v) s U) s) (λ s. fixUp n 32 (putKid W (eqb (kid W true s) v) s U) s)
+      (from n W (putKid W (eqb (kid W true g) v) g U) (upHulls n 32 (putKid W (eqb (kid W true g) v) g U) g) (fixUp n 32 (putKid W (eqb (kid W true g) v) g U) g)
       (kept-stays W (putKid W (eqb (kid W true g) v) g U) (λ a f q. word-put-field W (Child (eqb (kid W true g) v)) g U inLinks f a refl q))
-      (follows-up 32 (putKid W (eqb (kid W true g) v) g U) g))
+      (follows-up n 32 (putKid W (eqb (kid W true g) v) g U) g))
 
   swap-stays : (W : List ℕ) (i j : ℕ) → Stays W (swap W i j)
   swap-stays W i j a = λ t. record { start = word-swap W i j HullStart a refl t; end = word-swap W i j HullEnd a refl t }
@@ -149,22 +112,6 @@ cut-then-moved W C n r s = refl
 
 -- how much it can be, on any words
 module _ (n : ℕ) where
-  pub differs-le : (W : List ℕ) (s : ℕ) → differs n W s ≤ 1
-  unfolding differs
-  differs-le W s = go (altered n W s)
-    where
-      go : (t : Bool) → cond t 1 0 ≤ 1
-      go true = omega arith
-      go false = omega arith
-
-  pub changes-append : (l m : List Work) → changes n (l ++ m) ≡ changes n l + changes n m
-  changes-append [] m = omega arith
-  changes-append (w ∷ l) m = omega (arith, changes-append l m)
-
-  pub changes-le : (l : List Work) → changes n l ≤ length l
-  changes-le [] = omega arith
-  changes-le (w ∷ l) = omega (arith, differs-le (w .words) (w .slot), changes-le l)
-
   -- a turn works out two hulls at the most
   step-two : (W C : List ℕ) (ix : ℕ) → length (stepHulls n W C ix) ≤ 2
   unfolding stepHulls turnAtHulls turnOfHulls
@@ -186,20 +133,13 @@ module _ (n : ℕ) where
       few five W b P S c = omega arith
 
   pub turn-le : (W C : List ℕ) (ix : ℕ) → changes n (stepHulls n W C ix) ≤ 2
-  turn-le W C ix = omega (arith, changes-le (stepHulls n W C ix), step-two W C ix)
-
-  pub up-most : (height : ℕ) (W : List ℕ) (k : ℕ) → length (upHulls n height W k) ≤ height
-  unfolding upHulls
-  up-most zero W k = omega arith
-  up-most (suc height) W k =
-      by-link n k (λ l. length l ≤ suc height) (λ s. work W k ∷ upHulls n height (fix n W k) (par W k)) []
-      (λ h. omega (arith, up-most height (fix n W k) (par W k))) (λ h. omega arith)
+  turn-le W C ix = omega (arith, changes-le n (stepHulls n W C ix), step-two W C ix)
 
   pub cut-most : (W : List ℕ) (g v : ℕ) → changes n (cutHulls n W g v) ≤ 32
   unfolding cutHulls
   cut-most W g v =
       by-link n g (λ l. changes n l ≤ 32) (λ s. upHulls n 32 (removeChild W s v) s) []
-      (λ h. omega (arith, changes-le (upHulls n 32 (removeChild W g v) g), up-most 32 (removeChild W g v) g)) (λ h. omega arith)
+      (λ h. omega (arith, changes-le n (upHulls n 32 (removeChild W g v) g), up-most n 32 (removeChild W g v) g)) (λ h. omega arith)
 
   repair-most : (turns : ℕ) (W C : List ℕ) (r ix : ℕ) → length (repairHulls n turns W C r ix) ≤ turns * 2
   unfolding repairHulls
@@ -219,4 +159,4 @@ module _ (n : ℕ) where
       go : (i j : Bool) → changes n (cond i [] (cond j [] (repairHulls n 36 W C r x))) ≤ 144
       go true j = omega arith
       go false true = omega arith
-      go false false = omega (arith, changes-le (repairHulls n 36 W C r x), repair-most 36 W C r x)
+      go false false = omega (arith, changes-le n (repairHulls n 36 W C r x), repair-most 36 W C r x)

@@ -9,7 +9,7 @@ use native.Mathlib.Nat.{zero-add}
 use Rattle.tree.specs.Tree.{Tree}
 use Rattle.tree.specs.Zipper.{bin, Frame, frame}
 use Rattle.tree.specs.Hues.{dark, rootRed, blacks, Hue, Hues}
-use Rattle.tree_rm_laws.proofs.Fits.{Fits, Keeps, open-hue, make-hue, blacks-bin, root-bin, fits-black}
+use Rattle.tree_edit.proofs.Fits.{Fits, Keeps, open-hue, make-hue, blacks-bin, root-bin, fits-black}
 
 not-red : {A : Type 0} {x : Bool} → x ≡ false → x ≡ true → A
 not-red p q = absurd (false≢true (sym p ∙ q))

@@ -24,11 +24,13 @@ use Rattle.tree.proofs.Frames.{Same, keep}
 use Rattle.tree.proofs.Views.{rootRed-view, entries-view, hulls-view, hues-view}
 use Rattle.tree.proofs.Checked.{slot-live, slot-once, tree-low}
 use Rattle.tree_rm_laws.specs.Pairs.{instead, emptied, home, moved}
-use Rattle.tree_rm_laws.specs.Remove.{vacated, exchanged, child, Store, restructure, handed, above, cutWords, cutRoot, swapRemove, finish, removeFrom, removeRule}
+use Rattle.tree_rm_laws.specs.Remove.{vacated, exchanged, child, restructure, handed, above, cutWords, cutRoot, swapRemove, finish, removeFrom, removeRule}
+use Rattle.tree_edit.specs.Store.{Store}
 use Rattle.tree_rm_laws.specs.Names.{changed, Names}
 use Rattle.tree_rm_laws.specs.Removed.{Removed}
 use Rattle.tree_rm_laws.proofs.Inside.{low-exchanged}
-use Rattle.tree_rm_laws.proofs.Rows.{without-at, times-without, map-same, split, rising-without, rising-entries, proper-entries}
+use Rattle.tree_rm_laws.proofs.Rows.{without-at, times-without, split, rising-without, rising-entries, proper-entries}
+use Rattle.tree_edit.proofs.Rows.{map-same}
 use Rattle.tree_rm_laws.proofs.Rename.{rename, slots-rename}
 use Rattle.tree_rm_laws.proofs.Landing.{Landed, landed}
 use Rattle.tree_rm_laws.proofs.Cut.{Cut, cut}

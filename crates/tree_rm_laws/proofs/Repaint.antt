@@ -9,8 +9,8 @@ use Rattle.tree.specs.Tree.{Tree, hit, occ}
 use Rattle.tree.specs.Zipper.{bin, Frame, occs, frame}
 use Rattle.tree.specs.Hues.{rootRed, blacks, Hues}
 use Rattle.tree.proofs.Slots.{hit-same, hit-zero, occ-bin}
-use Rattle.tree_rm_laws.proofs.Paint.{paint, paint-same, paint-other}
-use Rattle.tree_rm_laws.proofs.Fits.{Fits, Keeps, keeps, fits-keep}
+use Rattle.tree_edit.proofs.Paint.{paint, paint-same, paint-other}
+use Rattle.tree_edit.proofs.Fits.{Fits, Keeps, keeps, fits-keep}
 use Rattle.tree_rm_laws.proofs.Recolour.{case-1, case-2, case-3, case-4, case-5}
 
 -- the place below P, with the sibling S and the nephews C and D

@@ -7,19 +7,19 @@ use native.Mathlib.Omega.{arith}
 use lib.ListN.{length}
 use lib.Dec.{eqb}
 use Rattle.words.specs.Nodes.{kid, par}
-use Rattle.bitvec.specs.Colours.{red, dye, redAt}
-use Rattle.bitvec.proofs.Bytes.{length-setBit}
+use Rattle.bitvec.specs.Colours.{red, dyeAt}
 use Rattle.tree.specs.Tree.{Tree, Node, Shape, leaf, node}
 use Rattle.tree.specs.Zipper.{bin, Frame, plug, frame}
 use Rattle.tree.specs.Hues.{rootRed, Hue, Hues}
 use Rattle.tree.proofs.Frames.{shape-root, open-bin}
 use Rattle.tree.proofs.Once.{root-par}
-use Rattle.tree_rm_laws.specs.Repair.{done, Next, dyeAt, choose, act, turnOf, turnAt, step, goOn, repair, one, two, three, four, five, again}
-use Rattle.tree_rm_laws.proofs.Links.{on-slot, on-none}
-use Rattle.tree_rm_laws.proofs.Stand.{Stand}
-use Rattle.tree_rm_laws.proofs.Turns.{side-of}
-use Rattle.tree_rm_laws.proofs.Paint.{paint, red-dye}
-use Rattle.tree_rm_laws.proofs.Fits.{open-hue, root-bin}
+use Rattle.tree_edit.specs.Rounds.{done, Next, goOn, again}
+use Rattle.tree_rm_laws.specs.Repair.{choose, act, turnOf, turnAt, step, repair, one, two, three, four, five}
+use Rattle.tree_edit.proofs.Links.{on-slot, on-none}
+use Rattle.tree_edit.proofs.Stand.{Stand}
+use Rattle.tree_edit.proofs.Turns.{side-of}
+use Rattle.tree_edit.proofs.Paint.{red-link, dye-one, dye-two, dye-three}
+use Rattle.tree_edit.proofs.Fits.{open-hue, root-bin}
 use Rattle.tree_rm_laws.proofs.Weight.{weight-is, weigh, weight}
 use Rattle.tree_rm_laws.proofs.Loop.{Bare, Held, Loop, Lighter, Fixed, ended, good-1, good-2, good-3, good-4, good-5}
 
@@ -28,33 +28,9 @@ abbrev Good : ℕ → ℕ → List ℕ → ℕ → Next → Type 0
 Good n x base w (done W C r) = Fixed n x base W (red C) r × (n ≤ length C * 8)
 Good n x base w (again W C r ix) = Lighter n x base w W (red C) r ix × (n ≤ length C * 8)
 
--- a link's colour is that of the tree it leads to
-pub red-link : (W C : List ℕ) (n : ℕ) → n ≤ 65535 → (p k : ℕ) (t : Tree) → Shape W n p k t → redAt n C k ≡ rootRed (red C) t
-red-link W C n m p k leaf h = on-none n k (omega arith) (λ s. red C s) false
-red-link W C n m p k (node l s r) h = rw (h .here) (on-slot n s (h .live) (λ s. red C s) false)
-
 red-live : (W : List ℕ) (K : ℕ → Bool) (n p k : ℕ) (t : Tree) → Shape W n p k t → rootRed K t ≡ true → k < n
 red-live W K n p k leaf h e = absurd (false≢true e)
 red-live W K n p k (node l s r) h e = rw (h .here) (h .live)
-
--- colours made one after the other
-module _ (n : ℕ) (C : List ℕ) (bits : n ≤ length C * 8) where
-  pub dye-one : (s : ℕ) (v : Bool) → s < n → (n ≤ length (dye C s v) * 8) × (red (dye C s v) ≡ paint (red C) s v)
-  dye-one s v q = (rw length-setBit bits, red-dye C s v (omega arith))
-
-pub dye-two : (n : ℕ) (C : List ℕ) (s a : ℕ) (v w : Bool) → n ≤ length C * 8 → s < n → a < n
-    → (n ≤ length (dye (dye C s v) a w) * 8) × (red (dye (dye C s v) a w) ≡ paint (paint (red C) s v) a w)
-dye-two n C s a v w bits q o =
-    let (i, e) = dye-one n C bits s v q in
-    let (j, f) = dye-one n (dye C s v) i a w o in
-    (j, f ∙ rw e)
-
-pub dye-three : (n : ℕ) (C : List ℕ) (s a d : ℕ) (v w u : Bool) → n ≤ length C * 8 → s < n → a < n → d < n
-    → (n ≤ length (dye (dye (dye C s v) a w) d u) * 8) × (red (dye (dye (dye C s v) a w) d u) ≡ paint (paint (paint (red C) s v) a w) d u)
-dye-three n C s a d v w u bits q o p =
-    let (i, e) = dye-two n C s a v w bits q o in
-    let (j, f) = dye-one n (dye (dye C s v) a w) i d u p in
-    (j, f ∙ rw e)
 
 -- one turn, below P with the sibling S
 module _ (n x : ℕ) (base W Y : List ℕ) (r ix : ℕ) (b : Bool) (P S : ℕ) (c : List Frame) (C D : Tree) (i : List Frame) (m : ℕ)

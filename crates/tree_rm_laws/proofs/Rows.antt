@@ -11,11 +11,12 @@ use Rattle.words.specs.Nodes.{start, stop, interval, entry}
 use Rattle.words.specs.declared.interval.Interval.{Interval}
 use Rattle.words.specs.declared.node.Entry.{Entry}
 use Rattle.tree.specs.Tree.{Tree, slots, without, hit, node, times}
-use Rattle.tree.specs.Zipper.{bin, Frame, plug, frame}
+use Rattle.tree.specs.Zipper.{Frame, plug, frame}
 use Rattle.tree.specs.Order.{Rising, RisingAt}
 use Rattle.tree.proofs.Slots.{hit-same, hit-cases, hit-zero, times-append}
 use Rattle.tree.proofs.Orders.{after-trans, rising-same}
 use Rattle.tree_rm_laws.specs.Pairs.{instead}
+use Rattle.tree_edit.proofs.Rows.{map-same}
 
 -- one slot in the place of another
 pub instead-here : (c b : ℕ) → instead c b c ≡ b
@@ -56,10 +57,6 @@ times-without s a (c ∷ l) m o =
     (λ e. let h : hit s c ≡ 1 = rw (← e) (hit-same s) in rw (← e, eq-eqb s s refl, without-none s l (omega arith)) (omega arith))
     (λ z. let d : s ≢ c = hit-zero s c z in
     rw (ne-eqb c s (λ q. d (sym q))) (omega (arith, times-without s a l (omega arith) (omega arith))))
-
-pub map-same : {A : Type 0} (f g : ℕ → A) (l : List ℕ) → ((a : ℕ) → 0 < times a l → g a ≡ f a) → map g l ≡ map f l
-map-same f g [] h = refl
-map-same f g (a ∷ l) h = rw (h a (omega (arith, hit-same a)), map-same f g l (λ c o. h c (omega arith)))
 
 pub map-id : (f : ℕ → ℕ) (l : List ℕ) → ((a : ℕ) → 0 < times a l → f a ≡ a) → map f l ≡ l
 map-id f [] h = refl
@@ -125,31 +122,6 @@ around (frame true s far ∷ c) k =
     around c (λ A B f. k A (s ∷ (slots far ++ B)) (λ t. f (node t s far) ∙ simp append-assoc))
 around (frame false s far ∷ c) k =
     around c (λ A B f. k (A ++ (slots far ++ (s ∷ []))) B (λ t. f (node far s t) ∙ simp append-assoc))
-
--- a turn keeps the slots in tree order
-slots-plug : (c : List Frame) (t u : Tree) → slots t ≡ slots u → slots (plug c t) ≡ slots (plug c u)
-slots-plug [] t u e = e
-slots-plug (frame b s far ∷ c) t u e = slots-plug c (bin b t s far) (bin b u s far) (go b)
-  where
-    go : (b : Bool) → slots (bin b t s far) ≡ slots (bin b u s far)
-    go true = rw e
-    go false = rw e
-
-pub turned-slots : (b : Bool) (P S : ℕ) (c : List Frame) (N C D : Tree)
-    → slots (plug (frame b P C ∷ frame b S D ∷ c) N) ≡ slots (plug (frame b P (bin b C S D) ∷ c) N)
-turned-slots b P S c N C D = slots-plug c (bin b (bin b N P C) S D) (bin b N P (bin b C S D)) (go b)
-  where
-    go : (b : Bool) → slots (bin b (bin b N P C) S D) ≡ slots (bin b N P (bin b C S D))
-    go true = simp append-assoc
-    go false = simp append-assoc
-
-pub slots-four : (b : Bool) (c : List Frame) (t : Tree) (P : ℕ) (X : Tree) (Q : ℕ) (Y : Tree) (S : ℕ) (D : Tree)
-    → slots (plug (frame b P (bin b X Q (bin b Y S D)) ∷ c) t) ≡ slots (plug (frame b P (bin b (bin b X Q Y) S D) ∷ c) t)
-slots-four b c t P X Q Y S D = slots-plug c (bin b t P (bin b X Q (bin b Y S D))) (bin b t P (bin b (bin b X Q Y) S D)) (go b)
-  where
-    go : (b : Bool) → slots (bin b t P (bin b X Q (bin b Y S D))) ≡ slots (bin b t P (bin b (bin b X Q Y) S D))
-    go true = simp append-assoc
-    go false = simp append-assoc
 
 -- a list at a slot that it has
 pub split : {X : Type 0} (s : ℕ) (l : List ℕ) → 0 < times s l → ((A B : List ℕ) → l ≡ A ++ (s ∷ B) → X) → X

@@ -1,26 +1,17 @@
 -- Removals one after the other: the store passes after each, and what lies from the first count up stays.
-use mathlib.Core.Path.{_≡_, refl, _∙_}
+use mathlib.Core.Path.{_≡_, refl}
 use mathlib.Core.List.{List, [], _∷_}
 use Prim.Native.Nat.{ℕ, suc, _-_, _*_, _≤_}
 use native.Mathlib.Omega.{arith}
 use lib.ListN.{length}
 use Rattle.tree.specs.Passes.{Passes}
-use Rattle.tree_rm_laws.specs.Remove.{Store, removeRule}
-use Rattle.tree_rm_laws.specs.Removed.{Inside}
+use Rattle.tree_edit.specs.Store.{Store}
+use Rattle.tree_rm_laws.specs.Remove.{removeRule}
+use Rattle.tree_edit.specs.Inside.{Inside}
 use Rattle.tree_rm_laws.specs.Sequence.{after, Within}
 use Rattle.tree_rm_laws.proofs.Inside.{removed-inside}
 use Rattle.tree_rm_laws.proofs.Removal.{removed}
-
--- what is written below a lower count is written below a higher one
-pub inside-trans : (n m : ℕ) (S T R : Store) → m ≤ n → Inside n (S .words) (S .colours) T → Inside m (T .words) (T .colours) R
-    → Inside n (S .words) (S .colours) R
-inside-trans n m S T R q f g =
-    record {
-      words-length = g .words-length ∙ f .words-length;
-      colours-length = g .colours-length ∙ f .colours-length;
-      words-kept = λ k a u. g .words-kept k a (omega arith) ∙ f .words-kept k a u;
-      colours-kept = λ a u. g .colours-kept a (omega arith) ∙ f .colours-kept a u;
-    }
+use Rattle.tree_edit.proofs.Inside.{inside-trans}
 
 pub after-inside : (l : List ℕ) (S : Store) (n : ℕ) → Within n l → Inside n (S .words) (S .colours) (after S n l)
 after-inside [] S n w = record { words-length = refl; colours-length = refl; words-kept = λ f a u. refl; colours-kept = λ a u. refl }

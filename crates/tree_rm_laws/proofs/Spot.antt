@@ -15,8 +15,8 @@ use Rattle.tree.specs.Hues.{dark, rootRed, blacks, Hue, Hues}
 use Rattle.tree.proofs.Slots.{hit-same, hit-zero, occ-bin, occ-plug}
 use Rattle.tree.proofs.Frames.{open-bin, unplug-shape}
 use Rattle.tree_rm_laws.specs.Remove.{child}
-use Rattle.tree_rm_laws.proofs.Beside.{HullsBy}
-use Rattle.tree_rm_laws.proofs.Fits.{Fits, open-hue, blacks-bin, root-bin, plug-fits}
+use Rattle.tree_edit.proofs.Beside.{HullsBy}
+use Rattle.tree_edit.proofs.Fits.{Fits, open-hue, blacks-bin, root-bin, plug-fits}
 use Rattle.tree_rm_laws.proofs.Loop.{Bare}
 
 -- The slot x of a store that passes but for the entries on the way from x up; `near` is its subtree on the side b, and there is none on the other.

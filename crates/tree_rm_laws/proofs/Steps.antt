@@ -7,8 +7,10 @@ use Rattle.words.specs.Nodes.{par, swap}
 use Rattle.bitvec.specs.Colours.{red, dye}
 use Rattle.tree_rm_laws.specs.Repair.{repair}
 use Rattle.tree_rm_laws.specs.Pairs.{emptied}
-use Rattle.tree_rm_laws.specs.Remove.{store, ending, restructure, handed, above}
-use Rattle.tree_rm_laws.proofs.Links.{by-link, on-slot, on-none}
+use Rattle.tree_edit.specs.Store.{store}
+use Rattle.tree_edit.specs.Rounds.{ending}
+use Rattle.tree_rm_laws.specs.Remove.{restructure, handed, above}
+use Rattle.tree_edit.proofs.Links.{by-link, on-slot, on-none}
 
 -- the slot that is emptied
 module _ (n x y : ℕ) where

@@ -8,8 +8,8 @@ use borrow.Author.Tests.{eq-eqb}
 use Rattle.tree.specs.Tree.{hit}
 use Rattle.tree.proofs.Cases.{compare}
 use Rattle.tree.proofs.Slots.{hit-same, hit-ne, hit-cases, hit-eq, hit-zero}
-use Rattle.tree_rm_laws.specs.declared.pairs.Pair.{Pair}
-use Rattle.tree_rm_laws.specs.declared.pairs.Pairs.{Pairs}
+use Rattle.words.specs.declared.pair.Pair.{Pair}
+use Rattle.words.specs.declared.pair.Pairs.{Pairs}
 use Rattle.tree_rm_laws.specs.Names.{same, tally, Rest, Names}
 use Rattle.tree_rm_laws.proofs.PairLaws.{same-else, same-here}
 

@@ -14,16 +14,15 @@ use Rattle.tree.specs.Tree.{Tree, slots, without, hit, occ, height, Shape, leaf
 use Rattle.tree.specs.Zipper.{bin, Frame, plug, occs, frame}
 use Rattle.tree.specs.Hulls.{Hulls}
 use Rattle.tree.proofs.Slots.{hit-same, hit-zero, occ-plug, times-slots}
-use Rattle.tree.proofs.Frames.{shape-live, unplug-shape}
+use Rattle.tree.proofs.Frames.{shape-live, unplug-shape, find, way-height}
 use Rattle.tree_rm_laws.specs.Pairs.{instead}
-use Rattle.tree_rm_laws.specs.Remove.{leftmost, vacated, exchanged}
-use Rattle.tree_rm_laws.proofs.Carried.{Kept, kept-entry}
-use Rattle.tree_rm_laws.proofs.Links.{on-slot, on-none}
-use Rattle.tree_rm_laws.proofs.Beside.{HullsBy, beside, along, occs-parts, along-append, by-same, hulls-by}
+use Rattle.tree_edit.specs.Links.{leftmost}
+use Rattle.tree_rm_laws.specs.Remove.{vacated, exchanged}
+use Rattle.tree_edit.proofs.Carried.{Kept, kept-entry}
+use Rattle.tree_edit.proofs.Links.{on-slot, on-none}
+use Rattle.tree_edit.proofs.Beside.{HullsBy, beside, along, occs-parts, along-append, by-same, hulls-by}
 use Rattle.tree_rm_laws.proofs.Loop.{plug-append}
 use Rattle.tree_rm_laws.proofs.Rows.{instead-self, map-id, couple, exchange, exchange-slots, around}
-use Rattle.tree_rm_laws.proofs.Moves.{find}
-use Rattle.tree_rm_laws.proofs.Cut.{way-height}
 
 -- the leftmost slot of a tree, within its height
 pub leftmost-at : {A : Type 0} (W : List ℕ) (n : ℕ) → n ≤ 65535 → (steps p k : ℕ) (l : Tree) (s : ℕ) (r : Tree) → Shape W n p k (node l s r)

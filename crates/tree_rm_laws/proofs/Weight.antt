@@ -9,7 +9,7 @@ use Rattle.tree.specs.Tree.{Tree, leaf, node}
 use Rattle.tree.specs.Zipper.{bin, Frame, frame}
 use Rattle.tree.specs.Hues.{rootRed}
 use Rattle.tree_rm_laws.specs.Repair.{Case, choose, one, two, three, four, five}
-use Rattle.tree_rm_laws.proofs.Fits.{root-bin}
+use Rattle.tree_edit.proofs.Fits.{root-bin}
 
 abbrev pub weigh : Case → ℕ → ℕ
 weigh one d = 4 + d

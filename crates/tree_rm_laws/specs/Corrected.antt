@@ -12,7 +12,8 @@ use Rattle.words.specs.declared.node.Field.{Field}
 use Rattle.words.specs.declared.node.Field.the-variants.{Start, End, Value, HullStart, HullEnd, Child, Parent}
 use Rattle.bitvec.specs.Colours.{red, dye}
 use Rattle.tree_rm_laws.specs.Pairs.{instead, emptied, moved}
-use Rattle.tree_rm_laws.specs.Remove.{vacated, exchanged, child, Store, store, restructure, handed, above, cutWords, cutRoot, relinked, blank, Removal}
+use Rattle.tree_rm_laws.specs.Remove.{vacated, exchanged, child, restructure, handed, above, cutWords, cutRoot, relinked, blank, Removal}
+use Rattle.tree_edit.specs.Store.{Store, store}
 
 -- "The old last slot's eight words become 0."
 unfoldable pub swapRemove-01 : ℕ → List ℕ → List ℕ → ℕ → ℕ → ℕ → Store

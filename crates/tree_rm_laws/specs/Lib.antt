@@ -1,4 +1,3 @@
-pub mod Links
 pub mod Repair
 pub mod Pairs
 pub mod Remove
@@ -6,6 +5,5 @@ pub mod Reach
 pub mod Names
 pub mod Removed
 pub mod With
-pub mod Below
 pub mod Corrected
 pub mod Sequence

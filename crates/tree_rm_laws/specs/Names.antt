@@ -7,8 +7,8 @@ use lib.Dec.{eqb}
 use Rattle.words.specs.Ix.{U}
 use Rattle.tree.specs.Tree.{hit}
 use Rattle.tree_rm_laws.specs.Pairs.{none}
-use Rattle.tree_rm_laws.specs.declared.pairs.Pair.{Pair}
-use Rattle.tree_rm_laws.specs.declared.pairs.Pairs.{Pairs}
+use Rattle.words.specs.declared.pair.Pair.{Pair}
+use Rattle.words.specs.declared.pair.Pairs.{Pairs}
 
 -- the old and the new slot of each entry whose slot differs; the two lists hold the slots of the same entries, in tree order
 abbrev pub changed : List ℕ → List ℕ → List Pair

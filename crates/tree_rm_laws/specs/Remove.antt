@@ -1,20 +1,17 @@
 -- The removal of one entry, step by step as document 01's 'Removal' says it.
 use mathlib.Core.Bool.{true, false, cond, _||_}
 use mathlib.Core.List.{List}
-use Prim.Native.Nat.{ℕ, zero, suc, _-_, min}
+use Prim.Native.Nat.{ℕ, _-_, min}
 use lib.Dec.{eqb}
 use Rattle.words.specs.Ix.{U, gone, onLink}
 use Rattle.words.specs.Nodes.{value, kid, par, hull, entry, putNode, swap}
 use Rattle.bitvec.specs.Colours.{red, redAt, dye}
-use Rattle.tree_rm_laws.specs.Links.{adopt, removeChild, redirect, fixUp}
-use Rattle.tree_rm_laws.specs.Repair.{Next, done, again, repair}
+use Rattle.tree_edit.specs.Links.{adopt, removeChild, redirect, fixUp, leftmost}
+use Rattle.tree_rm_laws.specs.Repair.{repair}
 use Rattle.tree_rm_laws.specs.Pairs.{instead, emptied, moved}
-use Rattle.tree_rm_laws.specs.declared.pairs.Pairs.{Pairs}
-
--- the leftmost slot from the slot k down, `height` links at the most
-unfoldable pub leftmost : ℕ → ℕ → List ℕ → ℕ → ℕ
-leftmost n zero W k = k
-leftmost n (suc height) W k = onLink n (kid W true k) (λ s. leftmost n height W s) k
+use Rattle.words.specs.declared.pair.Pairs.{Pairs}
+use Rattle.tree_edit.specs.Store.{Store, store}
+use Rattle.tree_edit.specs.Rounds.{ending}
 
 -- "The slot to vacate is the given one if its right link is U, else the leftmost of its right subtree"
 unfoldable pub vacated : ℕ → List ℕ → ℕ → ℕ
@@ -31,19 +28,6 @@ exchanged W s x = cond (eqb x s) W (swap W s x)
 -- "The least of the two links is its child."
 unfoldable pub child : List ℕ → ℕ → ℕ
 child W x = min (kid W true x) (kid W false x)
-
--- node words, colour bytes and root
-pub record Store : Type 0 where
-  pub words : List ℕ
-  pub colours : List ℕ
-  pub root : ℕ
-
-abbrev pub store : List ℕ → List ℕ → ℕ → Store
-store W C r = record { words = W; colours = C; root = r }
-
-abbrev pub ending : Next → Store
-ending (done W C r) = store W C r
-ending (again W C r ix) = store W C r
 
 -- `restructure_rm`: "A red slot, or one with a red child, needs no repair", before the slot x with the child y is vacated
 unfoldable pub restructure : ℕ → List ℕ → List ℕ → ℕ → ℕ → ℕ → Store

@@ -5,24 +5,10 @@ use Prim.Native.Nat.{ℕ, zero, suc}
 use lib.Dec.{eqb}
 use Rattle.words.specs.Ix.{onLink}
 use Rattle.words.specs.Nodes.{kid, par, fix}
-use Rattle.bitvec.specs.Colours.{red, redAt, dye}
-use Rattle.tree_rm_laws.specs.Links.{setChild, replaced, rootAfter}
-
--- A node stands on the side b of its parent P (`true`: left), its sibling is S: S turns into the place of P. The two writes below it
--- stand in the one order in the fifth case and in the other in the second.
-unfoldable pub turn : ℕ → List ℕ → Bool → ℕ → ℕ → List ℕ
-turn n W b P S = setChild n (setChild n (replaced n W P S) P (kid W b S) (not b)) S P b
-
-unfoldable pub turn-2 : ℕ → List ℕ → Bool → ℕ → ℕ → List ℕ
-turn-2 n W b P S = setChild n (setChild n (replaced n W P S) S P b) P (kid W b S) (not b)
-
--- the fourth case: the close nephew c turns into the place of S below P
-unfoldable pub turn-4 : ℕ → List ℕ → Bool → ℕ → ℕ → ℕ → List ℕ
-turn-4 n W b P S c = setChild n (setChild n (setChild n W S (kid W (not b) c) b) c S (not b)) P c (not b)
-
--- a link that leads to a slot has it dyed
-unfoldable pub dyeAt : ℕ → List ℕ → ℕ → Bool → List ℕ
-dyeAt n C k v = onLink n k (λ s. dye C s v) C
+use Rattle.bitvec.specs.Colours.{red, redAt, dye, dyeAt}
+use Rattle.tree_edit.specs.Links.{rootAfter}
+use Rattle.tree_edit.specs.Rotations.{turn, turn-2, turn-4}
+use Rattle.tree_edit.specs.Rounds.{Next, done, again, goOn}
 
 pub data Case : Type 0 where
   one two three four five : Case
@@ -32,11 +18,6 @@ unfoldable pub choose : Bool → Bool → Bool → Bool → Case
 choose p s c d =
     cond (not p && not c && not d) (cond s two one)
     (cond (p && not s && not c && not d) three (cond (not s && not d && c) four five))
-
--- words, colours and root; and where the loop goes on, the slot that it stands at
-pub data Next : Type 0 where
-  done : List ℕ → List ℕ → ℕ → Next
-  again : List ℕ → List ℕ → ℕ → ℕ → Next
 
 -- what the case writes, for the slot ix below P with the sibling S and the nephews c and d
 abbrev pub act : ℕ → Case → List ℕ → List ℕ → ℕ → ℕ → Bool → ℕ → ℕ → ℕ → ℕ → Next
@@ -60,10 +41,6 @@ unfoldable pub step : ℕ → List ℕ → List ℕ → ℕ → ℕ → Next
 step n W C r ix = onLink n (par W ix) (λ P. turnAt n W C r ix P (eqb (kid W true P) ix)) (done W C r)
 
 -- the loop, at most `turns` turns of it
-abbrev pub goOn : Next → (List ℕ → List ℕ → ℕ → ℕ → Next) → Next
-goOn (done W C r) f = done W C r
-goOn (again W C r ix) f = f W C r ix
-
 unfoldable pub repair : ℕ → ℕ → List ℕ → List ℕ → ℕ → ℕ → Next
 repair n zero W C r ix = again W C r ix
 repair n (suc turns) W C r ix = goOn (step n W C r ix) (λ X D q i. repair n turns X D q i)

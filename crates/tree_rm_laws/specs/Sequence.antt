@@ -1,7 +1,8 @@
 -- Removals one after the other.
 use mathlib.Core.List.{List, [], _∷_}
 use Prim.Native.Nat.{ℕ, _-_, _<_}
-use Rattle.tree_rm_laws.specs.Remove.{Store, removeRule}
+use Rattle.tree_edit.specs.Store.{Store}
+use Rattle.tree_rm_laws.specs.Remove.{removeRule}
 
 -- the store after the removal of each slot of a list from a store of n entries
 abbrev pub after : Store → ℕ → List ℕ → Store

@@ -6,10 +6,12 @@ use Prim.Native.Nat.{ℕ, _-_}
 use Rattle.words.specs.Ix.{gone, onLink}
 use Rattle.words.specs.Nodes.{value, kid}
 use Rattle.bitvec.specs.Colours.{red, redAt, dye}
-use Rattle.tree_rm_laws.specs.Links.{removeChild, fixUp}
+use Rattle.tree_edit.specs.Links.{removeChild, fixUp, leftmost}
 use Rattle.tree_rm_laws.specs.Repair.{repair}
 use Rattle.tree_rm_laws.specs.Pairs.{emptied, moved}
-use Rattle.tree_rm_laws.specs.Remove.{leftmost, exchanged, child, Store, store, ending, handed, above, cutRoot, swapRemove, Removal}
+use Rattle.tree_rm_laws.specs.Remove.{exchanged, child, handed, above, cutRoot, swapRemove, Removal}
+use Rattle.tree_edit.specs.Store.{Store, store}
+use Rattle.tree_edit.specs.Rounds.{ending}
 
 unfoldable pub vacatedWith : ℕ → ℕ → List ℕ → ℕ → ℕ
 vacatedWith links n W s = cond (gone n (kid W false s)) s (leftmost n links W (kid W false s))

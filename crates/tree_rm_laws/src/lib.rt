@@ -1,2 +1,1 @@
-// The rule of removal, which crate tree_rm computes, and what it guarantees. Theory, but for the record of the moved pairs.
-pub mod pairs;
+// The rule of removal, which crate tree_rm computes, and what it guarantees. Theory.

@@ -3,8 +3,8 @@ use mathlib.Core.Path.{_≡_}
 use mathlib.Core.Bool.{cond, _||_}
 use Prim.Native.Nat.{ℕ}
 use lib.Dec.{eqb, leb}
-use Rattle.tree_rm_laws.specs.declared.pairs.Pair.{Pair}
-use Rattle.tree_rm_laws.specs.declared.pairs.Pairs.{Pairs}
+use Rattle.words.specs.declared.pair.Pair.{Pair}
+use Rattle.words.specs.declared.pair.Pairs.{Pairs}
 use Rattle.tree_rm_laws.specs.Pairs.{none, home, named, sorted, moved}
 
 pub moved-is : (n z s x y a b c : ℕ) (p q o : Pair) (R : Pairs) → a ≡ home n z s x y x → b ≡ home n z s x y y → c ≡ home n z s x y z

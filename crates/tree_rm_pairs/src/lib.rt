@@ -1,8 +1,8 @@
 // The entries that a removal moved to another slot.
-use tree_rm_laws::pairs::Pair;
-use tree_rm_laws::pairs::Pairs;
 use words::ix::Link;
 use words::ix::U;
+use words::pair::Pair;
+use words::pair::Pairs;
 ghost use mathlib.Core.Path.{_≡_};
 ghost use mathlib.Core.Bool.{cond};
 ghost use Prim.Native.Nat.{_<_};

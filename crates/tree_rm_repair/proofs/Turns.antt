@@ -1,27 +1,30 @@
 -- The turns of the repair, in the form that `search` takes.
 use mathlib.Core.Path.{_≡_, refl, sym, ap, _∙_}
-use mathlib.Core.Bool.{Bool, true, false, cond, not, _&&_, Bool·not-not, true≢false}
-use mathlib.Core.List.{List, []}
-use Prim.Native.Nat.{ℕ, _+_, _*_, _<_, _≤_}
+use mathlib.Core.Bool.{Bool, true, false, cond, not, _&&_, Bool·not-not}
+use mathlib.Core.List.{List}
+use Prim.Native.Nat.{ℕ, _<_}
 use native.Mathlib.Omega.{arith}
-use lib.ListN.{length}
-use lib.Dec.{eqb, leb}
-use borrow.Author.Tests.{leb-false}
-use Rattle.words.specs.Ix.{linkOf, onLink}
+use lib.Dec.{eqb}
+use Rattle.words.specs.Ix.{linkOf}
 use Rattle.words.specs.Nodes.{kid, par, fix}
 use Rattle.words.specs.declared.ix.Link.{Link}
 use Rattle.words.specs.declared.ix.Link.the-variants.{Slot}
-use Rattle.bitvec.specs.Colours.{red, redAt, dye}
-use Rattle.tree_rm_laws.specs.Links.{rootAfter}
-use Rattle.tree_rm_laws.specs.Repair.{turn, turn-4, dyeAt, Case, one, two, three, four, five, choose, Next, done, again, act, turnOf, turnAt, step, repair}
-use Rattle.tree_rm_laws.specs.Remove.{Store, store, ending, restructure}
+use Rattle.bitvec.specs.Colours.{red, redAt, dye, dyeAt}
+use Rattle.tree_edit.specs.Links.{rootAfter}
+use Rattle.tree_edit.specs.Rotations.{turn, turn-4}
+use Rattle.tree_rm_laws.specs.Repair.{Case, one, two, three, four, five, choose, act, turnOf, turnAt, step, repair}
+use Rattle.tree_edit.specs.Rounds.{Next, done, again, ending}
+use Rattle.tree_edit.specs.Store.{Store, store}
+use Rattle.tree_rm_laws.specs.Remove.{restructure}
 use Rattle.tree_rm_repair.specs.Answers.{caseOf}
 use Rattle.tree_rm_repair.specs.declared.Case as K
 use Rattle.tree_rm_repair.specs.declared.Case.the-variants as ks
-use Rattle.tree_rm_laws.specs.Reach.{Work, changes, bothHulls, actHulls, turnOfHulls, turnAtHulls, stepHulls, repairHulls, restructureHulls}
+use Rattle.tree_edit.specs.Reach.{changes, bothHulls}
+use Rattle.tree_rm_laws.specs.Reach.{actHulls, turnOfHulls, turnAtHulls, stepHulls, repairHulls, restructureHulls}
 use Rattle.tree_rm_laws.proofs.Reached.{turn-le}
-use Rattle.tree_rm_links.proofs.LinkLaws.{read-linked, hulls-linked}
-use Rattle.tree_rm_repair.proofs.Loops.{Loop, Counted, link-stays}
+use Rattle.tree_links.proofs.Loops.{Loop, Counted, link-stays, at-side, side-changes}
+use Rattle.tree_edit.proofs.Paint.{red-slot, red-child}
+use Rattle.tree_rm_laws.proofs.Mended.{four-close}
 
 -- the choice among the cases, by which of the four are black
 pub choose-black : (p s c d : Bool)
@@ -41,27 +44,8 @@ case-is k p s c d a b e f g h i j q =
     q ∙ cc
 
 -- the close nephew is red in case 4
-only-four : (p s c d : Bool) → choose p s c d ≡ four → c ≡ true
-unfolding choose
-only-four p s true d e = refl
-only-four true true false d e = let z : _≡_ {A = ℕ} 0 1 = cc in absurd (omega arith)
-only-four true false false true e = let z : _≡_ {A = ℕ} 0 1 = cc in absurd (omega arith)
-only-four true false false false e = let z : _≡_ {A = ℕ} 0 1 = cc in absurd (omega arith)
-only-four false true false true e = let z : _≡_ {A = ℕ} 0 1 = cc in absurd (omega arith)
-only-four false true false false e = let z : _≡_ {A = ℕ} 0 1 = cc in absurd (omega arith)
-only-four false false false true e = let z : _≡_ {A = ℕ} 0 1 = cc in absurd (omega arith)
-only-four false false false false e = let z : _≡_ {A = ℕ} 0 1 = cc in absurd (omega arith)
-
-red-there : (n : ℕ) (C : List ℕ) (k : ℕ) → redAt n C k ≡ true → k < n
-unfolding onLink
-red-there n C k e = go (leb n k) refl e
-  where
-    go : (t : Bool) → leb n k ≡ t → cond t false (red C k) ≡ true → k < n
-    go true q z = absurd (true≢false (sym z))
-    go false q z = leb-false n k q
-
 pub close-there : (n : ℕ) (C : List ℕ) (p s d : Bool) (c : ℕ) (k : Case) → k ≡ choose p s (redAt n C c) d → k ≡ four → c < n
-close-there n C p s d c k e f = red-there n C c (only-four p s (redAt n C c) d (sym e ∙ f))
+close-there n C p s d c k e f = red-slot n C c (four-close p s (redAt n C c) d (sym e ∙ f))
 
 pub four-fits : (n c : ℕ) (k : K.Case) → (caseOf k ≡ four → c < n) → k ≡ ks.Four → c < n
 four-fits n c k h e = h (ap caseOf e)
@@ -122,17 +106,6 @@ pub turn-is : (n : ℕ) (W C : List ℕ) (r ix P : ℕ) (b : Bool) (S c d : ℕ)
 unfolding turnOf
 turn-is n W C r ix P b S c d k N e f g h = rw (← e, ← f, ← g) h
 
--- a slot's parent p, with the side that the slot is on
-pub at-side : (F : ℕ → Bool → Next) (z : Next) (n : ℕ) (W : List ℕ) (ix : ℕ) (N : Next) (w p x : ℕ) (l : Link) → w ≡ par W ix → l ≡ linkOf n w
-    → l ≡ Slot p → x ≡ kid W true p → N ≡ F p (eqb x ix) → N ≡ onLink n (par W ix) (λ P. F P (eqb (kid W true P) ix)) z
-at-side F z n W ix N w p x l e q k f h =
-    read-linked N n (par W ix) w l (λ (P : ℕ). F P (eqb (kid W true P) ix)) z e q p k (h ∙ ap (λ (y : ℕ). F p (eqb y ix)) f)
-
-pub side-changes : (F : ℕ → Bool → List Work) (n : ℕ) (W : List ℕ) (ix x w p t : ℕ) (l : Link) → w ≡ par W ix → l ≡ linkOf n w → l ≡ Slot p → t ≡ kid W true p
-    → x ≡ changes n (F p (eqb t ix)) → x ≡ changes n (onLink n (par W ix) (λ (P : ℕ). F P (eqb (kid W true P) ix)) [])
-side-changes F n W ix x w p t l e q k f h =
-    hulls-linked x n (par W ix) w l (λ (P : ℕ). F P (eqb (kid W true P) ix)) e q p k (h ∙ ap (λ (y : ℕ). changes n (F p (eqb y ix))) f)
-
 pub parent-changes : (n : ℕ) (W C : List ℕ) (ix x w p t : ℕ) (l : Link) → w ≡ par W ix → l ≡ linkOf n w → l ≡ Slot p → t ≡ kid W true p
     → x ≡ changes n (turnAtHulls n W C p (eqb t ix)) → x ≡ changes n (stepHulls n W C ix)
 unfolding stepHulls
@@ -174,12 +147,6 @@ unfolding repairHulls
 repair-hulls n = record { stops = λ W C r ix. refl; turns = λ f W C r ix. refl; most = λ W C ix. omega (arith, turn-le n W C ix) }
 
 -- before a slot is vacated
-pub red-child : (w a t : Bool) → w ≡ not a → not w ≡ t → a ≡ t
-red-child w a t f z = sym (Bool·not-not a) ∙ ap not (sym f) ∙ z
-
-pub red-fits : (n : ℕ) (C : List ℕ) (k : ℕ) (w : Bool) → n ≤ length C * 8 → w ≡ not (redAt n C k) → not w ≡ true → k < length C * 8
-red-fits n C k w h e q = let l : k < n = red-there n C k (red-child w (redAt n C k) true e q) in omega arith
-
 module _ (n : ℕ) (W C : List ℕ) (r x y : ℕ) (v : Bool) (e : v ≡ red C x) where
   pub ready-red : v ≡ true → store W C r ≡ restructure n W C r x y
   unfolding restructure

@@ -1,11 +1,7 @@
--- What the code's answers stand for. Together the definitions tell any two answers apart.
-use mathlib.Core.List.{List}
-use Prim.Native.Nat.{ℕ}
+-- What the code's cases stand for.
 use Rattle.tree_rm_laws.specs.Repair as rule
 use Rattle.tree_rm_repair.specs.declared.Case.{Case}
 use Rattle.tree_rm_repair.specs.declared.Case.the-variants.{One, Two, Three, Four, Five}
-use Rattle.tree_rm_repair.specs.declared.Turn.{Turn}
-use Rattle.tree_rm_repair.specs.declared.Turn.the-variants.{Done, Again}
 
 abbrev pub caseOf : Case → rule.Case
 caseOf One = rule.one
@@ -13,13 +9,3 @@ caseOf Two = rule.two
 caseOf Three = rule.three
 caseOf Four = rule.four
 caseOf Five = rule.five
-
--- a turn's answer, with the words and the colours that it leaves
-abbrev pub next : Turn → List ℕ → List ℕ → rule.Next
-next (Done r k) W C = rule.done W C r
-next (Again r ix k) W C = rule.again W C r ix
-
--- how many hulls changed in it
-abbrev pub reach : Turn → ℕ
-reach (Done r k) = k
-reach (Again r ix k) = k

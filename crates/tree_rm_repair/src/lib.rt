@@ -1,25 +1,35 @@
 // The repair before a removal: the root test and the five cases of `restructure_rm_complex_cases`, in the file's order.
+use bitvec::colours::copy_colour;
 use bitvec::colours::is_black;
 use bitvec::colours::is_black_or_nil;
 use bitvec::colours::is_red;
 use bitvec::colours::set_black;
+use bitvec::colours::set_black_at;
 use bitvec::colours::set_red;
-use tree_rm_links::replace_children;
-use tree_rm_links::rework_both;
-use tree_rm_links::set_child;
+use tree_links::Repaired;
+use tree_links::Turn;
+use tree_links::replace_children;
+use tree_links::rework_both;
+use tree_links::set_child;
+use tree_links::turn_up;
 use words::ix::Link;
 use words::node::child_of;
 use words::node::parent_of;
 ghost use mathlib.Core.Path.{_≡_};
-ghost use mathlib.Core.Bool.{true, false, not};
+ghost use mathlib.Core.Bool.{true, not};
 ghost use Prim.Native.Nat.{_+_, _*_, _<_, _≤_};
 ghost use lib.ListN.{length};
-ghost use Rattle.bitvec.specs.Colours.{red, redAt, dye};
-ghost use Rattle.tree_rm_laws.specs.Links.{rootAfter};
-ghost use Rattle.tree_rm_laws.specs.Repair.{turn, turn-2, turn-4, dyeAt, two, four, five, choose, act, turnOf, turnAt, step, repair};
-ghost use Rattle.tree_rm_laws.specs.Remove.{store, ending, restructure};
-ghost use Rattle.tree_rm_repair.specs.Answers.{caseOf, next, reach};
-ghost use Rattle.tree_rm_laws.specs.Reach.{changes, actHulls, turnOfHulls, turnAtHulls, stepHulls, repairHulls, restructureHulls};
+ghost use Rattle.bitvec.specs.Colours.{red, redAt};
+ghost use Rattle.tree_edit.specs.Links.{rootAfter};
+ghost use Rattle.tree_edit.specs.Rotations.{turn-2, turn-4};
+ghost use Rattle.tree_rm_laws.specs.Repair.{two, four, five, choose, act, turnOf, turnAt, step, repair};
+ghost use Rattle.tree_edit.specs.Store.{store};
+ghost use Rattle.tree_edit.specs.Rounds.{ending};
+ghost use Rattle.tree_rm_laws.specs.Remove.{restructure};
+ghost use Rattle.tree_rm_repair.specs.Answers.{caseOf};
+ghost use Rattle.tree_links.specs.Answers.{next, reach};
+ghost use Rattle.tree_edit.specs.Reach.{changes};
+ghost use Rattle.tree_rm_laws.specs.Reach.{actHulls, turnOfHulls, turnAtHulls, stepHulls, repairHulls, restructureHulls};
 
 pub enum Case {
     // Node has black parent and black sibling, both nephews are black.
@@ -32,18 +42,6 @@ pub enum Case {
     Four,
     // Terminal: any parent, black sibling, any close nephew and red distant nephew.
     Five,
-}
-
-// The root; where the loop goes on, the slot that it stands at; and how many hulls changed in this turn.
-pub enum Turn {
-    Done(u64, u64),
-    Again(u64, u64, u64),
-}
-
-// The root after a repair, and how many hulls changed in it.
-pub struct Repaired {
-    pub root: u64,
-    pub reach: u64,
 }
 
 // Which of parent, sibling, close and distant nephew are black decides the case.
@@ -113,46 +111,6 @@ fn turn_four(
     set_child(nodes, count, sibling, child, node_is_left);
     set_child(nodes, count, close, sibling, !node_is_left);
     set_child(nodes, count, parent, close, !node_is_left);
-}
-
-// The sibling turns into the place of the parent, as in case two with the last two writes in the other order: case five's
-// links, and those of a rotation after an insertion. The answer is the root.
-pub fn turn_up(
-    nodes: &mut [u64],
-    count: u64,
-    root: u64,
-    node_is_left: bool,
-    parent: u64,
-    sibling: u64,
-) -> u64
-    requires { ⌜ (count * 8 ≤ length (now nodes)) × (parent < count) × (sibling < count) ⌝ }
-    ensures { λ r. ⌜ (r ≡ rootAfter count (now (nodes .entry)) root parent sibling) × (now (nodes .exit) ≡ turn count (now (nodes .entry)) «node_is_left» parent sibling) ⌝ }
-{
-    let close = child_of(nodes, sibling, node_is_left);
-    let top = replace_children(nodes, count, root, parent, sibling);
-    set_child(nodes, count, parent, close, !node_is_left);
-    set_child(nodes, count, sibling, parent, node_is_left);
-    top
-}
-
-// Slot `to` gets the colour of slot `from`.
-pub fn copy_colour(colours: &mut [u8], from: u64, to: u64)
-    requires { ⌜ (from < length (now colours) * 8) × (to < length (now colours) * 8) ⌝ }
-    ensures { λ _. ⌜ now (colours .exit) ≡ dye (now (colours .entry)) to (red (now (colours .entry)) from) ⌝ }
-{
-    let v = is_red(colours, from);
-    bitvec::put_bit(colours, to as usize, v);
-}
-
-// A link that leads to a slot has it made black.
-fn set_black_at(colours: &mut [u8], count: u64, word: u64)
-    requires { ⌜ count ≤ length (now colours) * 8 ⌝ }
-    ensures { λ _. ⌜ now (colours .exit) ≡ dyeAt count (now (colours .entry)) word false ⌝ }
-{
-    let Link::Slot(ix) = Link::new(word, count) else {
-        return;
-    };
-    set_black(colours, ix);
 }
 
 fn case_two(

@@ -2,4 +2,5 @@
 pub mod interval;
 pub mod ix;
 pub mod node;
+pub mod pair;
 pub mod refusal;

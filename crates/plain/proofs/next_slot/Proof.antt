@@ -1,5 +1,5 @@
 use Rattle.words.proofs.Laws.{slot-live}
-use Rattle.tree_rm_links.proofs.LinkLaws.{read-linked, read-unlinked}
+use Rattle.tree_links.proofs.LinkLaws.{read-linked, read-unlinked}
 use Rattle.plain_laws.specs.Tour.{nextOf}
 use borrow.Author.Needs.{needs}
 use native.Mathlib.Omega.{arith}

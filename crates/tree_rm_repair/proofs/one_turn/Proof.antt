@@ -1,5 +1,5 @@
 use Rattle.tree_rm_laws.specs.Reach.{stepHulls}
-use Rattle.tree_rm_links.proofs.LinkLaws.{hulls-unlinked, read-unlinked}
+use Rattle.tree_links.proofs.LinkLaws.{hulls-unlinked, read-unlinked}
 use Rattle.tree_rm_repair.proofs.Turns.{at-parent, parent-changes}
 use Rattle.tree_rm_laws.specs.Repair.{step}
 use Rattle.words.proofs.Laws.{slot-live, slot-room}

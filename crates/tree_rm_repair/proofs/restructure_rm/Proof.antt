@@ -1,4 +1,5 @@
-use Rattle.tree_rm_repair.proofs.Turns.{ready-child, ready-red, ready-repair, red-fits, still-red, still-child, repair-changes}
+use Rattle.tree_rm_repair.proofs.Turns.{ready-child, ready-red, ready-repair, still-red, still-child, repair-changes}
+use Rattle.tree_edit.proofs.Paint.{red-fits}
 use borrow.Author.Needs.{needs}
 use native.Mathlib.Omega.{arith}
 use Rattle.tree_rm_repair.proofs.restructure_rm.Statement.{statement}

@@ -1,8 +1,9 @@
-use Rattle.tree_rm_repair.proofs.Loops.{loop-on, loop-done, loop-none, loop-stays, count-on, count-done, count-none, sum-fits, last-fits, sum-room}
+use Rattle.tree_links.proofs.Loops.{loop-on, loop-done, loop-none, loop-stays, count-on, count-done, count-none, sum-fits, last-fits, sum-room}
 use Rattle.tree_rm_repair.proofs.Turns.{repairs, step-stays, repair-hulls}
 use Rattle.tree_rm_laws.specs.Repair.{step, repair}
-use Rattle.tree_rm_laws.specs.Reach.{changes, stepHulls, repairHulls}
-use Rattle.tree_rm_links.proofs.LinkLaws.{begin-sum}
+use Rattle.tree_edit.specs.Reach.{changes}
+use Rattle.tree_rm_laws.specs.Reach.{stepHulls, repairHulls}
+use Rattle.tree_links.proofs.LinkLaws.{begin-sum}
 use mathlib.Core.Path.{_≡_, refl}
 use Prim.Native.Nat.{_+_, _*_, _<_, _≤_}
 use native.Mathlib.Omega.{arith}

@@ -1,5 +1,5 @@
 use Rattle.tree_rm_laws.specs.Reach.{turnAtHulls}
-use Rattle.tree_rm_links.proofs.LinkLaws.{hulls-linked, hulls-unlinked, read-linked, read-unlinked}
+use Rattle.tree_links.proofs.LinkLaws.{hulls-linked, hulls-unlinked, read-linked, read-unlinked}
 use Rattle.tree_rm_laws.specs.Repair.{turnAt}
 use Rattle.words.proofs.Laws.{slot-live}
 use borrow.Author.Needs.{needs}

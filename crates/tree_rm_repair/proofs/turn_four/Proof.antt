@@ -1,4 +1,4 @@
-use Rattle.tree_rm_laws.specs.Repair.{turn-4}
+use Rattle.tree_edit.specs.Rotations.{turn-4}
 use borrow.Author.Needs.{needs}
 use Rattle.tree_rm_repair.proofs.turn_four.Statement.{statement}
 use Rattle.tree_rm_repair.proofs.turn_four.Tie as tie

@@ -1,4 +1,4 @@
-use Rattle.tree_rm_laws.specs.Repair.{turn-2}
+use Rattle.tree_edit.specs.Rotations.{turn-2}
 use borrow.Author.Needs.{needs}
 use Rattle.tree_rm_repair.proofs.turn_two.Statement.{statement}
 use Rattle.tree_rm_repair.proofs.turn_two.Tie as tie

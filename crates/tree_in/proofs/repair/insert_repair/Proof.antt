@@ -1,9 +1,9 @@
 use Rattle.tree_in.proofs.Mends.{mend-hulls, mend-stays, mends}
 use Rattle.tree_in_laws.specs.Mend.{mend, mendStep}
 use Rattle.tree_in_laws.specs.Reach.{mendHulls, mendStepHulls}
-use Rattle.tree_rm_laws.specs.Reach.{changes}
-use Rattle.tree_rm_links.proofs.LinkLaws.{begin-sum}
-use Rattle.tree_rm_repair.proofs.Loops.{loop-done, loop-none, loop-on, loop-stays, count-done, count-none, count-on, last-fits, sum-fits, sum-room}
+use Rattle.tree_edit.specs.Reach.{changes}
+use Rattle.tree_links.proofs.LinkLaws.{begin-sum}
+use Rattle.tree_links.proofs.Loops.{loop-done, loop-none, loop-on, loop-stays, count-done, count-none, count-on, last-fits, sum-fits, sum-room}
 use Prim.Native.Nat.{_+_, _*_, _<_, _≤_}
 use lib.ListN.{length}
 use mathlib.Core.Path.{_≡_, refl}

@@ -1,7 +1,7 @@
 use Rattle.tree_in.proofs.Mends.{at-grandparent, grandparent-changes}
 use Rattle.tree_in_laws.specs.Mend.{mendBelow}
 use Rattle.tree_in_laws.specs.Reach.{mendBelowHulls}
-use Rattle.tree_rm_links.proofs.LinkLaws.{read-unlinked, hulls-unlinked}
+use Rattle.tree_links.proofs.LinkLaws.{read-unlinked, hulls-unlinked}
 use Rattle.words.proofs.Laws.{slot-live, slot-room}
 use native.Mathlib.Omega.{arith}
 use borrow.Author.Needs.{needs}

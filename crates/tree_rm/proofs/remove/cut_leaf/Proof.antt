@@ -1,5 +1,5 @@
 use Rattle.tree_rm_laws.specs.Reach.{cutHulls}
-use Rattle.tree_rm_links.proofs.LinkLaws.{hulls-unlinked, read-linked, read-unlinked}
+use Rattle.tree_links.proofs.LinkLaws.{hulls-unlinked, read-linked, read-unlinked}
 use Rattle.tree_rm.proofs.Removes.{cut-is, cut-changes}
 use Rattle.tree_rm_laws.specs.Remove.{cutRoot, cutWords}
 use Rattle.words.proofs.Laws.{slot-room}

@@ -1,0 +1,38 @@
+-- Insertions and removals one after the other, each on the newest map.
+use mathlib.Core.List.{List, [], _∷_}
+use Prim.Native.Nat.{ℕ, _+_, _-_, _<_}
+use Rattle.words.specs.declared.node.Entry.{Entry}
+use Rattle.tree_edit.specs.Store.{Store}
+use Rattle.tree_rm_laws.specs.Remove.{removeRule}
+use Rattle.tree_in_laws.specs.Insert.{insertRule}
+
+pub data Change : Type 0 where
+  remove : ℕ → Change
+  insert : Entry → Change
+
+-- the store after a change to one of n entries, and the count then
+abbrev pub changed : Store → ℕ → Change → Store
+changed S n (remove s) = removeRule (S .words) (S .colours) n (S .root) s .store
+changed S n (insert e) = insertRule (S .words) (S .colours) n (S .root) e
+
+abbrev pub counted : ℕ → Change → ℕ
+counted n (remove s) = n - 1
+counted n (insert e) = n + 1
+
+-- after all changes of a list
+abbrev pub run : Store → ℕ → List Change → Store
+run S n [] = S
+run S n (x ∷ l) = run (changed S n x) (counted n x) l
+
+abbrev pub total : ℕ → List Change → ℕ
+total n [] = n
+total n (x ∷ l) = total (counted n x) l
+
+-- a map of n entries in an arena of m slots takes the change: the slot is there, or there is room for a proper interval
+abbrev pub Takes : ℕ → ℕ → Change → Type 0
+Takes m n (remove s) = s < n
+Takes m n (insert e) = (n < m) × (e .start < e .end)
+
+abbrev pub TakesAll : ℕ → ℕ → List Change → Type 0
+TakesAll m n [] = Unit {0}
+TakesAll m n (x ∷ l) = Takes m n x × TakesAll m (counted n x) l

@@ -1,0 +1,16 @@
+pub mod Links
+pub mod Carried
+pub mod Beside
+pub mod Walk
+pub mod Stand
+pub mod Turns
+pub mod Rows
+pub mod Paint
+pub mod Fits
+pub mod Low
+pub mod InPlace
+pub mod Inside
+pub mod Reached
+pub mod Below
+pub mod Told
+pub mod Examples

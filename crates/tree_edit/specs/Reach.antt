@@ -1,0 +1,50 @@
+-- Document 02, item 9: the hulls that a change works out, one after the other, and how many of them change.
+use mathlib.Core.Path.{_≡_}
+use mathlib.Core.Bool.{cond}
+use mathlib.Core.List.{List, [], _∷_}
+use Prim.Native.Nat.{ℕ, zero, suc, _+_}
+use Rattle.words.specs.Ix.{onLink}
+use Rattle.words.specs.Nodes.{par, hull, altered, fix}
+use Rattle.tree_edit.specs.Rounds.{Next, done, again}
+
+-- a hull that is worked out: in which words, and of which slot
+pub record Work : Type 0 where
+  pub words : List ℕ
+  pub slot : ℕ
+
+abbrev pub work : List ℕ → ℕ → Work
+work W s = record { words = W; slot = s }
+
+-- "whether either end changed": 1 where one did, else 0
+unfoldable pub differs : ℕ → List ℕ → ℕ → ℕ
+differs n W s = cond (altered n W s) 1 0
+
+-- how many of them changed: "A hull worked out twice counts each time it changes."
+abbrev pub changes : ℕ → List Work → ℕ
+changes n [] = 0
+changes n (w ∷ l) = differs n (w .words) (w .slot) + changes n l
+
+-- two hulls, one after the other
+abbrev pub bothHulls : ℕ → List ℕ → ℕ → ℕ → List Work
+bothHulls n W a b = work W a ∷ work (fix n W a) b ∷ []
+
+-- those of the walk upward, at most `height` of them
+unfoldable pub upHulls : ℕ → ℕ → List ℕ → ℕ → List Work
+upHulls n zero W k = []
+upHulls n (suc height) W k =
+    let up : List Work = upHulls n height (fix n W k) (par W k) in
+    onLink n k (λ s. work W k ∷ up) []
+
+-- where the loop goes on
+abbrev pub onward : Next → (List ℕ → List ℕ → ℕ → ℕ → List Work) → List Work
+onward (done W C r) f = []
+onward (again W C r ix) f = f W C r ix
+
+-- no hull is other than it was
+abbrev pub Stays : List ℕ → List ℕ → Type 0
+Stays W X = (a : ℕ) → hull X a ≡ hull W a
+
+-- From W to Z these hulls are worked out, in this order, and no hull changes in between.
+abbrev pub Follows : ℕ → List ℕ → List Work → List ℕ → Type 0
+Follows n W [] Z = Stays W Z
+Follows n W (w ∷ l) Z = Stays W (w .words) × Follows n (fix n (w .words) (w .slot)) l Z

@@ -1,0 +1,18 @@
+-- A rotation's links, in the three orders in which they are written.
+use mathlib.Core.Bool.{Bool, not}
+use mathlib.Core.List.{List}
+use Prim.Native.Nat.{ℕ}
+use Rattle.words.specs.Nodes.{kid}
+use Rattle.tree_edit.specs.Links.{setChild, replaced}
+
+-- A node stands on the side b of its parent P (`true`: left), its sibling is S: S turns into the place of P. The two writes below it
+-- stand in the one order in the fifth case and in the other in the second.
+unfoldable pub turn : ℕ → List ℕ → Bool → ℕ → ℕ → List ℕ
+turn n W b P S = setChild n (setChild n (replaced n W P S) P (kid W b S) (not b)) S P b
+
+unfoldable pub turn-2 : ℕ → List ℕ → Bool → ℕ → ℕ → List ℕ
+turn-2 n W b P S = setChild n (setChild n (replaced n W P S) S P b) P (kid W b S) (not b)
+
+-- the fourth case: the close nephew c turns into the place of S below P
+unfoldable pub turn-4 : ℕ → List ℕ → Bool → ℕ → ℕ → ℕ → List ℕ
+turn-4 n W b P S c = setChild n (setChild n (setChild n W S (kid W (not b) c) b) c S (not b)) P c (not b)

@@ -1,0 +1,18 @@
+-- One round of a repair's loop: what it comes to, and how the loop goes on.
+use mathlib.Core.List.{List}
+use Prim.Native.Nat.{ℕ}
+use Rattle.tree_edit.specs.Store.{Store, store}
+
+-- words, colours and root; and where the loop goes on, the slot that it stands at
+pub data Next : Type 0 where
+  done : List ℕ → List ℕ → ℕ → Next
+  again : List ℕ → List ℕ → ℕ → ℕ → Next
+
+abbrev pub ending : Next → Store
+ending (done W C r) = store W C r
+ending (again W C r ix) = store W C r
+
+-- where the loop goes on, f does
+abbrev pub goOn : Next → (List ℕ → List ℕ → ℕ → ℕ → Next) → Next
+goOn (done W C r) f = done W C r
+goOn (again W C r ix) f = f W C r ix

@@ -1,0 +1,16 @@
+-- What a turn's answer stands for. Together the definitions tell any two answers apart.
+use mathlib.Core.List.{List}
+use Prim.Native.Nat.{ℕ}
+use Rattle.tree_edit.specs.Rounds as rule
+use Rattle.tree_links.specs.declared.Turn.{Turn}
+use Rattle.tree_links.specs.declared.Turn.the-variants.{Done, Again}
+
+-- a turn's answer, with the words and the colours that it leaves
+abbrev pub next : Turn → List ℕ → List ℕ → rule.Next
+next (Done r k) W C = rule.done W C r
+next (Again r ix k) W C = rule.again W C r ix
+
+-- how many hulls changed in it
+abbrev pub reach : Turn → ℕ
+reach (Done r k) = k
+reach (Again r ix k) = k

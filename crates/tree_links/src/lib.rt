@@ -1,0 +1,169 @@
+// Links between slots, the rotation that two of them make, and the hulls up to the root: what insertion and removal both write;
+// and the answers of their repairs.
+use words::ix::Link;
+use words::ix::U;
+use words::node::child_of;
+use words::node::parent_of;
+use words::node::put_child;
+use words::node::put_parent;
+use words::node::update_subtree_interval;
+ghost use mathlib.Core.Path.{_≡_};
+ghost use Prim.Native.Nat.{_+_, _*_, _<_, _≤_};
+ghost use lib.ListN.{length};
+ghost use Rattle.words.specs.Ix.{onLink};
+ghost use Rattle.words.specs.Nodes.{fix};
+ghost use Rattle.tree_edit.specs.Links.{adopt, setChild, redirected, removeChild, redirect, replaced, rootAfter, fixUp, leftmost};
+ghost use Rattle.tree_edit.specs.Rotations.{turn};
+ghost use Rattle.tree_edit.specs.Reach.{differs, changes, bothHulls, upHulls};
+
+// The root; where the loop goes on, the slot that it stands at; and how many hulls changed in this turn.
+pub enum Turn {
+    Done(u64, u64),
+    Again(u64, u64, u64),
+}
+
+// The root after a repair, and how many hulls changed in it.
+pub struct Repaired {
+    pub root: u64,
+    pub reach: u64,
+}
+
+// A child that is there gets `parent` for its parent.
+pub fn adopt_child(nodes: &mut [u64], count: u64, child: u64, parent: u64)
+    requires { ⌜ count * 8 ≤ length (now nodes) ⌝ }
+    ensures { λ _. ⌜ now (nodes .exit) ≡ adopt count (now (nodes .entry)) child parent ⌝ }
+{
+    let Link::Slot(s) = Link::new(child, count) else {
+        return;
+    };
+    put_parent(nodes, s, parent);
+}
+
+// The link of slot `parent` that leads to `old` leads to `new`: the left one if that is it, else the right one.
+fn replace_child(nodes: &mut [u64], parent: u64, old: u64, new: u64)
+    requires { ⌜ parent * 8 + 8 ≤ length (now nodes) ⌝ }
+    ensures { λ _. ⌜ now (nodes .exit) ≡ redirected (now (nodes .entry)) parent old new ⌝ }
+{
+    let is_left = child_of(nodes, parent, true) == old;
+    put_child(nodes, parent, is_left, new);
+}
+
+// The same for a parent that is there.
+pub fn replace_child_at(nodes: &mut [u64], count: u64, parent: u64, old: u64, new: u64)
+    requires { ⌜ count * 8 ≤ length (now nodes) ⌝ }
+    ensures { λ _. ⌜ now (nodes .exit) ≡ redirect count (now (nodes .entry)) parent old new ⌝ }
+{
+    let Link::Slot(s) = Link::new(parent, count) else {
+        return;
+    };
+    replace_child(nodes, s, old, new);
+}
+
+pub fn remove_child(nodes: &mut [u64], parent: u64, child: u64)
+    requires { ⌜ parent * 8 + 8 ≤ length (now nodes) ⌝ }
+    ensures { λ _. ⌜ now (nodes .exit) ≡ removeChild (now (nodes .entry)) parent child ⌝ }
+{
+    replace_child(nodes, parent, child, U);
+}
+
+pub fn set_child(nodes: &mut [u64], count: u64, parent: u64, child: u64, left_side: bool)
+    requires { ⌜ (count * 8 ≤ length (now nodes)) × (parent < count) ⌝ }
+    ensures { λ _. ⌜ now (nodes .exit) ≡ setChild count (now (nodes .entry)) parent child «left_side» ⌝ }
+{
+    adopt_child(nodes, count, child, parent);
+    put_child(nodes, parent, left_side, child);
+}
+
+// The leftmost slot from slot k down, `height` links at the most.
+pub fn leftmost_from(nodes: &[u64], count: u64, k: u64, height: u64) -> u64
+    requires { ⌜ (count * 8 ≤ length (now nodes)) × (k < count) ⌝ }
+    ensures { λ r. ⌜ (r ≡ leftmost count height (now (nodes .entry)) k) × (r < count) ⌝ }
+{
+    if height == 0 {
+        return k;
+    }
+    let Link::Slot(left) = Link::new(child_of(nodes, k, true), count) else {
+        return k;
+    };
+    leftmost_from(nodes, count, left, height - 1)
+}
+
+// The root after `new` has taken the place of a slot below the link word `parent`.
+fn root_below(count: u64, root: u64, parent: u64, new: u64) -> u64
+    ensures { λ r. ⌜ r ≡ onLink count parent (λ s. root) new ⌝ }
+{
+    let Link::Slot(_) = Link::new(parent, count) else {
+        return new;
+    };
+    root
+}
+
+// What led to `old` leads to `new`; the answer is the root. A parent link that leads to no slot is handed on as it is: in a
+// store that passes the check it is U.
+pub fn replace_children(nodes: &mut [u64], count: u64, root: u64, old: u64, new: u64) -> u64
+    requires { ⌜ (count * 8 ≤ length (now nodes)) × (old < count) × (new < count) ⌝ }
+    ensures { λ r. ⌜ (r ≡ rootAfter count (now (nodes .entry)) root old new) × (now (nodes .exit) ≡ replaced count (now (nodes .entry)) old new) ⌝ }
+{
+    let parent = parent_of(nodes, old);
+    replace_child_at(nodes, count, parent, old, new);
+    put_parent(nodes, new, parent);
+    root_below(count, root, parent, new)
+}
+
+// The sibling turns into the place of the parent, as in case two with the last two writes in the other order: case five's
+// links, and those of a rotation after an insertion. The answer is the root.
+pub fn turn_up(
+    nodes: &mut [u64],
+    count: u64,
+    root: u64,
+    node_is_left: bool,
+    parent: u64,
+    sibling: u64,
+) -> u64
+    requires { ⌜ (count * 8 ≤ length (now nodes)) × (parent < count) × (sibling < count) ⌝ }
+    ensures { λ r. ⌜ (r ≡ rootAfter count (now (nodes .entry)) root parent sibling) × (now (nodes .exit) ≡ turn count (now (nodes .entry)) «node_is_left» parent sibling) ⌝ }
+{
+    let close = child_of(nodes, sibling, node_is_left);
+    let top = replace_children(nodes, count, root, parent, sibling);
+    set_child(nodes, count, parent, close, !node_is_left);
+    set_child(nodes, count, sibling, parent, node_is_left);
+    top
+}
+
+// Works the hull of slot ix out: 1 where either end changed, else 0.
+pub fn rework_hull(nodes: &mut [u64], count: u64, ix: u64) -> u64
+    requires { ⌜ (count * 8 ≤ length (now nodes)) × (ix < count) ⌝ }
+    ensures { λ r. ⌜ (r ≡ differs count (now (nodes .entry)) ix) × (now (nodes .exit) ≡ fix count (now (nodes .entry)) ix) ⌝ }
+{
+    update_subtree_interval(nodes, count, ix) as u64
+}
+
+// Works the hull of slot `first` out, then that of slot `second`; the answer is how many of the two changed.
+pub fn rework_both(nodes: &mut [u64], count: u64, first: u64, second: u64) -> u64
+    requires { ⌜ (count * 8 ≤ length (now nodes)) × (first < count) × (second < count) ⌝ }
+    ensures { λ r. ⌜ (r ≡ changes count (bothHulls count (now (nodes .entry)) first second)) × (now (nodes .exit) ≡ fix count (fix count (now (nodes .entry)) first) second) ⌝ }
+{
+    let changed = rework_hull(nodes, count, first);
+    let again = rework_hull(nodes, count, second);
+    changed + again
+}
+
+// The hulls from the link word `from` up to the root; the answer is how many changed. No way up is longer than 32 in a store
+// that passes the check.
+pub fn fix_intervals_up(nodes: &mut [u64], count: u64, from: u64) -> u64
+    requires { ⌜ count * 8 ≤ length (now nodes) ⌝ }
+    ensures { λ r. ⌜ (r ≡ changes count (upHulls count 32 (now (nodes .entry)) from)) × (now (nodes .exit) ≡ fixUp count 32 (now (nodes .entry)) from) ⌝ }
+{
+    let mut at = from;
+    let mut reach: u64 = 0;
+    let mut height: u64 = 32;
+    while height > 0 {
+        let Link::Slot(ix) = Link::new(at, count) else {
+            return reach;
+        };
+        reach += rework_hull(nodes, count, ix);
+        at = parent_of(nodes, ix);
+        height -= 1;
+    }
+    reach
+}
