@@ -9,14 +9,14 @@ use lib.Dec.{ltb}
 use borrow.Author.Tests.{eq-eqb}
 use Rattle.words.specs.Nodes.{entry}
 use Rattle.iter.specs.Drains.{filled}
-use Rattle.iset.specs.Remove.{removeNumber, removeCall, removeNodes, slotAfter}
+use Rattle.iset.specs.Remove.{removeCall, slotAfter}
 use Rattle.iset.specs.declared.Map.{Map}
 use Rattle.iset.proofs.After.{kept-slot}
 use Rattle.iset.proofs.Refusals.{remove-no}
-use Rattle.capi.specs.Replies.{Reply, number, handed, pairsOf, removeTold}
+use Rattle.capi.specs.Replies.{Reply, number, handed, pairsOf, removeReply, removeExit}
 
 -- an export that returns 0 has the answer of a call that was not refused
-pub not-refused : (A : List ℕ) (R : Reply) → number A R ≡ 0 → R .no ≡ 0
+pub not-refused : (A : List ℕ) (R : Reply) → number true A R ≡ 0 → R .no ≡ 0
 unfolding number
 not-refused A R z = go (ltb (length A) (length (R .numbers))) z
   where
@@ -24,13 +24,13 @@ not-refused A R z = go (ltb (length A) (length (R .numbers))) z
     go true y = absurd (omega arith)
     go false y = y
 
-module _ (A : List ℕ) (m : Map) (W C : List ℕ) (s : ℕ) (z : number A (removeTold m W C s) ≡ 0) where
-  pairs-handed : pairsOf (handed A (removeTold m W C s)) ≡ removeCall m W C s .pairs
+module _ (A : List ℕ) (m : Map) (W C : List ℕ) (s : ℕ) (z : removeExit A m W C s .number ≡ 0) where
+  pairs-handed : pairsOf (removeExit A m W C s .answer) ≡ removeCall m W C s .answer .pairs
   unfolding handed filled
-  pairs-handed = rw (eq-eqb (number A (removeTold m W C s)) 0 z) refl
+  pairs-handed = rw (eq-eqb (removeExit A m W C s .number) 0 z) refl
 
   pub kept-slot-handed : (a : ℕ) → a < m .count → (a ≡ s → ⊥)
-      → (slotAfter (pairsOf (handed A (removeTold m W C s))) s a < removeCall m W C s .count)
-      × (entry (removeNodes m W C s) (slotAfter (pairsOf (handed A (removeTold m W C s))) s a) ≡ entry W a)
+      → (slotAfter (pairsOf (removeExit A m W C s .answer)) s a < removeCall m W C s .answer .map .count)
+      × (entry (removeCall m W C s .words) (slotAfter (pairsOf (removeExit A m W C s .answer)) s a) ≡ entry W a)
   kept-slot-handed a h d =
-      rw pairs-handed (kept-slot m W C s (sym (remove-no m W C s) ∙ not-refused A (removeTold m W C s) z) a h d)
+      rw pairs-handed (kept-slot m W C s (sym (remove-no m W C s) ∙ not-refused A (removeReply (removeCall m W C s .answer)) z) a h d)

@@ -4,6 +4,7 @@ use contract.Lifetimes.{Lfts}
 use borrow.Fn.Kinds as K
 use denote.Triple.Clauses.{AtExit}
 use denote.Ref.{now}
+use Rattle.capi.proofs.Exits.{same-answer, same-change, same-output}
 use Rattle.capi.proofs.iset_check.Reads as check-reads
 use Rattle.capi.proofs.iset_check.Kinds as check-kinds
 use Rattle.capi.proofs.iset_build.Reads as build-reads
@@ -53,7 +54,7 @@ pub build-determined :
     × (now (s .1 .1 .1 .0) ≡ now (s′ .1 .1 .1 .0))
     × (now (s .0) ≡ now (s′ .0))
     × (now (s .1 .0) ≡ now (s′ .1 .0))
-build-determined κs a r r′ s s′ p q = (p .0 ∙ sym (q .0), p .1 ∙ sym (q .1), p .2 ∙ sym (q .2), p .3 ∙ sym (q .3))
+build-determined κs a r r′ s s′ p q = same-change p q
 
 pub remove-determined :
     (κs : Lfts 3) (a : K.Dens κs remove-kinds.ps) (r r′ : K.resT remove-kinds.r κs .Denot)
@@ -63,7 +64,7 @@ pub remove-determined :
     × (now (s .1 .1 .1 .1 .1 .0) ≡ now (s′ .1 .1 .1 .1 .1 .0))
     × (now (s .1 .1 .0) ≡ now (s′ .1 .1 .0))
     × (now (s .1 .1 .1 .0) ≡ now (s′ .1 .1 .1 .0))
-remove-determined κs a r r′ s s′ p q = (p .0 ∙ sym (q .0), p .1 ∙ sym (q .1), p .2 ∙ sym (q .2), p .3 ∙ sym (q .3))
+remove-determined κs a r r′ s s′ p q = same-change p q
 
 pub insert-determined :
     (κs : Lfts 3) (a : K.Dens κs insert-kinds.ps) (r r′ : K.resT insert-kinds.r κs .Denot)
@@ -73,7 +74,7 @@ pub insert-determined :
     × (now (s .1 .1 .1 .1 .1 .1 .1 .0) ≡ now (s′ .1 .1 .1 .1 .1 .1 .1 .0))
     × (now (s .1 .1 .0) ≡ now (s′ .1 .1 .0))
     × (now (s .1 .1 .1 .0) ≡ now (s′ .1 .1 .1 .0))
-insert-determined κs a r r′ s s′ p q = (p .0 ∙ sym (q .0), p .1 ∙ sym (q .1), p .2 ∙ sym (q .2), p .3 ∙ sym (q .3))
+insert-determined κs a r r′ s s′ p q = same-change p q
 
 pub fresh-determined :
     (κs : Lfts 1) (a : K.Dens κs fresh-kinds.ps) (r r′ : K.resT fresh-kinds.r κs .Denot)
@@ -81,7 +82,7 @@ pub fresh-determined :
     → fresh-reads.Post κs a r s → fresh-reads.Post κs a r′ s′
     → (r ≡ r′)
     × (now (s .1 .1 .0) ≡ now (s′ .1 .1 .0))
-fresh-determined κs a r r′ s s′ p q = (p .0 ∙ sym (q .0), p .1 ∙ sym (q .1))
+fresh-determined κs a r r′ s s′ p q = same-answer p q
 
 pub fresh-exact-determined :
     (κs : Lfts 3) (a : K.Dens κs fresh-exact-kinds.ps) (r r′ : K.resT fresh-exact-kinds.r κs .Denot)
@@ -89,7 +90,7 @@ pub fresh-exact-determined :
     → fresh-exact-reads.Post κs a r s → fresh-exact-reads.Post κs a r′ s′
     → (r ≡ r′)
     × (now (s .1 .1 .1 .1 .1 .1 .0) ≡ now (s′ .1 .1 .1 .1 .1 .1 .0))
-fresh-exact-determined κs a r r′ s s′ p q = (p .0 ∙ sym (q .0), p .1 ∙ sym (q .1))
+fresh-exact-determined κs a r r′ s s′ p q = same-answer p q
 
 pub step-determined :
     (κs : Lfts 3) (a : K.Dens κs step-kinds.ps) (r r′ : K.resT step-kinds.r κs .Denot)
@@ -97,7 +98,7 @@ pub step-determined :
     → step-reads.Post κs a r s → step-reads.Post κs a r′ s′
     → (r ≡ r′)
     × (now (s .1 .1 .1 .1 .1 .1 .1 .1 .1 .1 .1 .0) ≡ now (s′ .1 .1 .1 .1 .1 .1 .1 .1 .1 .1 .1 .0))
-step-determined κs a r r′ s s′ p q = (p .0 ∙ sym (q .0), p .1 ∙ sym (q .1))
+step-determined κs a r r′ s s′ p q = same-answer p q
 
 pub step-exact-determined :
     (κs : Lfts 3) (a : K.Dens κs step-exact-kinds.ps) (r r′ : K.resT step-exact-kinds.r κs .Denot)
@@ -105,7 +106,7 @@ pub step-exact-determined :
     → step-exact-reads.Post κs a r s → step-exact-reads.Post κs a r′ s′
     → (r ≡ r′)
     × (now (s .1 .1 .1 .1 .1 .1 .1 .1 .1 .0) ≡ now (s′ .1 .1 .1 .1 .1 .1 .1 .1 .1 .0))
-step-exact-determined κs a r r′ s s′ p q = (p .0 ∙ sym (q .0), p .1 ∙ sym (q .1))
+step-exact-determined κs a r r′ s s′ p q = same-answer p q
 
 pub drain-determined :
     (κs : Lfts 4) (a : K.Dens κs drain-kinds.ps) (r r′ : K.resT drain-kinds.r κs .Denot)
@@ -114,7 +115,7 @@ pub drain-determined :
     → (r ≡ r′)
     × (now (s .1 .1 .1 .1 .1 .1 .1 .1 .1 .1 .1 .1 .1 .0) ≡ now (s′ .1 .1 .1 .1 .1 .1 .1 .1 .1 .1 .1 .1 .1 .0))
     × (now (s .1 .1 .1 .1 .1 .1 .1 .1 .1 .1 .1 .1 .0) ≡ now (s′ .1 .1 .1 .1 .1 .1 .1 .1 .1 .1 .1 .1 .0))
-drain-determined κs a r r′ s s′ p q = (p .0 ∙ sym (q .0), p .1 ∙ sym (q .1), p .2 ∙ sym (q .2))
+drain-determined κs a r r′ s s′ p q = same-output p q
 
 pub drain-exact-determined :
     (κs : Lfts 4) (a : K.Dens κs drain-exact-kinds.ps) (r r′ : K.resT drain-exact-kinds.r κs .Denot)
@@ -123,7 +124,7 @@ pub drain-exact-determined :
     → (r ≡ r′)
     × (now (s .1 .1 .1 .1 .1 .1 .1 .1 .1 .1 .1 .0) ≡ now (s′ .1 .1 .1 .1 .1 .1 .1 .1 .1 .1 .1 .0))
     × (now (s .1 .1 .1 .1 .1 .1 .1 .1 .1 .1 .0) ≡ now (s′ .1 .1 .1 .1 .1 .1 .1 .1 .1 .1 .0))
-drain-exact-determined κs a r r′ s s′ p q = (p .0 ∙ sym (q .0), p .1 ∙ sym (q .1), p .2 ∙ sym (q .2))
+drain-exact-determined κs a r r′ s s′ p q = same-output p q
 
 pub plain-determined :
     (κs : Lfts 4) (a : K.Dens κs plain-kinds.ps) (r r′ : K.resT plain-kinds.r κs .Denot)
@@ -132,7 +133,7 @@ pub plain-determined :
     → (r ≡ r′)
     × (now (s .1 .1 .1 .1 .1 .1 .1 .1 .1 .0) ≡ now (s′ .1 .1 .1 .1 .1 .1 .1 .1 .1 .0))
     × (now (s .1 .1 .1 .1 .1 .1 .1 .1 .0) ≡ now (s′ .1 .1 .1 .1 .1 .1 .1 .1 .0))
-plain-determined κs a r r′ s s′ p q = (p .0 ∙ sym (q .0), p .1 ∙ sym (q .1), p .2 ∙ sym (q .2))
+plain-determined κs a r r′ s s′ p q = same-output p q
 
 pub plain-exact-determined :
     (κs : Lfts 4) (a : K.Dens κs plain-exact-kinds.ps) (r r′ : K.resT plain-exact-kinds.r κs .Denot)
@@ -141,4 +142,4 @@ pub plain-exact-determined :
     → (r ≡ r′)
     × (now (s .1 .1 .1 .1 .1 .1 .1 .0) ≡ now (s′ .1 .1 .1 .1 .1 .1 .1 .0))
     × (now (s .1 .1 .1 .1 .1 .1 .0) ≡ now (s′ .1 .1 .1 .1 .1 .1 .0))
-plain-exact-determined κs a r r′ s s′ p q = (p .0 ∙ sym (q .0), p .1 ∙ sym (q .1), p .2 ∙ sym (q .2))
+plain-exact-determined κs a r r′ s s′ p q = same-output p q

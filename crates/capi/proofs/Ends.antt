@@ -2,7 +2,7 @@
 use mathlib.Core.Path.{_≡_, refl}
 use mathlib.Core.Bool.{Bool, true, false, cond, not}
 use mathlib.Core.List.{List}
-use Prim.Native.Nat.{ℕ, zero, suc, _+_, _<_, _≤_}
+use Prim.Native.Nat.{ℕ, zero, suc, _+_, _≤_}
 use native.Mathlib.Omega.{arith}
 use lib.Dec.{eqb, ltb}
 use borrow.Author.Tests.{eqb-true, ltb-true, ltb-false, eq-eqb, ne-eqb}
@@ -12,7 +12,7 @@ use Rattle.iter.specs.Queries.{rules}
 use Rattle.iter.specs.declared.Cursor.{Cursor}
 use Rattle.iter.specs.declared.rules.Query.{Query}
 use Rattle.iter.proofs.Steps.{hits-live}
-use Rattle.iset.specs.Lookup.{stepNumber, stepCall, stepAnswer, refusedStep}
+use Rattle.iset.specs.Lookup.{stepNumber, stepCall, stepDone, refusedStep}
 use Rattle.iset.specs.declared.Map.{Map}
 use Rattle.iset.proofs.Checks.{check-zero}
 use Rattle.iset.proofs.Lookups.{start-accepts, step-accepts}
@@ -50,7 +50,7 @@ module _ (m : Map) (W C : List ℕ) (q : Query) (c : Cursor) where
   accepted e = go (eqb (stepNumber m W C q c) 0) refl e
     where
       go : (b : Bool) → eqb (stepNumber m W C q c) 0 ≡ b
-          → cond b (stepAnswer (ltb (step W (m .count) (rules W (m .count) q) c .slot) (m .count)) (step W (m .count) (rules W (m .count) q) c))
+          → cond b (stepDone (ltb (step W (m .count) (rules W (m .count) q) c .slot) (m .count)) (step W (m .count) (rules W (m .count) q) c))
           (refusedStep c (stepNumber m W C q c)) .no ≡ 0 → stepNumber m W C q c ≡ 0
       go true p z = eqb-true (stepNumber m W C q c) 0 p
       go false p z = z

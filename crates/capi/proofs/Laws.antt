@@ -1,7 +1,7 @@
 -- What an export hands out, in the form that `search` takes.
 use mathlib.Core.Path.{_≡_, sym, ap, _∙_}
 use mathlib.Core.Bool.{Bool, true, false}
-use mathlib.Core.List.{List}
+use mathlib.Core.List.{List, [], _∷_}
 use Prim.Native.Nat.{ℕ, _<_, _≤_}
 use native.Mathlib.Omega.{arith}
 use lib.ListN.{length}
@@ -17,105 +17,74 @@ use Rattle.iter.specs.declared.rules.Query.{Query}
 use Rattle.iter.specs.declared.rules.Query.the-variants.{Overlap}
 use Rattle.iter.specs.declared.seek.Step.{Step}
 use Rattle.iter.specs.declared.seek.Step.the-variants.{Hit, End}
+use Rattle.iset.specs.Changes.{Change, change, Output, output}
 use Rattle.iset.specs.Check.{checkNumber}
 use Rattle.iset.specs.declared.Map.{Map}
 use Rattle.iset.specs.declared.Checked.{Checked}
 use Rattle.iset.specs.declared.Checked.the-variants.{Sound, Refused}
-use Rattle.capi.specs.Replies.{Reply, number, handed, left, stepNumbers, foundNumbers}
-use Rattle.capi.specs.Ranges.{ranged}
+use Rattle.capi.specs.Replies.{Reply, Exit, exit, number, handed, left, exitOf, answerExit, changeExit, outputExit, stepNumbers, foundNumbers}
 
--- an answer that is too short
-module _ (A : List ℕ) (R : Reply) (h : length A < length (R .numbers)) where
-  pub short-number : 101 ≡ number A R
-  unfolding number
-  short-number = rw (lt-ltb (length A) (length (R .numbers)) h)
+-- an answer that is too short, whatever the bounds are
+pub short-exit : (b : Bool) (A : List ℕ) (R : Reply) (old new : List (List ℕ)) → length A < length (R .numbers) → exit 101 A old ≡ exitOf b A R old new
+unfolding number handed left
+short-exit b A R old new h = rw (lt-ltb (length A) (length (R .numbers)) h)
 
-  pub short-handed : A ≡ handed A R
-  unfolding handed
-  short-handed = rw (← short-number)
+-- a range whose bounds have not all a kind
+pub unbounded-exit : (b t : Bool) (A : List ℕ) (R : Reply) (old new : List (List ℕ)) → t ≡ b → t ≡ false → length (R .numbers) ≤ length A
+    → exit 102 A old ≡ exitOf b A R old new
+unfolding number handed left
+unbounded-exit b t A R old new e q h =
+    let f : b ≡ false = sym e ∙ q in
+    rw (f, le-ltb (length A) (length (R .numbers)) h)
 
-  pub short-left : (old new : List ℕ) → old ≡ left A R old new
-  unfolding left
-  short-left old new = rw (lt-ltb (length A) (length (R .numbers)) h)
+-- a call that was made: its reply R, the slices that it left, and what the export has done with the answer
+module _ (A : List ℕ) (R : Reply) (old new : List (List ℕ)) (h : length (R .numbers) ≤ length A) where
+  made-refused : 0 < R .no → exit (R .no) A new ≡ exitOf true A R old new
+  unfolding number handed left
+  made-refused p = rw (le-ltb (length A) (length (R .numbers)) h, ne-eqb (R .no) 0 (λ f. omega arith))
 
--- one that is long enough: the slices are as the call leaves them
-pub made-left : (A : List ℕ) (R : Reply) → length (R .numbers) ≤ length A → (old new X : List ℕ) → X ≡ new → X ≡ left A R old new
-unfolding left
-made-left A R h old new X q = rw (le-ltb (length A) (length (R .numbers)) h) q
+  made-done : R .no ≡ 0 → exit 0 (filled (R .numbers) A) new ≡ exitOf true A R old new
+  unfolding number handed left
+  made-done z = rw (le-ltb (length A) (length (R .numbers)) h, z)
 
--- and number and answer are the reply of the call, which answered v. The paper's values of an answer go by g, what was given: a map or a cursor.
-module _ {G T K : Type 0} (paper : G → T → K) (reply : K → Reply) (g : G) (A : List ℕ) (t v : T) (k : K)
-    (e : paper g t ≡ k) (q : t ≡ v) (h : length (reply k .numbers) ≤ length A) where
-  told : reply k ≡ reply (paper g v)
-  told = ap reply (sym e ∙ ap (paper g) q)
+-- The code's answer is t, known to be v. What it stands for goes by g, what was given: a map or a cursor.
+module _ {G T K : Type 0} (stands : G → T → K) (reply : K → Reply) (g : G) (A : List ℕ) (t v : T) (q : t ≡ v) where
+  -- an export of a call that writes nothing
+  module _ (k : K) (e : stands g t ≡ k) (h : length (reply k .numbers) ≤ length A) where
+    pub refused-answer : (n : ℕ) → n ≡ reply (stands g v) .no → 0 < reply (stands g v) .no → exit n A [] ≡ answerExit true A (reply k)
+    refused-answer n p o = rw (← e, q, p) (made-refused A (reply (stands g v)) [] [] (rw (← e, q) at h) o)
 
-  same-number : number A (reply k) ≡ reply (paper g v) .no
-  unfolding number
-  same-number = rw (le-ltb (length A) (length (reply k .numbers)) h, told)
+    pub done-answer : (X : List ℕ) → X ≡ filled (reply (stands g v) .numbers) A → reply (stands g v) .no ≡ 0 → exit 0 X [] ≡ answerExit true A (reply k)
+    done-answer X p z = rw (← e, q, p) (made-done A (reply (stands g v)) [] [] (rw (← e, q) at h) z)
 
-  pub made-number : (n : ℕ) → n ≡ reply (paper g v) .no → n ≡ number A (reply k)
-  made-number n p = p ∙ sym same-number
+  -- of one that writes the store
+  module _ (k : Change K) (W C Y Z : List ℕ) (e : change (stands g t) Y Z ≡ k) (h : length (reply (k .answer) .numbers) ≤ length A) where
+    pub refused-change : (n : ℕ) → n ≡ reply (stands g v) .no → 0 < reply (stands g v) .no → exit n A (Y ∷ Z ∷ []) ≡ changeExit reply A W C k
+    refused-change n p o =
+        rw (← e, q, p) (made-refused A (reply (stands g v)) (W ∷ C ∷ []) (Y ∷ Z ∷ []) (rw (← e, q) at h) o)
 
-  pub refused-handed : 0 < reply (paper g v) .no → A ≡ handed A (reply k)
-  unfolding handed
-  refused-handed p = rw (same-number, ne-eqb (reply (paper g v) .no) 0 (λ f. omega arith))
+    pub done-change : (X : List ℕ) → X ≡ filled (reply (stands g v) .numbers) A → reply (stands g v) .no ≡ 0
+        → exit 0 X (Y ∷ Z ∷ []) ≡ changeExit reply A W C k
+    done-change X p z = rw (← e, q, p) (made-done A (reply (stands g v)) (W ∷ C ∷ []) (Y ∷ Z ∷ []) (rw (← e, q) at h) z)
 
-  pub done-handed : (X : List ℕ) → X ≡ filled (reply (paper g v) .numbers) A → reply (paper g v) .no ≡ 0 → X ≡ handed A (reply k)
-  unfolding handed
-  done-handed X p z = rw (same-number, z, told) p
+  -- of one that writes an output
+  module _ (k : Output K) (out Y : List ℕ) (e : output (stands g t) Y ≡ k) (h : length (reply (k .answer) .numbers) ≤ length A) where
+    pub refused-output : (n : ℕ) → n ≡ reply (stands g v) .no → 0 < reply (stands g v) .no → exit n A (Y ∷ []) ≡ outputExit reply true A out k
+    refused-output n p o = rw (← e, q, p) (made-refused A (reply (stands g v)) (out ∷ []) (Y ∷ []) (rw (← e, q) at h) o)
 
--- an answer that is too short is so whatever the bounds are
-pub short-ranged : (A : List ℕ) (R : Reply) (b : Bool) → length A < length (R .numbers) → length A < length (ranged b R .numbers)
-unfolding ranged
-short-ranged A R true h = h
-short-ranged A R false h = h
+    pub done-output : (X : List ℕ) → X ≡ filled (reply (stands g v) .numbers) A → reply (stands g v) .no ≡ 0
+        → exit 0 X (Y ∷ []) ≡ outputExit reply true A out k
+    done-output X p z = rw (← e, q, p) (made-done A (reply (stands g v)) (out ∷ []) (Y ∷ []) (rw (← e, q) at h) z)
 
--- a range whose bounds have kinds, b, and one whose bounds have not
-module _ (A : List ℕ) (R : Reply) (b t : Bool) (e : t ≡ b) where
-  module _ (q : t ≡ true) where
-    pub bounded-number : (n : ℕ) → n ≡ number A R → n ≡ number A (ranged b R)
-    unfolding ranged
-    bounded-number n p = rw (sym e ∙ q) p
+-- A range that a function made, whose bounds have kinds: a step or a plain lookup; and a drain. They serve the public calls and the opened ones.
+pub bounded : {T : Type 0} (rule : Bool → List ℕ → Map → List ℕ → List ℕ → Query → T → Exit) (A : List ℕ) (m : Map) (W C : List ℕ) (x : T)
+    (made query : Query) (b t : Bool) → made ≡ query → t ≡ b → t ≡ true → (r : Exit) → r ≡ rule true A m W C made x → r ≡ rule b A m W C query x
+bounded rule A m W C x made query b t e f q r p = let c : b ≡ true = sym f ∙ q in rw (c, ← e) p
 
-    pub bounded-handed : (X : List ℕ) → X ≡ handed A R → X ≡ handed A (ranged b R)
-    unfolding ranged
-    bounded-handed X p = rw (sym e ∙ q) p
-
-  module _ (q : t ≡ false) (h : length (R .numbers) ≤ length A) where
-    pub unbounded-number : 102 ≡ number A (ranged b R)
-    unfolding number ranged
-    unbounded-number = rw (sym e ∙ q, le-ltb (length A) (length (R .numbers)) h)
-
-    pub unbounded-handed : A ≡ handed A (ranged b R)
-    unfolding handed
-    unbounded-handed = rw (← unbounded-number)
-
--- A lookup by a query that a function made: a step or a plain lookup, by its reply, where x is the cursor or the output; what a plain lookup leaves in
--- the output; and a drain, by its reply and by what it leaves. They serve the public calls and the opened ones.
-module _ {T : Type 0} (told : Map → List ℕ → List ℕ → Query → T → Reply)
-    (A : List ℕ) (m : Map) (W C : List ℕ) (x : T) (made query : Query) (e : made ≡ query) where
-  pub query-number : (n : ℕ) → n ≡ number A (told m W C made x) → n ≡ number A (told m W C query x)
-  query-number n p = rw (← e) p
-
-  pub query-handed : (X : List ℕ) → X ≡ handed A (told m W C made x) → X ≡ handed A (told m W C query x)
-  query-handed X p = rw (← e) p
-
-pub query-left : (output : Map → List ℕ → List ℕ → Query → List ℕ → List ℕ)
-    (m : Map) (W C : List ℕ) (made query : Query) → made ≡ query → (out X : List ℕ) → X ≡ output m W C made out → X ≡ output m W C query out
-query-left output m W C made query e out X p = rw (← e) p
-
-module _ (told : Map → List ℕ → List ℕ → Query → Cursor → ℕ → List ℕ → Reply)
-    (A : List ℕ) (m : Map) (W C : List ℕ) (c : Cursor) (made query : Query) (e : made ≡ query) (limit : ℕ) (out : List ℕ) where
-  pub drain-number : (n : ℕ) → n ≡ number A (told m W C made c limit out) → n ≡ number A (told m W C query c limit out)
-  drain-number n p = rw (← e) p
-
-  pub drain-handed : (X : List ℕ) → X ≡ handed A (told m W C made c limit out) → X ≡ handed A (told m W C query c limit out)
-  drain-handed X p = rw (← e) p
-
-pub drain-left : (output : Map → List ℕ → List ℕ → Query → Cursor → ℕ → List ℕ → List ℕ)
-    (m : Map) (W C : List ℕ) (c : Cursor) (made query : Query) → made ≡ query → (limit : ℕ) (out X : List ℕ)
-    → X ≡ output m W C made c limit out → X ≡ output m W C query c limit out
-drain-left output m W C c made query e limit out X p = rw (← e) p
+pub bounded-drain : (rule : Bool → List ℕ → Map → List ℕ → List ℕ → Query → Cursor → ℕ → List ℕ → Exit) (A : List ℕ) (m : Map) (W C : List ℕ)
+    (c : Cursor) (limit : ℕ) (out : List ℕ) (made query : Query) (b t : Bool) → made ≡ query → t ≡ b → t ≡ true
+    → (r : Exit) → r ≡ rule true A m W C made c limit out → r ≡ rule b A m W C query c limit out
+bounded-drain rule A m W C c limit out made query b t e f q r p = let d : b ≡ true = sym f ∙ q in rw (d, ← e) p
 
 -- the numbers of a step that is known to be a hit or the end
 module _ (s : Step) (A X : List ℕ) (c : Cursor) (e : ℕ) where

@@ -1,5 +1,6 @@
 pub mod Puts
 pub mod Laws
+pub mod Exits
 pub mod Kept
 pub mod Places
 pub mod After

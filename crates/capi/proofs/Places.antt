@@ -1,7 +1,7 @@
 -- Each export, in the words of include/iset.h: which number it returns, exactly when, and what each place of its answer holds. Said of whatever
 -- number r and slices at exit s its promise allows from its arguments a.
 use mathlib.Core.Path.{_≡_, refl, sym, ap, _∙_}
-use mathlib.Core.Bool.{Bool, true, false, cond}
+use mathlib.Core.Bool.{Bool, true, cond}
 use mathlib.Core.List.{List, [], _∷_}
 use Prim.Native.Nat.{ℕ, _<_}
 use native.Mathlib.Omega.{arith}
@@ -13,7 +13,6 @@ use contract.Lifetimes.{Lfts}
 use borrow.Fn.Kinds as K
 use denote.Triple.Clauses.{AtExit}
 use denote.Ref.{now}
-use Rattle.words.specs.declared.interval.Bound.{Bound}
 use Rattle.words.specs.declared.interval.Bound.the-variants.{Included, Excluded, Unbounded}
 use Rattle.words.specs.declared.interval.Interval.{Interval}
 use Rattle.words.specs.declared.node.Entry.{Entry}
@@ -21,7 +20,7 @@ use Rattle.iter.specs.Drains.{filled}
 use Rattle.iter.specs.declared.Cursor.{Cursor}
 use Rattle.iter.specs.declared.rules.Query.{Query}
 use Rattle.iter.specs.declared.rules.Query.the-variants.{Exact}
-use Rattle.iset.specs.Build.{BuildAnswer, buildRule}
+use Rattle.iset.specs.Build.{BuildAnswer, buildCall}
 use Rattle.iset.specs.Remove.{RemoveAnswer, removeCall}
 use Rattle.iset.specs.Insert.{InsertAnswer, insertCall}
 use Rattle.iset.specs.Lookup.{startCall, stepCall, drainCall}
@@ -30,8 +29,8 @@ use Rattle.iset.specs.Refusals.{Rows, accept, refuse, Exactly, checkRows, build
 use Rattle.iset.specs.declared.Map.{Map}
 use Rattle.iset.proofs.Refusals.{Lacks, passed-row, failed-row, check-refusals, build-refusals, remove-refusals, insert-refusals, start-refusals, step-refusals, drain-refusals, plain-refusals}
 use Rattle.iset.proofs.BitRefusals.{Fails, le-fails, and-fails}
-use Rattle.capi.specs.Replies.{Reply, number, handed, stepTold, drainTold, plainTold}
-use Rattle.capi.specs.Ranges.{boundOf, rangeOf, kinds, ranged}
+use Rattle.capi.specs.Replies.{Reply, Exit, exit, number, handed, exitOf, stepReply, drainReply, plainReply}
+use Rattle.capi.specs.Ranges.{boundOf, rangeOf, kinds}
 use Rattle.capi.specs.Places.{Told, BadBound, stepPlaces, drainPlaces, plainPlaces}
 use Rattle.capi.proofs.iset_check.Reads as check-reads
 use Rattle.capi.proofs.iset_check.Kinds as check-kinds
@@ -62,24 +61,26 @@ use Rattle.capi.proofs.scan.iset_plain_exact.Kinds as plain-exact-kinds
 pub bounds-are : (x : ℕ) → (boundOf 0 x ≡ Included x) × (boundOf 1 x ≡ Excluded x) × (boundOf 2 x ≡ Unbounded)
 bounds-are x = (refl, refl, refl)
 
--- the reply of a call whose number the rows say
-module _ (rows : Rows) (R : Reply) (A X : List ℕ) (r : ℕ) where
-  places-of : r ≡ number A R → X ≡ handed A R → r ≡ 0
+-- the reply of a call whose number the rows say; b is whether each bound has a kind
+module _ (rows : Rows) (b : Bool) (R : Reply) (A X : List ℕ) (r : ℕ) where
+  places-of : r ≡ number b A R → X ≡ handed b A R → r ≡ 0
       → (take (length (R .numbers)) X ≡ R .numbers) × (drop (length (R .numbers)) X ≡ drop (length (R .numbers)) A)
   unfolding handed filled
   places-of p q z =
-      let X-is : X ≡ filled (R .numbers) A = q ∙ rw (eq-eqb (number A R) 0 (sym p ∙ z)) in
+      let X-is : X ≡ filled (R .numbers) A = q ∙ rw (eq-eqb (number b A R) 0 (sym p ∙ z)) in
       rw X-is (take-at (R .numbers) (drop (length (R .numbers)) A) _ refl, drop-at (R .numbers) (drop (length (R .numbers)) A) _ refl)
 
-  told : Lacks 101 rows → Exactly rows (R .no) → r ≡ number A R → X ≡ handed A R → Told rows (R .numbers) A X r
+  told : Lacks 101 rows → Exactly rows (cond b (R .no) 102) → (l old new : List (List ℕ)) → exit r X l ≡ exitOf b A R old new
+      → Told rows (R .numbers) A X r
   unfolding number
-  told l e p q =
+  told lacks e l old new p =
+      let p-number : r ≡ number b A R = ap (λ (x : Exit). x .number) p in
       record {
         number =
-            rw p
-            (failed-row 101 (length A < length (R .numbers)) rows (R .no) (ltb (length A) (length (R .numbers))) l
+            rw p-number
+            (failed-row 101 (length A < length (R .numbers)) rows (cond b (R .no) 102) (ltb (length A) (length (R .numbers))) lacks
             (ltb-true (length A) (length (R .numbers))) (λ t h. omega (arith, ltb-false (length A) (length (R .numbers)) t)) (λ t. e));
-        places = places-of p q;
+        places = places-of p-number (ap (λ (x : Exit). x .answer) p);
       }
 
 -- and of one with a range
@@ -88,23 +89,12 @@ module _ (rows : Rows) (R : Reply) (A X : List ℕ) (r lo-kind hi-kind : ℕ) wh
   unfolding kinds
   kinds-fail = and-fails (leb lo-kind 2) (leb hi-kind 2) (2 < lo-kind) (2 < hi-kind) (le-fails lo-kind 2) (le-fails hi-kind 2)
 
-  ranged-row : Lacks 102 rows → Exactly rows (R .no) → (b : Bool) → Fails b (BadBound lo-kind hi-kind)
-      → Exactly (refuse 102 (BadBound lo-kind hi-kind) rows) (ranged b R .no)
-  unfolding ranged
-  ranged-row l e true f = passed-row 102 (BadBound lo-kind hi-kind) rows (R .no) true l (f .0) (f .1) (λ t. e)
-  ranged-row l e false f = passed-row 102 (BadBound lo-kind hi-kind) rows (R .no) false l (f .0) (f .1) (λ t. e)
-
-  same-numbers : (b : Bool) → ranged b R .numbers ≡ R .numbers
-  unfolding ranged
-  same-numbers true = refl
-  same-numbers false = refl
-
   told-ranged : Lacks 101 (refuse 102 (BadBound lo-kind hi-kind) rows) → Lacks 102 rows → Exactly rows (R .no)
-      → r ≡ number A (ranged (kinds lo-kind hi-kind) R) → X ≡ handed A (ranged (kinds lo-kind hi-kind) R)
+      → (l old new : List (List ℕ)) → exit r X l ≡ exitOf (kinds lo-kind hi-kind) A R old new
       → Told (refuse 102 (BadBound lo-kind hi-kind) rows) (R .numbers) A X r
-  told-ranged k l e p q =
-      rw (same-numbers (kinds lo-kind hi-kind)) at
-      (told (refuse 102 (BadBound lo-kind hi-kind) rows) (ranged (kinds lo-kind hi-kind) R) A X r k (ranged-row l e (kinds lo-kind hi-kind) kinds-fail) p q)
+  told-ranged k lacks e =
+      told (refuse 102 (BadBound lo-kind hi-kind) rows) (kinds lo-kind hi-kind) R A X r k
+      (passed-row 102 (BadBound lo-kind hi-kind) rows (R .no) (kinds lo-kind hi-kind) lacks (kinds-fail .0) (kinds-fail .1) (λ t. e))
 
 -- `iset_check`: its number is all
 pub check-told : (κs : Lfts 2) (a : K.Dens κs check-kinds.ps) (r : K.resT check-kinds.r κs .Denot) (s : AtExit (K.endedOf 2 check-kinds.ps check-kinds.r) κs)
@@ -118,9 +108,9 @@ pub build-told : (κs : Lfts 4) (a : K.Dens κs build-kinds.ps) (r : K.resT buil
     → let W : List ℕ = now (a .0) in
     let C : List ℕ = now (a .1 .0) in
     let S : List ℕ = now (a .1 .1 .0) in
-    let b : BuildAnswer = buildRule W C S in
-    Told (buildRows W C S) (b .count ∷ b .root ∷ []) (now (a .1 .1 .1 .0)) (now (s .1 .1 .1 .0)) r
-build-told κs a r s p = told _ _ _ _ r (omega arith) (build-refusals _ _ _) (p .0) (p .1)
+    let b : BuildAnswer = buildCall W C S .answer in
+    Told (buildRows W C S) (b .map .count ∷ b .map .root ∷ []) (now (a .1 .1 .1 .0)) (now (s .1 .1 .1 .0)) r
+build-told κs a r s p = told _ true _ _ _ r (omega arith) (build-refusals _ _ _) _ _ _ p
 
 -- `iset_remove`: value, count, root, then three pairs, old slot, new slot, and how many hulls changed
 pub remove-told : (κs : Lfts 3) (a : K.Dens κs remove-kinds.ps) (r : K.resT remove-kinds.r κs .Denot) (s : AtExit (K.endedOf 3 remove-kinds.ps remove-kinds.r) κs)
@@ -129,12 +119,12 @@ pub remove-told : (κs : Lfts 3) (a : K.Dens κs remove-kinds.ps) (r : K.resT re
     let W : List ℕ = now (a .1 .1 .0) in
     let C : List ℕ = now (a .1 .1 .1 .0) in
     let slot : ℕ = a .1 .1 .1 .1 .0 in
-    let b : RemoveAnswer = removeCall m W C slot in
+    let b : RemoveAnswer = removeCall m W C slot .answer in
     Told (removeRows m W C slot)
-    (b .value ∷ b .count ∷ b .root
+    (b .value ∷ b .map .count ∷ b .map .root
     ∷ b .pairs .first .old ∷ b .pairs .first .new ∷ b .pairs .second .old ∷ b .pairs .second .new ∷ b .pairs .third .old ∷ b .pairs .third .new ∷ b .reach ∷ [])
     (now (a .1 .1 .1 .1 .1 .0)) (now (s .1 .1 .1 .1 .1 .0)) r
-remove-told κs a r s p = told _ _ _ _ r (omega arith) (remove-refusals _ _ _ _) (p .0) (p .1)
+remove-told κs a r s p = told _ true _ _ _ r (omega arith) (remove-refusals _ _ _ _) _ _ _ p
 
 -- `iset_insert`: count, root, the new entry's slot, and how many hulls changed
 pub insert-told : (κs : Lfts 3) (a : K.Dens κs insert-kinds.ps) (r : K.resT insert-kinds.r κs .Denot) (s : AtExit (K.endedOf 3 insert-kinds.ps insert-kinds.r) κs)
@@ -143,14 +133,14 @@ pub insert-told : (κs : Lfts 3) (a : K.Dens κs insert-kinds.ps) (r : K.resT in
     let W : List ℕ = now (a .1 .1 .0) in
     let C : List ℕ = now (a .1 .1 .1 .0) in
     let e : Entry = record { start = a .1 .1 .1 .1 .0; end = a .1 .1 .1 .1 .1 .0; value = a .1 .1 .1 .1 .1 .1 .0 } in
-    let b : InsertAnswer = insertCall m W C e in
-    Told (insertRows m W C e) (b .count ∷ b .root ∷ b .slot ∷ b .reach ∷ []) (now (a .1 .1 .1 .1 .1 .1 .1 .0)) (now (s .1 .1 .1 .1 .1 .1 .1 .0)) r
-insert-told κs a r s p = told _ _ _ _ r (omega arith) (insert-refusals _ _ _ _) (p .0) (p .1)
+    let b : InsertAnswer = insertCall m W C e .answer in
+    Told (insertRows m W C e) (b .map .count ∷ b .map .root ∷ b .slot ∷ b .reach ∷ []) (now (a .1 .1 .1 .1 .1 .1 .1 .0)) (now (s .1 .1 .1 .1 .1 .1 .1 .0)) r
+insert-told κs a r s p = told _ true _ _ _ r (omega arith) (insert-refusals _ _ _ _) _ _ _ p
 
 -- `iset_fresh`: slot, levels, bits: the root, one level, 00. It has no refusal but 101.
 pub fresh-told : (κs : Lfts 1) (a : K.Dens κs fresh-kinds.ps) (r : K.resT fresh-kinds.r κs .Denot) (s : AtExit (K.endedOf 1 fresh-kinds.ps fresh-kinds.r) κs)
     → fresh-reads.Post κs a r s → Told accept (a .1 .0 ∷ 1 ∷ 0 ∷ []) (now (a .1 .1 .0)) (now (s .1 .1 .0)) r
-fresh-told κs a r s p = told accept _ _ _ r (omega arith) refl (p .0) (p .1)
+fresh-told κs a r s p = told accept true _ _ _ r (omega arith) refl _ _ _ p
 
 -- `iset_fresh_exact`: slot, levels, bits
 pub fresh-exact-told : (κs : Lfts 3) (a : K.Dens κs fresh-exact-kinds.ps) (r : K.resT fresh-exact-kinds.r κs .Denot) (s : AtExit (K.endedOf 3 fresh-exact-kinds.ps fresh-exact-kinds.r) κs)
@@ -161,7 +151,7 @@ pub fresh-exact-told : (κs : Lfts 3) (a : K.Dens κs fresh-exact-kinds.ps) (r :
     let x : Interval = record { start = a .1 .1 .1 .1 .0; end = a .1 .1 .1 .1 .1 .0 } in
     let c : Cursor = startCall m W C x .cursor in
     Told (startRows m W C x) (c .slot ∷ c .levels ∷ c .bits ∷ []) (now (a .1 .1 .1 .1 .1 .1 .0)) (now (s .1 .1 .1 .1 .1 .1 .0)) r
-fresh-exact-told κs a r s p = told _ _ _ _ r (omega arith) (start-refusals _ _ _ _) (p .0) (p .1)
+fresh-exact-told κs a r s p = told _ true _ _ _ r (omega arith) (start-refusals _ _ _ _) _ _ _ p
 
 -- `iset_step`
 pub step-told : (κs : Lfts 3) (a : K.Dens κs step-kinds.ps) (r : K.resT step-kinds.r κs .Denot) (s : AtExit (K.endedOf 3 step-kinds.ps step-kinds.r) κs)
@@ -181,8 +171,8 @@ step-told κs a r s p =
     let b = a .1 .1 .1 .1 in
     let q : Query = rangeOf (b .0) (b .1 .0) (b .1 .1 .0) (b .1 .1 .1 .0) in
     let c : Cursor = record { slot = b .1 .1 .1 .1 .0; levels = b .1 .1 .1 .1 .1 .0; bits = b .1 .1 .1 .1 .1 .1 .0 } in
-    told-ranged (stepRows m W C q c) (stepTold m W C q c) (now (b .1 .1 .1 .1 .1 .1 .1 .0)) (now (s .1 .1 .1 .1 .1 .1 .1 .1 .1 .1 .1 .0)) r
-    (b .0) (b .1 .1 .0) (omega arith) (omega arith) (step-refusals m W C c q) (p .0) (p .1)
+    told-ranged (stepRows m W C q c) (stepReply (stepCall m W C q c)) (now (b .1 .1 .1 .1 .1 .1 .1 .0)) (now (s .1 .1 .1 .1 .1 .1 .1 .1 .1 .1 .1 .0)) r
+    (b .0) (b .1 .1 .0) (omega arith) (omega arith) (step-refusals m W C c q) _ _ _ p
 
 -- `iset_step_exact`
 pub step-exact-told : (κs : Lfts 3) (a : K.Dens κs step-exact-kinds.ps) (r : K.resT step-exact-kinds.r κs .Denot) (s : AtExit (K.endedOf 3 step-exact-kinds.ps step-exact-kinds.r) κs)
@@ -201,8 +191,8 @@ step-exact-told κs a r s p =
     let b = a .1 .1 .1 .1 in
     let q : Query = Exact (record { start = b .0; end = b .1 .0 }) in
     let c : Cursor = record { slot = b .1 .1 .0; levels = b .1 .1 .1 .0; bits = b .1 .1 .1 .1 .0 } in
-    told (stepRows m W C q c) (stepTold m W C q c) (now (b .1 .1 .1 .1 .1 .0)) (now (s .1 .1 .1 .1 .1 .1 .1 .1 .1 .0)) r
-    (omega arith) (step-refusals m W C c q) (p .0) (p .1)
+    told (stepRows m W C q c) true (stepReply (stepCall m W C q c)) (now (b .1 .1 .1 .1 .1 .0)) (now (s .1 .1 .1 .1 .1 .1 .1 .1 .1 .0)) r
+    (omega arith) (step-refusals m W C c q) _ _ _ p
 
 -- `iset_drain`
 pub drain-told : (κs : Lfts 4) (a : K.Dens κs drain-kinds.ps) (r : K.resT drain-kinds.r κs .Denot) (s : AtExit (K.endedOf 4 drain-kinds.ps drain-kinds.r) κs)
@@ -215,7 +205,7 @@ pub drain-told : (κs : Lfts 4) (a : K.Dens κs drain-kinds.ps) (r : K.resT drai
     let c : Cursor = record { slot = b .1 .1 .1 .1 .0; levels = b .1 .1 .1 .1 .1 .0; bits = b .1 .1 .1 .1 .1 .1 .0 } in
     let limit : ℕ = b .1 .1 .1 .1 .1 .1 .1 .0 in
     let out : List ℕ = now (b .1 .1 .1 .1 .1 .1 .1 .1 .0) in
-    Told (refuse 102 (BadBound (b .0) (b .1 .1 .0)) (drainRows m W C q c limit (length out))) (drainPlaces (drainCall m W C q c limit (length out)))
+    Told (refuse 102 (BadBound (b .0) (b .1 .1 .0)) (drainRows m W C q c limit (length out))) (drainPlaces (drainCall m W C q c limit out .answer))
     (now (b .1 .1 .1 .1 .1 .1 .1 .1 .1 .0)) (now (s .1 .1 .1 .1 .1 .1 .1 .1 .1 .1 .1 .1 .1 .0)) r
 drain-told κs a r s p =
     let m : Map = record { count = a .0; root = a .1 .0 } in
@@ -226,9 +216,9 @@ drain-told κs a r s p =
     let c : Cursor = record { slot = b .1 .1 .1 .1 .0; levels = b .1 .1 .1 .1 .1 .0; bits = b .1 .1 .1 .1 .1 .1 .0 } in
     let limit : ℕ = b .1 .1 .1 .1 .1 .1 .1 .0 in
     let out : List ℕ = now (b .1 .1 .1 .1 .1 .1 .1 .1 .0) in
-    told-ranged (drainRows m W C q c limit (length out)) (drainTold m W C q c limit out)
+    told-ranged (drainRows m W C q c limit (length out)) (drainReply (drainCall m W C q c limit out .answer))
     (now (b .1 .1 .1 .1 .1 .1 .1 .1 .1 .0)) (now (s .1 .1 .1 .1 .1 .1 .1 .1 .1 .1 .1 .1 .1 .0)) r
-    (b .0) (b .1 .1 .0) (omega arith) (omega arith) (drain-refusals m W C c limit q (length out)) (p .0) (p .1)
+    (b .0) (b .1 .1 .0) (omega arith) (omega arith) (drain-refusals m W C c limit q out) _ _ _ p
 
 -- `iset_drain_exact`
 pub drain-exact-told : (κs : Lfts 4) (a : K.Dens κs drain-exact-kinds.ps) (r : K.resT drain-exact-kinds.r κs .Denot) (s : AtExit (K.endedOf 4 drain-exact-kinds.ps drain-exact-kinds.r) κs)
@@ -241,7 +231,7 @@ pub drain-exact-told : (κs : Lfts 4) (a : K.Dens κs drain-exact-kinds.ps) (r :
     let c : Cursor = record { slot = b .1 .1 .0; levels = b .1 .1 .1 .0; bits = b .1 .1 .1 .1 .0 } in
     let limit : ℕ = b .1 .1 .1 .1 .1 .0 in
     let out : List ℕ = now (b .1 .1 .1 .1 .1 .1 .0) in
-    Told (drainRows m W C q c limit (length out)) (drainPlaces (drainCall m W C q c limit (length out)))
+    Told (drainRows m W C q c limit (length out)) (drainPlaces (drainCall m W C q c limit out .answer))
     (now (b .1 .1 .1 .1 .1 .1 .1 .0)) (now (s .1 .1 .1 .1 .1 .1 .1 .1 .1 .1 .1 .0)) r
 drain-exact-told κs a r s p =
     let m : Map = record { count = a .0; root = a .1 .0 } in
@@ -252,9 +242,9 @@ drain-exact-told κs a r s p =
     let c : Cursor = record { slot = b .1 .1 .0; levels = b .1 .1 .1 .0; bits = b .1 .1 .1 .1 .0 } in
     let limit : ℕ = b .1 .1 .1 .1 .1 .0 in
     let out : List ℕ = now (b .1 .1 .1 .1 .1 .1 .0) in
-    told (drainRows m W C q c limit (length out)) (drainTold m W C q c limit out)
+    told (drainRows m W C q c limit (length out)) true (drainReply (drainCall m W C q c limit out .answer))
     (now (b .1 .1 .1 .1 .1 .1 .1 .0)) (now (s .1 .1 .1 .1 .1 .1 .1 .1 .1 .1 .1 .0)) r
-    (omega arith) (drain-refusals m W C c limit q (length out)) (p .0) (p .1)
+    (omega arith) (drain-refusals m W C c limit q out) _ _ _ p
 
 -- `iset_plain`
 pub plain-told : (κs : Lfts 4) (a : K.Dens κs plain-kinds.ps) (r : K.resT plain-kinds.r κs .Denot) (s : AtExit (K.endedOf 4 plain-kinds.ps plain-kinds.r) κs)
@@ -265,7 +255,7 @@ pub plain-told : (κs : Lfts 4) (a : K.Dens κs plain-kinds.ps) (r : K.resT plai
     let b = a .1 .1 .1 .1 in
     let q : Query = rangeOf (b .0) (b .1 .0) (b .1 .1 .0) (b .1 .1 .1 .0) in
     let out : List ℕ = now (b .1 .1 .1 .1 .0) in
-    Told (refuse 102 (BadBound (b .0) (b .1 .1 .0)) (plainRows m W C q (length out))) (plainPlaces (plainCall m W C q (length out)))
+    Told (refuse 102 (BadBound (b .0) (b .1 .1 .0)) (plainRows m W C q (length out))) (plainPlaces (plainCall m W C q out .answer))
     (now (b .1 .1 .1 .1 .1 .0)) (now (s .1 .1 .1 .1 .1 .1 .1 .1 .1 .0)) r
 plain-told κs a r s p =
     let m : Map = record { count = a .0; root = a .1 .0 } in
@@ -274,9 +264,9 @@ plain-told κs a r s p =
     let b = a .1 .1 .1 .1 in
     let q : Query = rangeOf (b .0) (b .1 .0) (b .1 .1 .0) (b .1 .1 .1 .0) in
     let out : List ℕ = now (b .1 .1 .1 .1 .0) in
-    told-ranged (plainRows m W C q (length out)) (plainTold m W C q out)
+    told-ranged (plainRows m W C q (length out)) (plainReply (plainCall m W C q out .answer))
     (now (b .1 .1 .1 .1 .1 .0)) (now (s .1 .1 .1 .1 .1 .1 .1 .1 .1 .0)) r
-    (b .0) (b .1 .1 .0) (omega arith) (omega arith) (plain-refusals m W C q (length out)) (p .0) (p .1)
+    (b .0) (b .1 .1 .0) (omega arith) (omega arith) (plain-refusals m W C q out) _ _ _ p
 
 -- `iset_plain_exact`
 pub plain-exact-told : (κs : Lfts 4) (a : K.Dens κs plain-exact-kinds.ps) (r : K.resT plain-exact-kinds.r κs .Denot) (s : AtExit (K.endedOf 4 plain-exact-kinds.ps plain-exact-kinds.r) κs)
@@ -287,7 +277,7 @@ pub plain-exact-told : (κs : Lfts 4) (a : K.Dens κs plain-exact-kinds.ps) (r :
     let b = a .1 .1 .1 .1 in
     let q : Query = Exact (record { start = b .0; end = b .1 .0 }) in
     let out : List ℕ = now (b .1 .1 .0) in
-    Told (plainRows m W C q (length out)) (plainPlaces (plainCall m W C q (length out)))
+    Told (plainRows m W C q (length out)) (plainPlaces (plainCall m W C q out .answer))
     (now (b .1 .1 .1 .0)) (now (s .1 .1 .1 .1 .1 .1 .1 .0)) r
 plain-exact-told κs a r s p =
     let m : Map = record { count = a .0; root = a .1 .0 } in
@@ -296,6 +286,6 @@ plain-exact-told κs a r s p =
     let b = a .1 .1 .1 .1 in
     let q : Query = Exact (record { start = b .0; end = b .1 .0 }) in
     let out : List ℕ = now (b .1 .1 .0) in
-    told (plainRows m W C q (length out)) (plainTold m W C q out)
+    told (plainRows m W C q (length out)) true (plainReply (plainCall m W C q out .answer))
     (now (b .1 .1 .1 .0)) (now (s .1 .1 .1 .1 .1 .1 .1 .0)) r
-    (omega arith) (plain-refusals m W C q (length out)) (p .0) (p .1)
+    (omega arith) (plain-refusals m W C q out) _ _ _ p

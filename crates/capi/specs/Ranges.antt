@@ -7,7 +7,6 @@ use Rattle.words.specs.declared.interval.Bound.the-variants.{Included, Excluded
 use Rattle.words.specs.declared.interval.Interval.{Interval}
 use Rattle.iter.specs.declared.rules.Query.{Query}
 use Rattle.iter.specs.declared.rules.Query.the-variants.{Overlap, Exact}
-use Rattle.capi.specs.Replies.{Reply}
 
 abbrev pub boundOf : ℕ → ℕ → Bound
 boundOf kind x = cond (eqb kind 0) (Included x) (cond (eqb kind 1) (Excluded x) Unbounded)
@@ -24,7 +23,3 @@ exactOf start end = Exact (intervalOf start end)
 -- both are kinds of a bound
 unfoldable pub kinds : ℕ → ℕ → Bool
 kinds lo-kind hi-kind = leb lo-kind 2 && leb hi-kind 2
-
--- 102, BadBound: one is not. It comes before the refusals of the call, which is not made then.
-unfoldable pub ranged : Bool → Reply → Reply
-ranged b R = cond b R (record { no = 102; numbers = R .numbers })

@@ -1,6 +1,6 @@
--- What a caller in another language gets of a public call: the refusal's number, 0 for none, and the answer's numbers, in the order in which
--- docs/DRIVE.md prints them.
-use mathlib.Core.Bool.{cond}
+-- What a caller in another language gets of a public call: the number that an export returns, its answer's numbers, in the order in which
+-- docs/DRIVE.md prints them, and what it leaves in each lent slice.
+use mathlib.Core.Bool.{Bool, true, cond}
 use mathlib.Core.List.{List, [], _∷_}
 use Prim.Native.Nat.{ℕ}
 use lib.ListN.{length, getD}
@@ -13,28 +13,53 @@ use Rattle.iter.specs.Drains.{filled}
 use Rattle.iter.specs.declared.Cursor.{Cursor}
 use Rattle.iter.specs.declared.rules.Query.{Query}
 use Rattle.iter.specs.declared.seek.Step.{Step}
-use Rattle.iset.specs.Build.{BuildAnswer, buildRule}
+use Rattle.iset.specs.Changes.{Change, Output}
+use Rattle.iset.specs.Build.{BuildAnswer, buildCall}
 use Rattle.iset.specs.Remove.{RemoveAnswer, removeCall}
 use Rattle.iset.specs.Insert.{InsertAnswer, insertCall}
 use Rattle.iset.specs.Lookup.{StartAnswer, StepAnswer, DrainAnswer, startCall, stepCall, drainCall}
 use Rattle.iset.specs.Plain.{PlainAnswer, plainCall}
 use Rattle.iset.specs.declared.Map.{Map}
 
+-- What a call answers: the refusal's number, 0 for none, and the numbers of its answer.
 pub record Reply : Type 0 where
   pub no : ℕ
   pub numbers : List ℕ
 
--- 101, ShortAnswer: the answer A has fewer places than there are numbers. It comes before every other refusal.
-unfoldable pub number : List ℕ → Reply → ℕ
-number A R = cond (ltb (length A) (length (R .numbers))) 101 (R .no)
+-- What an export returns and leaves: its number, the answer slice, and the other slices that it may write.
+pub record Exit : Type 0 where
+  pub number : ℕ
+  pub answer : List ℕ
+  pub slices : List (List ℕ)
+
+abbrev pub exit : ℕ → List ℕ → List (List ℕ) → Exit
+exit n A l = record { number = n; answer = A; slices = l }
+
+-- An export has two refusals of its own, before those of the call, which is not made then. 101, ShortAnswer: the answer A has fewer places than there
+-- are numbers. 102, BadBound: a bound has no kind. So b says whether each bound has one; without a range it is true.
+unfoldable pub number : Bool → List ℕ → Reply → ℕ
+number b A R = cond (ltb (length A) (length (R .numbers))) 101 (cond b (R .no) 102)
 
 -- the answer at exit: "Nothing lent changes" where anything is refused; places past the numbers stay
-unfoldable pub handed : List ℕ → Reply → List ℕ
-handed A R = cond (eqb (number A R) 0) (filled (R .numbers) A) A
+unfoldable pub handed : Bool → List ℕ → Reply → List ℕ
+handed b A R = cond (eqb (number b A R) 0) (filled (R .numbers) A) A
 
--- another lent slice at exit: as the call leaves it, or as it was where the answer is too short for the call to be made
-unfoldable pub left : List ℕ → Reply → List ℕ → List ℕ → List ℕ
-left A R old new = cond (ltb (length A) (length (R .numbers))) old new
+-- the other slices at exit: as the call leaves them, or as they were where it is not made
+unfoldable pub left : Bool → List ℕ → Reply → List (List ℕ) → List (List ℕ) → List (List ℕ)
+left b A R old new = cond (ltb (length A) (length (R .numbers))) old (cond b new old)
+
+abbrev pub exitOf : Bool → List ℕ → Reply → List (List ℕ) → List (List ℕ) → Exit
+exitOf b A R old new = exit (number b A R) (handed b A R) (left b A R old new)
+
+-- of a call that writes nothing but its answer; of one that writes the store; of one that writes an output
+abbrev pub answerExit : Bool → List ℕ → Reply → Exit
+answerExit b A R = exitOf b A R [] []
+
+abbrev pub changeExit : {K : Type 0} → (K → Reply) → List ℕ → List ℕ → List ℕ → Change K → Exit
+changeExit reply A W C k = exitOf true A (reply (k .answer)) (W ∷ C ∷ []) (k .words ∷ k .colours ∷ [])
+
+abbrev pub outputExit : {K : Type 0} → (K → Reply) → Bool → List ℕ → List ℕ → Output K → Exit
+outputExit reply b A out k = exitOf b A (reply (k .answer)) (out ∷ []) (k .output ∷ [])
 
 -- "A map is a count and a root by value."
 abbrev pub mapOf : ℕ → ℕ → Map
@@ -44,16 +69,16 @@ abbrev pub cursorOf : ℕ → ℕ → ℕ → Cursor
 cursorOf slot levels bits = record { slot = slot; levels = levels; bits = bits }
 
 -- a build: the new map
-abbrev pub mapNumbers : ℕ → ℕ → List ℕ
-mapNumbers count root = count ∷ root ∷ []
+abbrev pub mapNumbers : Map → List ℕ
+mapNumbers m = m .count ∷ m .root ∷ []
 
 abbrev pub buildReply : BuildAnswer → Reply
-buildReply a = record { no = a .no; numbers = mapNumbers (a .count) (a .root) }
+buildReply a = record { no = a .no; numbers = mapNumbers (a .map) }
 
 -- a removal: "removed value, new map, and up to three pairs (old slot, new slot)", and how many hulls changed
-abbrev pub goneNumbers : ℕ → ℕ → ℕ → Pairs → ℕ → List ℕ
-goneNumbers value count root p reach =
-    value ∷ count ∷ root
+abbrev pub removedNumbers : ℕ → Map → Pairs → ℕ → List ℕ
+removedNumbers value m p reach =
+    value ∷ m .count ∷ m .root
     ∷ p .first .old ∷ p .first .new ∷ p .second .old ∷ p .second .new ∷ p .third .old ∷ p .third .new ∷ reach ∷ []
 
 -- the pairs among those numbers
@@ -66,14 +91,14 @@ pairsOf A =
     }
 
 abbrev pub removeReply : RemoveAnswer → Reply
-removeReply a = record { no = a .no; numbers = goneNumbers (a .value) (a .count) (a .root) (a .pairs) (a .reach) }
+removeReply a = record { no = a .no; numbers = removedNumbers (a .value) (a .map) (a .pairs) (a .reach) }
 
 -- an insertion: the new map, the slot of the new entry, and how many hulls changed
-abbrev pub addedNumbers : ℕ → ℕ → ℕ → ℕ → List ℕ
-addedNumbers count root slot reach = count ∷ root ∷ slot ∷ reach ∷ []
+abbrev pub insertedNumbers : Map → ℕ → ℕ → List ℕ
+insertedNumbers m slot reach = m .count ∷ m .root ∷ slot ∷ reach ∷ []
 
 abbrev pub insertReply : InsertAnswer → Reply
-insertReply a = record { no = a .no; numbers = addedNumbers (a .count) (a .root) (a .slot) (a .reach) }
+insertReply a = record { no = a .no; numbers = insertedNumbers (a .map) (a .slot) (a .reach) }
 
 -- a cursor: slot, levels, bits
 abbrev pub cursorNumbers : Cursor → List ℕ
@@ -109,24 +134,24 @@ plainNumbers hits entered = hits ∷ entered ∷ []
 abbrev pub plainReply : PlainAnswer → Reply
 plainReply a = record { no = a .no; numbers = plainNumbers (a .hits) (a .entered) }
 
--- the replies of the public calls
-abbrev pub buildTold : List ℕ → List ℕ → List ℕ → Reply
-buildTold W C S = buildReply (buildRule W C S)
+-- the exports of the public calls
+abbrev pub buildExit : List ℕ → List ℕ → List ℕ → List ℕ → Exit
+buildExit A W C S = changeExit buildReply A W C (buildCall W C S)
 
-abbrev pub removeTold : Map → List ℕ → List ℕ → ℕ → Reply
-removeTold m W C slot = removeReply (removeCall m W C slot)
+abbrev pub removeExit : List ℕ → Map → List ℕ → List ℕ → ℕ → Exit
+removeExit A m W C slot = changeExit removeReply A W C (removeCall m W C slot)
 
-abbrev pub insertTold : Map → List ℕ → List ℕ → Entry → Reply
-insertTold m W C e = insertReply (insertCall m W C e)
+abbrev pub insertExit : List ℕ → Map → List ℕ → List ℕ → Entry → Exit
+insertExit A m W C e = changeExit insertReply A W C (insertCall m W C e)
 
-abbrev pub startTold : Map → List ℕ → List ℕ → Interval → Reply
-startTold m W C x = startReply (startCall m W C x)
+abbrev pub startExit : List ℕ → Map → List ℕ → List ℕ → Interval → Exit
+startExit A m W C x = answerExit true A (startReply (startCall m W C x))
 
-abbrev pub stepTold : Map → List ℕ → List ℕ → Query → Cursor → Reply
-stepTold m W C q c = stepReply (stepCall m W C q c)
+abbrev pub stepExit : Bool → List ℕ → Map → List ℕ → List ℕ → Query → Cursor → Exit
+stepExit b A m W C q c = answerExit b A (stepReply (stepCall m W C q c))
 
-abbrev pub drainTold : Map → List ℕ → List ℕ → Query → Cursor → ℕ → List ℕ → Reply
-drainTold m W C q c limit out = drainReply (drainCall m W C q c limit (length out))
+abbrev pub drainExit : Bool → List ℕ → Map → List ℕ → List ℕ → Query → Cursor → ℕ → List ℕ → Exit
+drainExit b A m W C q c limit out = outputExit drainReply b A out (drainCall m W C q c limit out)
 
-abbrev pub plainTold : Map → List ℕ → List ℕ → Query → List ℕ → Reply
-plainTold m W C q out = plainReply (plainCall m W C q (length out))
+abbrev pub plainExit : Bool → List ℕ → Map → List ℕ → List ℕ → Query → List ℕ → Exit
+plainExit b A m W C q out = outputExit plainReply b A out (plainCall m W C q out)

@@ -1,17 +1,17 @@
 // Writing the numbers of an answer, in the order that include/iset.h declares.
+use iset::Cursor;
+use iset::Drained;
 use iset::Map;
-use iset::insert::Added;
-use iset::remove::Gone;
-use iter::Cursor;
-use iter::drain::Drained;
-use iter::seek::Step;
-use plain::Tally;
+use iset::Step;
+use iset::Tally;
+use iset::insert::Inserted;
+use iset::remove::Removed;
 use words::ix::U;
 ghost use mathlib.Core.Path.{_≡_};
 ghost use Prim.Native.Nat.{_≤_};
 ghost use lib.ListN.{length};
 ghost use Rattle.iter.specs.Drains.{filled};
-ghost use Rattle.capi.specs.Replies.{mapNumbers, goneNumbers, addedNumbers, cursorNumbers, stepNumbers, foundNumbers, drainNumbers, plainNumbers};
+ghost use Rattle.capi.specs.Replies.{mapNumbers, removedNumbers, insertedNumbers, cursorNumbers, stepNumbers, foundNumbers, drainNumbers, plainNumbers};
 
 // Writes the numbers to the front of the answer. Places past them stay.
 pub(crate) fn put(numbers: &[u64], answer: &mut [u64])
@@ -27,15 +27,15 @@ pub(crate) fn put(numbers: &[u64], answer: &mut [u64])
 
 pub(crate) fn put_map(m: Map, answer: &mut [u64])
     requires { ⌜ 2 ≤ length (now answer) ⌝ }
-    ensures { λ _. ⌜ now (answer .exit) ≡ filled (mapNumbers (m .count) (m .root)) (now (answer .entry)) ⌝ }
+    ensures { λ _. ⌜ now (answer .exit) ≡ filled (mapNumbers m) (now (answer .entry)) ⌝ }
 {
     let numbers = [m.count, m.root];
     put(&numbers, answer);
 }
 
-pub fn put_gone(g: Gone, answer: &mut [u64])
+pub fn put_removed(g: Removed, answer: &mut [u64])
     requires { ⌜ 10 ≤ length (now answer) ⌝ }
-    ensures { λ _. ⌜ now (answer .exit) ≡ filled (goneNumbers (g .value) (g .map .count) (g .map .root) (g .pairs) (g .reach)) (now (answer .entry)) ⌝ }
+    ensures { λ _. ⌜ now (answer .exit) ≡ filled (removedNumbers (g .value) (g .map) (g .pairs) (g .reach)) (now (answer .entry)) ⌝ }
 {
     let numbers = [
         g.value,
@@ -52,9 +52,9 @@ pub fn put_gone(g: Gone, answer: &mut [u64])
     put(&numbers, answer);
 }
 
-pub fn put_added(a: Added, answer: &mut [u64])
+pub fn put_inserted(a: Inserted, answer: &mut [u64])
     requires { ⌜ 4 ≤ length (now answer) ⌝ }
-    ensures { λ _. ⌜ now (answer .exit) ≡ filled (addedNumbers (a .map .count) (a .map .root) (a .slot) (a .reach)) (now (answer .entry)) ⌝ }
+    ensures { λ _. ⌜ now (answer .exit) ≡ filled (insertedNumbers (a .map) (a .slot) (a .reach)) (now (answer .entry)) ⌝ }
 {
     let numbers = [a.map.count, a.map.root, a.slot, a.reach];
     put(&numbers, answer);

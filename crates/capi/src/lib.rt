@@ -9,23 +9,23 @@ pub mod lookup;
 pub mod range;
 pub mod scan;
 
-use crate::answer::put_added;
-use crate::answer::put_gone;
+use crate::answer::put_inserted;
 use crate::answer::put_map;
+use crate::answer::put_removed;
 use iset::Checked;
 use iset::Map;
+use iset::Pair;
+use iset::Pairs;
 use iset::build::Built;
 use iset::insert::Insertion;
-use iset::remove::Gone;
 use iset::remove::Removal;
-use words::pair::Pair;
-use words::pair::Pairs;
+use iset::remove::Removed;
 ghost use mathlib.Core.Path.{_≡_};
+ghost use mathlib.Core.List.{[], _∷_};
 ghost use Rattle.iset.specs.Check.{checkRule};
-ghost use Rattle.iset.specs.Build.{buildNodes, buildColour};
-ghost use Rattle.iset.specs.Remove.{slotAfter, removeNodes, removeColours};
-ghost use Rattle.iset.specs.Insert.{entryOf, insertNodes, insertColours};
-ghost use Rattle.capi.specs.Replies.{mapOf, number, handed, left, pairsOf, buildTold, removeTold, insertTold};
+ghost use Rattle.iset.specs.Remove.{slotAfter};
+ghost use Rattle.iset.specs.Insert.{entryOf};
+ghost use Rattle.capi.specs.Replies.{mapOf, exit, pairsOf, buildExit, removeExit, insertExit};
 
 // The exports' own refusals. Their numbers leave room for refusals that the map may get after the ten of crate words.
 pub const SHORT_ANSWER: u64 = 101;
@@ -51,14 +51,8 @@ pub extern "C" fn iset_build(
     list: &[u64],
     answer: &mut [u64],
 ) -> u64
-    ensures { λ r. ⌜ (r ≡ number (now (answer .entry)) (buildTold (now (nodes .entry)) (now (colours .entry)) (now (list .entry))))
-        × (now (answer .exit) ≡ handed (now (answer .entry)) (buildTold (now (nodes .entry)) (now (colours .entry)) (now (list .entry))))
-        × (now (nodes .exit)
-        ≡ left (now (answer .entry)) (buildTold (now (nodes .entry)) (now (colours .entry)) (now (list .entry))) (now (nodes .entry))
-        (buildNodes (now (nodes .entry)) (now (colours .entry)) (now (list .entry))))
-        × (now (colours .exit)
-        ≡ left (now (answer .entry)) (buildTold (now (nodes .entry)) (now (colours .entry)) (now (list .entry))) (now (colours .entry))
-        (buildColour (now (nodes .entry)) (now (colours .entry)) (now (list .entry)))) ⌝ }
+    ensures { λ r. ⌜ exit r (now (answer .exit)) (now (nodes .exit) ∷ now (colours .exit) ∷ [])
+        ≡ buildExit (now (answer .entry)) (now (nodes .entry)) (now (colours .entry)) (now (list .entry)) ⌝ }
 {
     if answer.len() < 2 {
         return SHORT_ANSWER;
@@ -83,14 +77,8 @@ pub extern "C" fn iset_remove(
     slot: u64,
     answer: &mut [u64],
 ) -> u64
-    ensures { λ r. ⌜ (r ≡ number (now (answer .entry)) (removeTold (mapOf count root) (now (nodes .entry)) (now (colours .entry)) slot))
-        × (now (answer .exit) ≡ handed (now (answer .entry)) (removeTold (mapOf count root) (now (nodes .entry)) (now (colours .entry)) slot))
-        × (now (nodes .exit)
-        ≡ left (now (answer .entry)) (removeTold (mapOf count root) (now (nodes .entry)) (now (colours .entry)) slot) (now (nodes .entry))
-        (removeNodes (mapOf count root) (now (nodes .entry)) (now (colours .entry)) slot))
-        × (now (colours .exit)
-        ≡ left (now (answer .entry)) (removeTold (mapOf count root) (now (nodes .entry)) (now (colours .entry)) slot) (now (colours .entry))
-        (removeColours (mapOf count root) (now (nodes .entry)) (now (colours .entry)) slot)) ⌝ }
+    ensures { λ r. ⌜ exit r (now (answer .exit)) (now (nodes .exit) ∷ now (colours .exit) ∷ [])
+        ≡ removeExit (now (answer .entry)) (mapOf count root) (now (nodes .entry)) (now (colours .entry)) slot ⌝ }
 {
     if answer.len() < 10 {
         return SHORT_ANSWER;
@@ -98,7 +86,7 @@ pub extern "C" fn iset_remove(
     match (Map { count, root }).remove(nodes, colours, slot) {
         Removal::Refused(why) => why.number(),
         Removal::Done(g) => {
-            put_gone(g, answer);
+            put_removed(g, answer);
             0
         }
     }
@@ -109,7 +97,7 @@ pub extern "C" fn iset_remove(
 pub extern "C" fn iset_slot_after(answer: &[u64; 10], removed: u64, kept: u64) -> u64
     ensures { λ r. ⌜ r ≡ slotAfter (pairsOf (now (answer .entry))) removed kept ⌝ }
 {
-    let gone = Gone {
+    let gone = Removed {
         map: Map {
             count: answer[1],
             root: answer[2],
@@ -146,16 +134,8 @@ pub extern "C" fn iset_insert(
     value: u64,
     answer: &mut [u64],
 ) -> u64
-    ensures { λ r. ⌜ (r
-        ≡ number (now (answer .entry)) (insertTold (mapOf count root) (now (nodes .entry)) (now (colours .entry)) (entryOf start end value)))
-        × (now (answer .exit)
-        ≡ handed (now (answer .entry)) (insertTold (mapOf count root) (now (nodes .entry)) (now (colours .entry)) (entryOf start end value)))
-        × (now (nodes .exit)
-        ≡ left (now (answer .entry)) (insertTold (mapOf count root) (now (nodes .entry)) (now (colours .entry)) (entryOf start end value))
-        (now (nodes .entry)) (insertNodes (mapOf count root) (now (nodes .entry)) (now (colours .entry)) (entryOf start end value)))
-        × (now (colours .exit)
-        ≡ left (now (answer .entry)) (insertTold (mapOf count root) (now (nodes .entry)) (now (colours .entry)) (entryOf start end value))
-        (now (colours .entry)) (insertColours (mapOf count root) (now (nodes .entry)) (now (colours .entry)) (entryOf start end value))) ⌝ }
+    ensures { λ r. ⌜ exit r (now (answer .exit)) (now (nodes .exit) ∷ now (colours .exit) ∷ [])
+        ≡ insertExit (now (answer .entry)) (mapOf count root) (now (nodes .entry)) (now (colours .entry)) (entryOf start end value) ⌝ }
 {
     if answer.len() < 4 {
         return SHORT_ANSWER;
@@ -163,7 +143,7 @@ pub extern "C" fn iset_insert(
     match (Map { count, root }).insert(nodes, colours, start, end, value) {
         Insertion::Refused(why) => why.number(),
         Insertion::Done(a) => {
-            put_added(a, answer);
+            put_inserted(a, answer);
             0
         }
     }

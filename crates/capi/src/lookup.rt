@@ -6,27 +6,27 @@ use crate::answer::put_drained;
 use crate::answer::put_step;
 use crate::range::are_kinds;
 use crate::range::range;
+use iset::Cursor;
+use iset::Interval;
 use iset::Map;
-use iset::lookup::Emptied;
+use iset::Query;
+use iset::lookup::Drain;
 use iset::lookup::Started;
 use iset::lookup::Stepped;
-use iter::Cursor;
-use iter::rules::Query;
-use words::interval::Interval;
 ghost use mathlib.Core.Path.{_≡_};
-ghost use mathlib.Core.Bool.{cond};
+ghost use mathlib.Core.Bool.{true};
+ghost use mathlib.Core.List.{[], _∷_};
 ghost use Prim.Native.Nat.{_≤_};
 ghost use lib.ListN.{length};
 ghost use Rattle.iter.specs.Cursors.{fresh};
-ghost use Rattle.iset.specs.Lookup.{drainOutput};
-ghost use Rattle.capi.specs.Replies.{mapOf, cursorOf, number, handed, left, freshReply, startTold, stepTold, drainTold};
-ghost use Rattle.capi.specs.Ranges.{rangeOf, intervalOf, exactOf, kinds, ranged};
+ghost use Rattle.capi.specs.Replies.{mapOf, cursorOf, exit, freshReply, answerExit, startExit, stepExit, drainExit};
+ghost use Rattle.capi.specs.Ranges.{rangeOf, intervalOf, exactOf, kinds};
 
 // The fresh cursor of an overlap lookup. Answer: slot, levels, bits. The map is tested where the cursor is used.
 #[no_mangle]
 pub extern "C" fn iset_fresh(count: u64, root: u64, answer: &mut [u64]) -> u64
-    ensures { λ r. ⌜ (r ≡ number (now (answer .entry)) (freshReply (fresh root)))
-        × (now (answer .exit) ≡ handed (now (answer .entry)) (freshReply (fresh root))) ⌝ }
+    ensures { λ r. ⌜ exit r (now (answer .exit)) []
+        ≡ answerExit true (now (answer .entry)) (freshReply (fresh root)) ⌝ }
 {
     if answer.len() < 3 {
         return SHORT_ANSWER;
@@ -46,10 +46,8 @@ pub extern "C" fn iset_fresh_exact(
     end: u64,
     answer: &mut [u64],
 ) -> u64
-    ensures { λ r. ⌜ (r
-        ≡ number (now (answer .entry)) (startTold (mapOf count root) (now (nodes .entry)) (now (colours .entry)) (intervalOf start end)))
-        × (now (answer .exit)
-        ≡ handed (now (answer .entry)) (startTold (mapOf count root) (now (nodes .entry)) (now (colours .entry)) (intervalOf start end))) ⌝ }
+    ensures { λ r. ⌜ exit r (now (answer .exit)) []
+        ≡ startExit (now (answer .entry)) (mapOf count root) (now (nodes .entry)) (now (colours .entry)) (intervalOf start end) ⌝ }
 {
     if answer.len() < 3 {
         return SHORT_ANSWER;
@@ -73,8 +71,8 @@ fn step(
     answer: &mut [u64],
 ) -> u64
     requires { ⌜ 5 ≤ length (now answer) ⌝ }
-    ensures { λ r. ⌜ (r ≡ number (now (answer .entry)) (stepTold map (now (nodes .entry)) (now (colours .entry)) query cursor))
-        × (now (answer .exit) ≡ handed (now (answer .entry)) (stepTold map (now (nodes .entry)) (now (colours .entry)) query cursor)) ⌝ }
+    ensures { λ r. ⌜ exit r (now (answer .exit)) []
+        ≡ stepExit true (now (answer .entry)) map (now (nodes .entry)) (now (colours .entry)) query cursor ⌝ }
 {
     match map.step(nodes, colours, query, cursor) {
         Stepped::Refused(why) => why.number(),
@@ -101,14 +99,8 @@ pub extern "C" fn iset_step(
     bits: u64,
     answer: &mut [u64],
 ) -> u64
-    ensures { λ r. ⌜ (r
-        ≡ number (now (answer .entry)) (ranged (kinds «lo_kind» «hi_kind»)
-        (stepTold (mapOf count root) (now (nodes .entry)) (now (colours .entry)) (rangeOf «lo_kind» lo «hi_kind» hi)
-        (cursorOf slot levels bits))))
-        × (now (answer .exit)
-        ≡ handed (now (answer .entry)) (ranged (kinds «lo_kind» «hi_kind»)
-        (stepTold (mapOf count root) (now (nodes .entry)) (now (colours .entry)) (rangeOf «lo_kind» lo «hi_kind» hi)
-        (cursorOf slot levels bits)))) ⌝ }
+    ensures { λ r. ⌜ exit r (now (answer .exit)) []
+        ≡ stepExit (kinds «lo_kind» «hi_kind») (now (answer .entry)) (mapOf count root) (now (nodes .entry)) (now (colours .entry)) (rangeOf «lo_kind» lo «hi_kind» hi) (cursorOf slot levels bits) ⌝ }
 {
     if answer.len() < 5 {
         return SHORT_ANSWER;
@@ -141,12 +133,8 @@ pub extern "C" fn iset_step_exact(
     bits: u64,
     answer: &mut [u64],
 ) -> u64
-    ensures { λ r. ⌜ (r
-        ≡ number (now (answer .entry))
-        (stepTold (mapOf count root) (now (nodes .entry)) (now (colours .entry)) (exactOf start end) (cursorOf slot levels bits)))
-        × (now (answer .exit)
-        ≡ handed (now (answer .entry))
-        (stepTold (mapOf count root) (now (nodes .entry)) (now (colours .entry)) (exactOf start end) (cursorOf slot levels bits))) ⌝ }
+    ensures { λ r. ⌜ exit r (now (answer .exit)) []
+        ≡ stepExit true (now (answer .entry)) (mapOf count root) (now (nodes .entry)) (now (colours .entry)) (exactOf start end) (cursorOf slot levels bits) ⌝ }
 {
     if answer.len() < 5 {
         return SHORT_ANSWER;
@@ -173,15 +161,12 @@ fn drain(
     answer: &mut [u64],
 ) -> u64
     requires { ⌜ 5 ≤ length (now answer) ⌝ }
-    ensures { λ r. ⌜ (r
-        ≡ number (now (answer .entry)) (drainTold map (now (nodes .entry)) (now (colours .entry)) query cursor limit (now (out .entry))))
-        × (now (answer .exit)
-        ≡ handed (now (answer .entry)) (drainTold map (now (nodes .entry)) (now (colours .entry)) query cursor limit (now (out .entry))))
-        × (now (out .exit) ≡ drainOutput map (now (nodes .entry)) (now (colours .entry)) query cursor limit (now (out .entry))) ⌝ }
+    ensures { λ r. ⌜ exit r (now (answer .exit)) (now (out .exit) ∷ [])
+        ≡ drainExit true (now (answer .entry)) map (now (nodes .entry)) (now (colours .entry)) query cursor limit (now (out .entry)) ⌝ }
 {
     match map.drain(nodes, colours, query, cursor, limit, out) {
-        Emptied::Refused(why) => why.number(),
-        Emptied::Done(d) => {
+        Drain::Refused(why) => why.number(),
+        Drain::Done(d) => {
             put_drained(d, answer);
             0
         }
@@ -207,23 +192,8 @@ pub extern "C" fn iset_drain(
     out: &mut [u64],
     answer: &mut [u64],
 ) -> u64
-    ensures { λ r. ⌜ (r
-        ≡ number (now (answer .entry)) (ranged (kinds «lo_kind» «hi_kind»)
-        (drainTold (mapOf count root) (now (nodes .entry)) (now (colours .entry)) (rangeOf «lo_kind» lo «hi_kind» hi)
-        (cursorOf slot levels bits) limit (now (out .entry)))))
-        × (now (answer .exit)
-        ≡ handed (now (answer .entry)) (ranged (kinds «lo_kind» «hi_kind»)
-        (drainTold (mapOf count root) (now (nodes .entry)) (now (colours .entry)) (rangeOf «lo_kind» lo «hi_kind» hi)
-        (cursorOf slot levels bits) limit (now (out .entry)))))
-        × (now (out .exit)
-        ≡ left (now (answer .entry))
-        (drainTold (mapOf count root) (now (nodes .entry)) (now (colours .entry)) (rangeOf «lo_kind» lo «hi_kind» hi)
-        (cursorOf slot levels bits) limit (now (out .entry)))
-        (now (out .entry))
-        (cond (kinds «lo_kind» «hi_kind»)
-        (drainOutput (mapOf count root) (now (nodes .entry)) (now (colours .entry)) (rangeOf «lo_kind» lo «hi_kind» hi)
-        (cursorOf slot levels bits) limit (now (out .entry)))
-        (now (out .entry)))) ⌝ }
+    ensures { λ r. ⌜ exit r (now (answer .exit)) (now (out .exit) ∷ [])
+        ≡ drainExit (kinds «lo_kind» «hi_kind») (now (answer .entry)) (mapOf count root) (now (nodes .entry)) (now (colours .entry)) (rangeOf «lo_kind» lo «hi_kind» hi) (cursorOf slot levels bits) limit (now (out .entry)) ⌝ }
 {
     if answer.len() < 5 {
         return SHORT_ANSWER;
@@ -260,21 +230,8 @@ pub extern "C" fn iset_drain_exact(
     out: &mut [u64],
     answer: &mut [u64],
 ) -> u64
-    ensures { λ r. ⌜ (r
-        ≡ number (now (answer .entry))
-        (drainTold (mapOf count root) (now (nodes .entry)) (now (colours .entry)) (exactOf start end)
-        (cursorOf slot levels bits) limit (now (out .entry))))
-        × (now (answer .exit)
-        ≡ handed (now (answer .entry))
-        (drainTold (mapOf count root) (now (nodes .entry)) (now (colours .entry)) (exactOf start end)
-        (cursorOf slot levels bits) limit (now (out .entry))))
-        × (now (out .exit)
-        ≡ left (now (answer .entry))
-        (drainTold (mapOf count root) (now (nodes .entry)) (now (colours .entry)) (exactOf start end)
-        (cursorOf slot levels bits) limit (now (out .entry)))
-        (now (out .entry))
-        (drainOutput (mapOf count root) (now (nodes .entry)) (now (colours .entry)) (exactOf start end)
-        (cursorOf slot levels bits) limit (now (out .entry)))) ⌝ }
+    ensures { λ r. ⌜ exit r (now (answer .exit)) (now (out .exit) ∷ [])
+        ≡ drainExit true (now (answer .entry)) (mapOf count root) (now (nodes .entry)) (now (colours .entry)) (exactOf start end) (cursorOf slot levels bits) limit (now (out .entry)) ⌝ }
 {
     if answer.len() < 5 {
         return SHORT_ANSWER;

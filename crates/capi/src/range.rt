@@ -1,7 +1,7 @@
 // A range by the kinds and the numbers of its two bounds.
-use iter::rules::Query;
-use words::interval::Bound;
-use words::interval::Span;
+use iset::Bound;
+use iset::Query;
+use iset::Span;
 ghost use mathlib.Core.Path.{_≡_};
 ghost use Rattle.capi.specs.Ranges.{boundOf, rangeOf, kinds};
 

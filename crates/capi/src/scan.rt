@@ -4,17 +4,17 @@ use crate::SHORT_ANSWER;
 use crate::answer::put_tally;
 use crate::range::are_kinds;
 use crate::range::range;
+use iset::Interval;
 use iset::Map;
+use iset::Query;
 use iset::scan::Looked;
-use iter::rules::Query;
-use words::interval::Interval;
 ghost use mathlib.Core.Path.{_≡_};
-ghost use mathlib.Core.Bool.{cond};
+ghost use mathlib.Core.Bool.{true};
+ghost use mathlib.Core.List.{[], _∷_};
 ghost use Prim.Native.Nat.{_≤_};
 ghost use lib.ListN.{length};
-ghost use Rattle.iset.specs.Plain.{plainOutput};
-ghost use Rattle.capi.specs.Replies.{mapOf, number, handed, left, plainTold};
-ghost use Rattle.capi.specs.Ranges.{rangeOf, exactOf, kinds, ranged};
+ghost use Rattle.capi.specs.Replies.{mapOf, exit, plainExit};
+ghost use Rattle.capi.specs.Ranges.{rangeOf, exactOf, kinds};
 
 // A plain lookup of either kind.
 fn looked(
@@ -26,9 +26,8 @@ fn looked(
     answer: &mut [u64],
 ) -> u64
     requires { ⌜ 2 ≤ length (now answer) ⌝ }
-    ensures { λ r. ⌜ (r ≡ number (now (answer .entry)) (plainTold map (now (nodes .entry)) (now (colours .entry)) query (now (out .entry))))
-        × (now (answer .exit) ≡ handed (now (answer .entry)) (plainTold map (now (nodes .entry)) (now (colours .entry)) query (now (out .entry))))
-        × (now (out .exit) ≡ plainOutput map (now (nodes .entry)) (now (colours .entry)) query (now (out .entry))) ⌝ }
+    ensures { λ r. ⌜ exit r (now (answer .exit)) (now (out .exit) ∷ [])
+        ≡ plainExit true (now (answer .entry)) map (now (nodes .entry)) (now (colours .entry)) query (now (out .entry)) ⌝ }
 {
     match map.plain(nodes, colours, query, out) {
         Looked::Refused(why) => why.number(),
@@ -53,19 +52,8 @@ pub extern "C" fn iset_plain(
     out: &mut [u64],
     answer: &mut [u64],
 ) -> u64
-    ensures { λ r. ⌜ (r
-        ≡ number (now (answer .entry)) (ranged (kinds «lo_kind» «hi_kind»)
-        (plainTold (mapOf count root) (now (nodes .entry)) (now (colours .entry)) (rangeOf «lo_kind» lo «hi_kind» hi) (now (out .entry)))))
-        × (now (answer .exit)
-        ≡ handed (now (answer .entry)) (ranged (kinds «lo_kind» «hi_kind»)
-        (plainTold (mapOf count root) (now (nodes .entry)) (now (colours .entry)) (rangeOf «lo_kind» lo «hi_kind» hi) (now (out .entry)))))
-        × (now (out .exit)
-        ≡ left (now (answer .entry))
-        (plainTold (mapOf count root) (now (nodes .entry)) (now (colours .entry)) (rangeOf «lo_kind» lo «hi_kind» hi) (now (out .entry)))
-        (now (out .entry))
-        (cond (kinds «lo_kind» «hi_kind»)
-        (plainOutput (mapOf count root) (now (nodes .entry)) (now (colours .entry)) (rangeOf «lo_kind» lo «hi_kind» hi) (now (out .entry)))
-        (now (out .entry)))) ⌝ }
+    ensures { λ r. ⌜ exit r (now (answer .exit)) (now (out .exit) ∷ [])
+        ≡ plainExit (kinds «lo_kind» «hi_kind») (now (answer .entry)) (mapOf count root) (now (nodes .entry)) (now (colours .entry)) (rangeOf «lo_kind» lo «hi_kind» hi) (now (out .entry)) ⌝ }
 {
     if answer.len() < 2 {
         return SHORT_ANSWER;
@@ -96,15 +84,8 @@ pub extern "C" fn iset_plain_exact(
     out: &mut [u64],
     answer: &mut [u64],
 ) -> u64
-    ensures { λ r. ⌜ (r
-        ≡ number (now (answer .entry)) (plainTold (mapOf count root) (now (nodes .entry)) (now (colours .entry)) (exactOf start end) (now (out .entry))))
-        × (now (answer .exit)
-        ≡ handed (now (answer .entry)) (plainTold (mapOf count root) (now (nodes .entry)) (now (colours .entry)) (exactOf start end) (now (out .entry))))
-        × (now (out .exit)
-        ≡ left (now (answer .entry))
-        (plainTold (mapOf count root) (now (nodes .entry)) (now (colours .entry)) (exactOf start end) (now (out .entry)))
-        (now (out .entry))
-        (plainOutput (mapOf count root) (now (nodes .entry)) (now (colours .entry)) (exactOf start end) (now (out .entry)))) ⌝ }
+    ensures { λ r. ⌜ exit r (now (answer .exit)) (now (out .exit) ∷ [])
+        ≡ plainExit true (now (answer .entry)) (mapOf count root) (now (nodes .entry)) (now (colours .entry)) (exactOf start end) (now (out .entry)) ⌝ }
 {
     if answer.len() < 2 {
         return SHORT_ANSWER;

@@ -1,9 +1,10 @@
 -- Any two numbers, and any two contents of each lent slice at exit, that an export's promise allows are equal.
-use mathlib.Core.Path.{_≡_, sym, _∙_}
+use mathlib.Core.Path.{_≡_}
 use contract.Lifetimes.{Lfts}
 use borrow.Fn.Kinds as K
 use denote.Triple.Clauses.{AtExit}
 use denote.Ref.{now}
+use Rattle.capi.proofs.Exits.{same-answer, same-change, same-output}
 use Rattle.capi_open.proofs.iset_open_remove.Reads as remove-reads
 use Rattle.capi_open.proofs.iset_open_remove.Kinds as remove-kinds
 use Rattle.capi_open.proofs.iset_open_insert.Reads as insert-reads
@@ -35,7 +36,7 @@ pub remove-determined :
     × (now (s .1 .1 .1 .1 .1 .0) ≡ now (s′ .1 .1 .1 .1 .1 .0))
     × (now (s .1 .1 .0) ≡ now (s′ .1 .1 .0))
     × (now (s .1 .1 .1 .0) ≡ now (s′ .1 .1 .1 .0))
-remove-determined κs a r r′ s s′ p q = (p .0 ∙ sym (q .0), p .1 ∙ sym (q .1), p .2 ∙ sym (q .2), p .3 ∙ sym (q .3))
+remove-determined κs a r r′ s s′ p q = same-change p q
 
 pub insert-determined :
     (κs : Lfts 3) (a : K.Dens κs insert-kinds.ps) (r r′ : K.resT insert-kinds.r κs .Denot)
@@ -45,7 +46,7 @@ pub insert-determined :
     × (now (s .1 .1 .1 .1 .1 .1 .1 .0) ≡ now (s′ .1 .1 .1 .1 .1 .1 .1 .0))
     × (now (s .1 .1 .0) ≡ now (s′ .1 .1 .0))
     × (now (s .1 .1 .1 .0) ≡ now (s′ .1 .1 .1 .0))
-insert-determined κs a r r′ s s′ p q = (p .0 ∙ sym (q .0), p .1 ∙ sym (q .1), p .2 ∙ sym (q .2), p .3 ∙ sym (q .3))
+insert-determined κs a r r′ s s′ p q = same-change p q
 
 pub fresh-exact-determined :
     (κs : Lfts 3) (a : K.Dens κs fresh-exact-kinds.ps) (r r′ : K.resT fresh-exact-kinds.r κs .Denot)
@@ -53,7 +54,7 @@ pub fresh-exact-determined :
     → fresh-exact-reads.Post κs a r s → fresh-exact-reads.Post κs a r′ s′
     → (r ≡ r′)
     × (now (s .1 .1 .1 .1 .1 .1 .0) ≡ now (s′ .1 .1 .1 .1 .1 .1 .0))
-fresh-exact-determined κs a r r′ s s′ p q = (p .0 ∙ sym (q .0), p .1 ∙ sym (q .1))
+fresh-exact-determined κs a r r′ s s′ p q = same-answer p q
 
 pub step-determined :
     (κs : Lfts 3) (a : K.Dens κs step-kinds.ps) (r r′ : K.resT step-kinds.r κs .Denot)
@@ -61,7 +62,7 @@ pub step-determined :
     → step-reads.Post κs a r s → step-reads.Post κs a r′ s′
     → (r ≡ r′)
     × (now (s .1 .1 .1 .1 .1 .1 .1 .1 .1 .1 .1 .0) ≡ now (s′ .1 .1 .1 .1 .1 .1 .1 .1 .1 .1 .1 .0))
-step-determined κs a r r′ s s′ p q = (p .0 ∙ sym (q .0), p .1 ∙ sym (q .1))
+step-determined κs a r r′ s s′ p q = same-answer p q
 
 pub step-exact-determined :
     (κs : Lfts 3) (a : K.Dens κs step-exact-kinds.ps) (r r′ : K.resT step-exact-kinds.r κs .Denot)
@@ -69,7 +70,7 @@ pub step-exact-determined :
     → step-exact-reads.Post κs a r s → step-exact-reads.Post κs a r′ s′
     → (r ≡ r′)
     × (now (s .1 .1 .1 .1 .1 .1 .1 .1 .1 .0) ≡ now (s′ .1 .1 .1 .1 .1 .1 .1 .1 .1 .0))
-step-exact-determined κs a r r′ s s′ p q = (p .0 ∙ sym (q .0), p .1 ∙ sym (q .1))
+step-exact-determined κs a r r′ s s′ p q = same-answer p q
 
 pub drain-determined :
     (κs : Lfts 4) (a : K.Dens κs drain-kinds.ps) (r r′ : K.resT drain-kinds.r κs .Denot)
@@ -78,7 +79,7 @@ pub drain-determined :
     → (r ≡ r′)
     × (now (s .1 .1 .1 .1 .1 .1 .1 .1 .1 .1 .1 .1 .1 .0) ≡ now (s′ .1 .1 .1 .1 .1 .1 .1 .1 .1 .1 .1 .1 .1 .0))
     × (now (s .1 .1 .1 .1 .1 .1 .1 .1 .1 .1 .1 .1 .0) ≡ now (s′ .1 .1 .1 .1 .1 .1 .1 .1 .1 .1 .1 .1 .0))
-drain-determined κs a r r′ s s′ p q = (p .0 ∙ sym (q .0), p .1 ∙ sym (q .1), p .2 ∙ sym (q .2))
+drain-determined κs a r r′ s s′ p q = same-output p q
 
 pub drain-exact-determined :
     (κs : Lfts 4) (a : K.Dens κs drain-exact-kinds.ps) (r r′ : K.resT drain-exact-kinds.r κs .Denot)
@@ -87,7 +88,7 @@ pub drain-exact-determined :
     → (r ≡ r′)
     × (now (s .1 .1 .1 .1 .1 .1 .1 .1 .1 .1 .1 .0) ≡ now (s′ .1 .1 .1 .1 .1 .1 .1 .1 .1 .1 .1 .0))
     × (now (s .1 .1 .1 .1 .1 .1 .1 .1 .1 .1 .0) ≡ now (s′ .1 .1 .1 .1 .1 .1 .1 .1 .1 .1 .0))
-drain-exact-determined κs a r r′ s s′ p q = (p .0 ∙ sym (q .0), p .1 ∙ sym (q .1), p .2 ∙ sym (q .2))
+drain-exact-determined κs a r r′ s s′ p q = same-output p q
 
 pub at-determined :
     (κs : Lfts 4) (a : K.Dens κs at-kinds.ps) (r r′ : K.resT at-kinds.r κs .Denot)
@@ -96,7 +97,7 @@ pub at-determined :
     → (r ≡ r′)
     × (now (s .1 .1 .1 .1 .1 .1 .0) ≡ now (s′ .1 .1 .1 .1 .1 .1 .0))
     × (now (s .1 .1 .1 .1 .1 .0) ≡ now (s′ .1 .1 .1 .1 .1 .0))
-at-determined κs a r r′ s s′ p q = (p .0 ∙ sym (q .0), p .1 ∙ sym (q .1), p .2 ∙ sym (q .2))
+at-determined κs a r r′ s s′ p q = same-output p q
 
 pub plain-determined :
     (κs : Lfts 4) (a : K.Dens κs plain-kinds.ps) (r r′ : K.resT plain-kinds.r κs .Denot)
@@ -105,7 +106,7 @@ pub plain-determined :
     → (r ≡ r′)
     × (now (s .1 .1 .1 .1 .1 .1 .1 .1 .1 .0) ≡ now (s′ .1 .1 .1 .1 .1 .1 .1 .1 .1 .0))
     × (now (s .1 .1 .1 .1 .1 .1 .1 .1 .0) ≡ now (s′ .1 .1 .1 .1 .1 .1 .1 .1 .0))
-plain-determined κs a r r′ s s′ p q = (p .0 ∙ sym (q .0), p .1 ∙ sym (q .1), p .2 ∙ sym (q .2))
+plain-determined κs a r r′ s s′ p q = same-output p q
 
 pub plain-exact-determined :
     (κs : Lfts 4) (a : K.Dens κs plain-exact-kinds.ps) (r r′ : K.resT plain-exact-kinds.r κs .Denot)
@@ -114,4 +115,4 @@ pub plain-exact-determined :
     → (r ≡ r′)
     × (now (s .1 .1 .1 .1 .1 .1 .1 .0) ≡ now (s′ .1 .1 .1 .1 .1 .1 .1 .0))
     × (now (s .1 .1 .1 .1 .1 .1 .0) ≡ now (s′ .1 .1 .1 .1 .1 .1 .0))
-plain-exact-determined κs a r r′ s s′ p q = (p .0 ∙ sym (q .0), p .1 ∙ sym (q .1), p .2 ∙ sym (q .2))
+plain-exact-determined κs a r r′ s s′ p q = same-output p q

@@ -4,16 +4,16 @@ pub mod lookup;
 pub mod scan;
 
 use capi::SHORT_ANSWER;
-use capi::answer::put_added;
-use capi::answer::put_gone;
+use capi::answer::put_inserted;
+use capi::answer::put_removed;
 use iset::Map;
 use iset::insert::Insertion;
 use iset::remove::Removal;
 ghost use mathlib.Core.Path.{_≡_};
-ghost use Rattle.iset.specs.Remove.{openRemoveNodes, openRemoveColours};
-ghost use Rattle.iset.specs.Insert.{entryOf, openInsertNodes, openInsertColours};
-ghost use Rattle.capi.specs.Replies.{mapOf, number, handed, left};
-ghost use Rattle.capi_open.specs.Replies.{openRemoveTold, openInsertTold};
+ghost use mathlib.Core.List.{[], _∷_};
+ghost use Rattle.iset.specs.Insert.{entryOf};
+ghost use Rattle.capi.specs.Replies.{mapOf, exit};
+ghost use Rattle.capi_open.specs.Replies.{openRemoveExit, openInsertExit};
 
 // Removes the entry of a slot. Answer: value, count, root, then the moved entries, three times old slot, new slot, and how many hulls
 // changed.
@@ -26,14 +26,8 @@ pub extern "C" fn iset_open_remove(
     slot: u64,
     answer: &mut [u64],
 ) -> u64
-    ensures { λ r. ⌜ (r ≡ number (now (answer .entry)) (openRemoveTold (mapOf count root) (now (nodes .entry)) (now (colours .entry)) slot))
-        × (now (answer .exit) ≡ handed (now (answer .entry)) (openRemoveTold (mapOf count root) (now (nodes .entry)) (now (colours .entry)) slot))
-        × (now (nodes .exit)
-        ≡ left (now (answer .entry)) (openRemoveTold (mapOf count root) (now (nodes .entry)) (now (colours .entry)) slot) (now (nodes .entry))
-        (openRemoveNodes (mapOf count root) (now (nodes .entry)) (now (colours .entry)) slot))
-        × (now (colours .exit)
-        ≡ left (now (answer .entry)) (openRemoveTold (mapOf count root) (now (nodes .entry)) (now (colours .entry)) slot) (now (colours .entry))
-        (openRemoveColours (mapOf count root) (now (nodes .entry)) (now (colours .entry)) slot)) ⌝ }
+    ensures { λ r. ⌜ exit r (now (answer .exit)) (now (nodes .exit) ∷ now (colours .exit) ∷ [])
+        ≡ openRemoveExit (now (answer .entry)) (mapOf count root) (now (nodes .entry)) (now (colours .entry)) slot ⌝ }
 {
     if answer.len() < 10 {
         return SHORT_ANSWER;
@@ -41,7 +35,7 @@ pub extern "C" fn iset_open_remove(
     match (Map { count, root }).open_remove(nodes, colours, slot) {
         Removal::Refused(why) => why.number(),
         Removal::Done(g) => {
-            put_gone(g, answer);
+            put_removed(g, answer);
             0
         }
     }
@@ -59,16 +53,8 @@ pub extern "C" fn iset_open_insert(
     value: u64,
     answer: &mut [u64],
 ) -> u64
-    ensures { λ r. ⌜ (r
-        ≡ number (now (answer .entry)) (openInsertTold (mapOf count root) (now (nodes .entry)) (now (colours .entry)) (entryOf start end value)))
-        × (now (answer .exit)
-        ≡ handed (now (answer .entry)) (openInsertTold (mapOf count root) (now (nodes .entry)) (now (colours .entry)) (entryOf start end value)))
-        × (now (nodes .exit)
-        ≡ left (now (answer .entry)) (openInsertTold (mapOf count root) (now (nodes .entry)) (now (colours .entry)) (entryOf start end value))
-        (now (nodes .entry)) (openInsertNodes (mapOf count root) (now (nodes .entry)) (now (colours .entry)) (entryOf start end value)))
-        × (now (colours .exit)
-        ≡ left (now (answer .entry)) (openInsertTold (mapOf count root) (now (nodes .entry)) (now (colours .entry)) (entryOf start end value))
-        (now (colours .entry)) (openInsertColours (mapOf count root) (now (nodes .entry)) (now (colours .entry)) (entryOf start end value))) ⌝ }
+    ensures { λ r. ⌜ exit r (now (answer .exit)) (now (nodes .exit) ∷ now (colours .exit) ∷ [])
+        ≡ openInsertExit (now (answer .entry)) (mapOf count root) (now (nodes .entry)) (now (colours .entry)) (entryOf start end value) ⌝ }
 {
     if answer.len() < 4 {
         return SHORT_ANSWER;
@@ -76,7 +62,7 @@ pub extern "C" fn iset_open_insert(
     match (Map { count, root }).open_insert(nodes, colours, start, end, value) {
         Insertion::Refused(why) => why.number(),
         Insertion::Done(a) => {
-            put_added(a, answer);
+            put_inserted(a, answer);
             0
         }
     }

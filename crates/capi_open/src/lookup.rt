@@ -7,24 +7,24 @@ use capi::answer::put_drained;
 use capi::answer::put_step;
 use capi::range::are_kinds;
 use capi::range::range;
+use iset::Bound;
+use iset::Cursor;
+use iset::Interval;
 use iset::Map;
-use iset::lookup::Emptied;
+use iset::Query;
+use iset::Span;
+use iset::lookup::Drain;
 use iset::lookup::Started;
 use iset::lookup::Stepped;
-use iter::Cursor;
-use iter::rules::Query;
-use words::interval::Bound;
-use words::interval::Interval;
-use words::interval::Span;
 ghost use mathlib.Core.Path.{_≡_};
-ghost use mathlib.Core.Bool.{cond};
+ghost use mathlib.Core.Bool.{true};
+ghost use mathlib.Core.List.{[], _∷_};
 ghost use Prim.Native.Nat.{_≤_};
 ghost use lib.ListN.{length};
 ghost use Rattle.iter.specs.Cursors.{fresh};
-ghost use Rattle.iset.specs.Lookup.{openDrainOutput};
-ghost use Rattle.capi.specs.Replies.{mapOf, cursorOf, number, handed, left};
-ghost use Rattle.capi.specs.Ranges.{rangeOf, intervalOf, exactOf, kinds, ranged};
-ghost use Rattle.capi_open.specs.Replies.{openStartTold, openStepTold, openDrainTold};
+ghost use Rattle.capi.specs.Replies.{mapOf, cursorOf, exit};
+ghost use Rattle.capi.specs.Ranges.{rangeOf, intervalOf, exactOf, kinds};
+ghost use Rattle.capi_open.specs.Replies.{openStartExit, openStepExit, openDrainExit};
 
 // The fresh cursor of an exact lookup. Answer: slot, levels, bits.
 #[no_mangle]
@@ -37,10 +37,8 @@ pub extern "C" fn iset_open_fresh_exact(
     end: u64,
     answer: &mut [u64],
 ) -> u64
-    ensures { λ r. ⌜ (r
-        ≡ number (now (answer .entry)) (openStartTold (mapOf count root) (now (nodes .entry)) (now (colours .entry)) (intervalOf start end)))
-        × (now (answer .exit)
-        ≡ handed (now (answer .entry)) (openStartTold (mapOf count root) (now (nodes .entry)) (now (colours .entry)) (intervalOf start end))) ⌝ }
+    ensures { λ r. ⌜ exit r (now (answer .exit)) []
+        ≡ openStartExit (now (answer .entry)) (mapOf count root) (now (nodes .entry)) (now (colours .entry)) (intervalOf start end) ⌝ }
 {
     if answer.len() < 3 {
         return SHORT_ANSWER;
@@ -64,8 +62,8 @@ fn step(
     answer: &mut [u64],
 ) -> u64
     requires { ⌜ 5 ≤ length (now answer) ⌝ }
-    ensures { λ r. ⌜ (r ≡ number (now (answer .entry)) (openStepTold map (now (nodes .entry)) (now (colours .entry)) query cursor))
-        × (now (answer .exit) ≡ handed (now (answer .entry)) (openStepTold map (now (nodes .entry)) (now (colours .entry)) query cursor)) ⌝ }
+    ensures { λ r. ⌜ exit r (now (answer .exit)) []
+        ≡ openStepExit true (now (answer .entry)) map (now (nodes .entry)) (now (colours .entry)) query cursor ⌝ }
 {
     match map.open_step(nodes, colours, query, cursor) {
         Stepped::Refused(why) => why.number(),
@@ -92,14 +90,8 @@ pub extern "C" fn iset_open_step(
     bits: u64,
     answer: &mut [u64],
 ) -> u64
-    ensures { λ r. ⌜ (r
-        ≡ number (now (answer .entry)) (ranged (kinds «lo_kind» «hi_kind»)
-        (openStepTold (mapOf count root) (now (nodes .entry)) (now (colours .entry)) (rangeOf «lo_kind» lo «hi_kind» hi)
-        (cursorOf slot levels bits))))
-        × (now (answer .exit)
-        ≡ handed (now (answer .entry)) (ranged (kinds «lo_kind» «hi_kind»)
-        (openStepTold (mapOf count root) (now (nodes .entry)) (now (colours .entry)) (rangeOf «lo_kind» lo «hi_kind» hi)
-        (cursorOf slot levels bits)))) ⌝ }
+    ensures { λ r. ⌜ exit r (now (answer .exit)) []
+        ≡ openStepExit (kinds «lo_kind» «hi_kind») (now (answer .entry)) (mapOf count root) (now (nodes .entry)) (now (colours .entry)) (rangeOf «lo_kind» lo «hi_kind» hi) (cursorOf slot levels bits) ⌝ }
 {
     if answer.len() < 5 {
         return SHORT_ANSWER;
@@ -132,12 +124,8 @@ pub extern "C" fn iset_open_step_exact(
     bits: u64,
     answer: &mut [u64],
 ) -> u64
-    ensures { λ r. ⌜ (r
-        ≡ number (now (answer .entry))
-        (openStepTold (mapOf count root) (now (nodes .entry)) (now (colours .entry)) (exactOf start end) (cursorOf slot levels bits)))
-        × (now (answer .exit)
-        ≡ handed (now (answer .entry))
-        (openStepTold (mapOf count root) (now (nodes .entry)) (now (colours .entry)) (exactOf start end) (cursorOf slot levels bits))) ⌝ }
+    ensures { λ r. ⌜ exit r (now (answer .exit)) []
+        ≡ openStepExit true (now (answer .entry)) (mapOf count root) (now (nodes .entry)) (now (colours .entry)) (exactOf start end) (cursorOf slot levels bits) ⌝ }
 {
     if answer.len() < 5 {
         return SHORT_ANSWER;
@@ -164,15 +152,12 @@ fn drain(
     answer: &mut [u64],
 ) -> u64
     requires { ⌜ 5 ≤ length (now answer) ⌝ }
-    ensures { λ r. ⌜ (r
-        ≡ number (now (answer .entry)) (openDrainTold map (now (nodes .entry)) (now (colours .entry)) query cursor limit (now (out .entry))))
-        × (now (answer .exit)
-        ≡ handed (now (answer .entry)) (openDrainTold map (now (nodes .entry)) (now (colours .entry)) query cursor limit (now (out .entry))))
-        × (now (out .exit) ≡ openDrainOutput map (now (nodes .entry)) (now (colours .entry)) query cursor limit (now (out .entry))) ⌝ }
+    ensures { λ r. ⌜ exit r (now (answer .exit)) (now (out .exit) ∷ [])
+        ≡ openDrainExit true (now (answer .entry)) map (now (nodes .entry)) (now (colours .entry)) query cursor limit (now (out .entry)) ⌝ }
 {
     match map.open_drain(nodes, colours, query, cursor, limit, out) {
-        Emptied::Refused(why) => why.number(),
-        Emptied::Done(d) => {
+        Drain::Refused(why) => why.number(),
+        Drain::Done(d) => {
             put_drained(d, answer);
             0
         }
@@ -198,23 +183,8 @@ pub extern "C" fn iset_open_drain(
     out: &mut [u64],
     answer: &mut [u64],
 ) -> u64
-    ensures { λ r. ⌜ (r
-        ≡ number (now (answer .entry)) (ranged (kinds «lo_kind» «hi_kind»)
-        (openDrainTold (mapOf count root) (now (nodes .entry)) (now (colours .entry)) (rangeOf «lo_kind» lo «hi_kind» hi)
-        (cursorOf slot levels bits) limit (now (out .entry)))))
-        × (now (answer .exit)
-        ≡ handed (now (answer .entry)) (ranged (kinds «lo_kind» «hi_kind»)
-        (openDrainTold (mapOf count root) (now (nodes .entry)) (now (colours .entry)) (rangeOf «lo_kind» lo «hi_kind» hi)
-        (cursorOf slot levels bits) limit (now (out .entry)))))
-        × (now (out .exit)
-        ≡ left (now (answer .entry))
-        (openDrainTold (mapOf count root) (now (nodes .entry)) (now (colours .entry)) (rangeOf «lo_kind» lo «hi_kind» hi)
-        (cursorOf slot levels bits) limit (now (out .entry)))
-        (now (out .entry))
-        (cond (kinds «lo_kind» «hi_kind»)
-        (openDrainOutput (mapOf count root) (now (nodes .entry)) (now (colours .entry)) (rangeOf «lo_kind» lo «hi_kind» hi)
-        (cursorOf slot levels bits) limit (now (out .entry)))
-        (now (out .entry)))) ⌝ }
+    ensures { λ r. ⌜ exit r (now (answer .exit)) (now (out .exit) ∷ [])
+        ≡ openDrainExit (kinds «lo_kind» «hi_kind») (now (answer .entry)) (mapOf count root) (now (nodes .entry)) (now (colours .entry)) (rangeOf «lo_kind» lo «hi_kind» hi) (cursorOf slot levels bits) limit (now (out .entry)) ⌝ }
 {
     if answer.len() < 5 {
         return SHORT_ANSWER;
@@ -251,21 +221,8 @@ pub extern "C" fn iset_open_drain_exact(
     out: &mut [u64],
     answer: &mut [u64],
 ) -> u64
-    ensures { λ r. ⌜ (r
-        ≡ number (now (answer .entry))
-        (openDrainTold (mapOf count root) (now (nodes .entry)) (now (colours .entry)) (exactOf start end)
-        (cursorOf slot levels bits) limit (now (out .entry))))
-        × (now (answer .exit)
-        ≡ handed (now (answer .entry))
-        (openDrainTold (mapOf count root) (now (nodes .entry)) (now (colours .entry)) (exactOf start end)
-        (cursorOf slot levels bits) limit (now (out .entry))))
-        × (now (out .exit)
-        ≡ left (now (answer .entry))
-        (openDrainTold (mapOf count root) (now (nodes .entry)) (now (colours .entry)) (exactOf start end)
-        (cursorOf slot levels bits) limit (now (out .entry)))
-        (now (out .entry))
-        (openDrainOutput (mapOf count root) (now (nodes .entry)) (now (colours .entry)) (exactOf start end)
-        (cursorOf slot levels bits) limit (now (out .entry)))) ⌝ }
+    ensures { λ r. ⌜ exit r (now (answer .exit)) (now (out .exit) ∷ [])
+        ≡ openDrainExit true (now (answer .entry)) (mapOf count root) (now (nodes .entry)) (now (colours .entry)) (exactOf start end) (cursorOf slot levels bits) limit (now (out .entry)) ⌝ }
 {
     if answer.len() < 5 {
         return SHORT_ANSWER;
@@ -294,21 +251,8 @@ pub extern "C" fn iset_open_at(
     out: &mut [u64],
     answer: &mut [u64],
 ) -> u64
-    ensures { λ r. ⌜ (r
-        ≡ number (now (answer .entry))
-        (openDrainTold (mapOf count root) (now (nodes .entry)) (now (colours .entry)) (rangeOf 0 address 0 address)
-        (fresh root) (length (now (out .entry))) (now (out .entry))))
-        × (now (answer .exit)
-        ≡ handed (now (answer .entry))
-        (openDrainTold (mapOf count root) (now (nodes .entry)) (now (colours .entry)) (rangeOf 0 address 0 address)
-        (fresh root) (length (now (out .entry))) (now (out .entry))))
-        × (now (out .exit)
-        ≡ left (now (answer .entry))
-        (openDrainTold (mapOf count root) (now (nodes .entry)) (now (colours .entry)) (rangeOf 0 address 0 address)
-        (fresh root) (length (now (out .entry))) (now (out .entry)))
-        (now (out .entry))
-        (openDrainOutput (mapOf count root) (now (nodes .entry)) (now (colours .entry)) (rangeOf 0 address 0 address)
-        (fresh root) (length (now (out .entry))) (now (out .entry)))) ⌝ }
+    ensures { λ r. ⌜ exit r (now (answer .exit)) (now (out .exit) ∷ [])
+        ≡ openDrainExit true (now (answer .entry)) (mapOf count root) (now (nodes .entry)) (now (colours .entry)) (rangeOf 0 address 0 address) (fresh root) (length (now (out .entry))) (now (out .entry)) ⌝ }
 {
     if answer.len() < 5 {
         return SHORT_ANSWER;

@@ -4,18 +4,18 @@ use capi::SHORT_ANSWER;
 use capi::answer::put_tally;
 use capi::range::are_kinds;
 use capi::range::range;
+use iset::Interval;
 use iset::Map;
+use iset::Query;
 use iset::scan::Looked;
-use iter::rules::Query;
-use words::interval::Interval;
 ghost use mathlib.Core.Path.{_≡_};
-ghost use mathlib.Core.Bool.{cond};
+ghost use mathlib.Core.Bool.{true};
+ghost use mathlib.Core.List.{[], _∷_};
 ghost use Prim.Native.Nat.{_≤_};
 ghost use lib.ListN.{length};
-ghost use Rattle.iset.specs.Plain.{openPlainOutput};
-ghost use Rattle.capi.specs.Replies.{mapOf, number, handed, left};
-ghost use Rattle.capi.specs.Ranges.{rangeOf, exactOf, kinds, ranged};
-ghost use Rattle.capi_open.specs.Replies.{openPlainTold};
+ghost use Rattle.capi.specs.Replies.{mapOf, exit};
+ghost use Rattle.capi.specs.Ranges.{rangeOf, exactOf, kinds};
+ghost use Rattle.capi_open.specs.Replies.{openPlainExit};
 
 // A plain lookup of either kind.
 fn looked(
@@ -27,9 +27,8 @@ fn looked(
     answer: &mut [u64],
 ) -> u64
     requires { ⌜ 2 ≤ length (now answer) ⌝ }
-    ensures { λ r. ⌜ (r ≡ number (now (answer .entry)) (openPlainTold map (now (nodes .entry)) (now (colours .entry)) query (now (out .entry))))
-        × (now (answer .exit) ≡ handed (now (answer .entry)) (openPlainTold map (now (nodes .entry)) (now (colours .entry)) query (now (out .entry))))
-        × (now (out .exit) ≡ openPlainOutput map (now (nodes .entry)) (now (colours .entry)) query (now (out .entry))) ⌝ }
+    ensures { λ r. ⌜ exit r (now (answer .exit)) (now (out .exit) ∷ [])
+        ≡ openPlainExit true (now (answer .entry)) map (now (nodes .entry)) (now (colours .entry)) query (now (out .entry)) ⌝ }
 {
     match map.open_plain(nodes, colours, query, out) {
         Looked::Refused(why) => why.number(),
@@ -54,19 +53,8 @@ pub extern "C" fn iset_open_plain(
     out: &mut [u64],
     answer: &mut [u64],
 ) -> u64
-    ensures { λ r. ⌜ (r
-        ≡ number (now (answer .entry)) (ranged (kinds «lo_kind» «hi_kind»)
-        (openPlainTold (mapOf count root) (now (nodes .entry)) (now (colours .entry)) (rangeOf «lo_kind» lo «hi_kind» hi) (now (out .entry)))))
-        × (now (answer .exit)
-        ≡ handed (now (answer .entry)) (ranged (kinds «lo_kind» «hi_kind»)
-        (openPlainTold (mapOf count root) (now (nodes .entry)) (now (colours .entry)) (rangeOf «lo_kind» lo «hi_kind» hi) (now (out .entry)))))
-        × (now (out .exit)
-        ≡ left (now (answer .entry))
-        (openPlainTold (mapOf count root) (now (nodes .entry)) (now (colours .entry)) (rangeOf «lo_kind» lo «hi_kind» hi) (now (out .entry)))
-        (now (out .entry))
-        (cond (kinds «lo_kind» «hi_kind»)
-        (openPlainOutput (mapOf count root) (now (nodes .entry)) (now (colours .entry)) (rangeOf «lo_kind» lo «hi_kind» hi) (now (out .entry)))
-        (now (out .entry)))) ⌝ }
+    ensures { λ r. ⌜ exit r (now (answer .exit)) (now (out .exit) ∷ [])
+        ≡ openPlainExit (kinds «lo_kind» «hi_kind») (now (answer .entry)) (mapOf count root) (now (nodes .entry)) (now (colours .entry)) (rangeOf «lo_kind» lo «hi_kind» hi) (now (out .entry)) ⌝ }
 {
     if answer.len() < 2 {
         return SHORT_ANSWER;
@@ -97,15 +85,8 @@ pub extern "C" fn iset_open_plain_exact(
     out: &mut [u64],
     answer: &mut [u64],
 ) -> u64
-    ensures { λ r. ⌜ (r
-        ≡ number (now (answer .entry)) (openPlainTold (mapOf count root) (now (nodes .entry)) (now (colours .entry)) (exactOf start end) (now (out .entry))))
-        × (now (answer .exit)
-        ≡ handed (now (answer .entry)) (openPlainTold (mapOf count root) (now (nodes .entry)) (now (colours .entry)) (exactOf start end) (now (out .entry))))
-        × (now (out .exit)
-        ≡ left (now (answer .entry))
-        (openPlainTold (mapOf count root) (now (nodes .entry)) (now (colours .entry)) (exactOf start end) (now (out .entry)))
-        (now (out .entry))
-        (openPlainOutput (mapOf count root) (now (nodes .entry)) (now (colours .entry)) (exactOf start end) (now (out .entry)))) ⌝ }
+    ensures { λ r. ⌜ exit r (now (answer .exit)) (now (out .exit) ∷ [])
+        ≡ openPlainExit true (now (answer .entry)) (mapOf count root) (now (nodes .entry)) (now (colours .entry)) (exactOf start end) (now (out .entry)) ⌝ }
 {
     if answer.len() < 2 {
         return SHORT_ANSWER;

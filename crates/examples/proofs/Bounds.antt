@@ -17,7 +17,8 @@ use Rattle.iter.specs.Drains.{drain}
 use Rattle.iter.specs.Overlap.{overlap}
 use Rattle.iter_laws.specs.Entered.{touching}
 use Rattle.iter_laws.proofs.OverlapRuns.{overlap-bound}
-use Rattle.examples.specs.Stores.{Store, treeAt, treeOf, touched, boundOf}
+use Rattle.iset.specs.Sequence.{State}
+use Rattle.examples.specs.Stores.{treeAt, treeOf, touched, boundOf}
 
 read-at : (W : List ℕ) (n : ℕ) → n ≤ 65535 → (p k levels : ℕ) (t : Tree) → Shape W n p k t → height t ≤ levels → treeAt W levels k ≡ t
 unfolding treeAt
@@ -33,7 +34,7 @@ read-at W n small p k (suc levels) (node l s r) h low =
       read-at W n small s (kid W false s) levels r (h .right) (omega arith),
     ) refl
 
-module _ (t : Store) (small : t .map .count ≤ 65535) (P : Passes (t .words) (t .colours) (t .map .count) (t .map .root)) where
+module _ (t : State) (small : t .map .count ≤ 65535) (P : Passes (t .words) (t .colours) (t .map .count) (t .map .root)) where
   pub read-tree : treeOf t ≡ P .tree
   unfolding treeOf
   read-tree =

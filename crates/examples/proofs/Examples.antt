@@ -28,11 +28,11 @@ use Rattle.iter.specs.Exact.{equals, sorted as sortedBy, shouldGoExact, find}
 use Rattle.iter.specs.Queries.{rules}
 use Rattle.plain_laws.specs.Tour.{ascend, nextOf, firstOf, tour, entries, plain}
 use Rattle.iset.specs.Check.{countNumber, checkRule}
-use Rattle.iset.specs.Build.{buildNumber, buildRule, buildNodes, buildColour}
-use Rattle.iset.specs.Remove.{removeNumber, removeCall, removeNodes, removeColours, openRemoveNumber}
-use Rattle.iset.specs.Insert.{fullNumber, openInsertNumber, roomThenCheck, insertNumber, insertCall, insertNodes, insertColours}
-use Rattle.iset.specs.Lookup.{startNumber, stepNumber, drainNumber, startCall, stepCall, drainCall, drainOutput, openStartNumber, openStepNumber, openDrainNumber}
-use Rattle.iset.specs.Plain.{openPlainNumber, plainNumber, plainCall, plainOutput}
+use Rattle.iset.specs.Build.{buildNumber, buildCall}
+use Rattle.iset.specs.Remove.{removeNumber, removeCall, openRemoveNumber}
+use Rattle.iset.specs.Insert.{fullNumber, openInsertNumber, roomThenCheck, insertNumber, insertCall}
+use Rattle.iset.specs.Lookup.{startNumber, stepNumber, drainNumber, startCall, stepCall, drainCall, openStartNumber, openStepNumber, openDrainNumber}
+use Rattle.iset.specs.Plain.{openPlainNumber, plainNumber, plainCall}
 use Rattle.examples.specs.Stores.{buildIn, _minus_, _plus_, treeAt, treeOf, touched, boundOf}
 use Rattle.examples.specs.Rows.{Each, outcome, stepsFrom, foundFrom, leftIn, tell}
 use Rattle.examples.specs.Table.{storeA, storeA′, storeB, storeC, table}
@@ -75,15 +75,15 @@ unfolding stateAt putState top marked pushed popped upTo deeper mark down move e
 walking = record {}
 
 looking : Unit {0}
-unfolding meets shouldGo equals sortedBy shouldGoExact find rules openStartNumber openStepNumber openDrainNumber startNumber stepNumber drainNumber startCall stepCall drainCall drainOutput
+unfolding meets shouldGo equals sortedBy shouldGoExact find rules openStartNumber openStepNumber openDrainNumber startNumber stepNumber drainNumber startCall stepCall drainCall
 looking = record {}
 
 touring : Unit {0}
-unfolding ascend nextOf firstOf tour entries plain openPlainNumber plainNumber plainCall plainOutput
+unfolding ascend nextOf firstOf tour entries plain openPlainNumber plainNumber plainCall
 touring = record {}
 
 changing : Unit {0}
-unfolding buildNumber buildRule buildNodes buildColour openRemoveNumber removeNumber removeCall removeNodes removeColours fullNumber openInsertNumber roomThenCheck insertNumber insertCall insertNodes insertColours
+unfolding buildNumber buildCall openRemoveNumber removeNumber removeCall fullNumber openInsertNumber roomThenCheck insertNumber insertCall
 changing = record {}
 
 telling : Unit {0}

@@ -4,7 +4,7 @@ use mathlib.Core.Bool.{false, cond}
 use mathlib.Core.List.{List, [], _∷_}
 use Prim.Native.Nat.{ℕ, zero, suc, _*_}
 use lib.Dec.{eqb}
-use lib.ListN.{length, replicate, take, drop}
+use lib.ListN.{replicate, take, drop}
 use Rattle.words.specs.Nodes.{kid}
 use Rattle.words.specs.declared.interval.Bound.{Bound}
 use Rattle.words.specs.declared.interval.Interval.{Interval}
@@ -18,12 +18,19 @@ use Rattle.iter.specs.Cursors.{fresh}
 use Rattle.iter.specs.declared.Cursor.{Cursor}
 use Rattle.iter.specs.declared.rules.Query.{Query}
 use Rattle.iter.specs.declared.rules.Query.the-variants.{Overlap, Exact}
-use Rattle.iset.specs.Build.{BuildAnswer, buildRule}
-use Rattle.iset.specs.Remove.{RemoveAnswer, removeCall, removeColours}
+use Rattle.iset.specs.Changes.{Change, Output}
+use Rattle.iset.specs.Build.{BuildAnswer, buildCall}
+use Rattle.iset.specs.Remove.{RemoveAnswer, removeCall}
 use Rattle.iset.specs.Insert.{InsertAnswer, insertCall}
-use Rattle.iset.specs.Lookup.{StartAnswer, StepAnswer, DrainAnswer, startCall, stepCall, drainCall, drainOutput}
-use Rattle.iset.specs.Plain.{PlainAnswer, plainCall, plainOutput}
-use Rattle.examples.specs.Stores.{Store, buildIn, _plus_, treeOf, touched, boundOf}
+use Rattle.iset.specs.Lookup.{StartAnswer, StepAnswer, DrainAnswer, startCall, stepCall, drainCall}
+use Rattle.iset.specs.Plain.{PlainAnswer, plainCall}
+use Rattle.iset.specs.Sequence.{State}
+use Rattle.iset.specs.declared.Map.{Map}
+use Rattle.examples.specs.Stores.{buildIn, _plus_, treeOf, touched, boundOf}
+
+-- a map, by its count and its root
+abbrev pub mapOf : ℕ → ℕ → Map
+mapOf count root = record { count = count; root = root }
 
 -- a pair (old slot, new slot)
 infix 70 _to_
@@ -56,15 +63,15 @@ pub data Step : Type 0 where
 -- an output.
 pub data Call : Type 0 where
   build : ℕ → ℕ → List ℕ → Call
-  remove : Store → ℕ → Call
-  insert : Store → Entry → Call
-  rootRight : Store → Call
-  slot : Store → ℕ → Call
-  overlap : Store → Bound → Bound → Call
-  step : Store → Bound → Bound → Call
-  drain : Store → Bound → Bound → Cursor → ℕ → List ℕ → Call
-  exact : Store → Interval → Call
-  plain : Store → Query → List ℕ → Call
+  remove : State → ℕ → Call
+  insert : State → Entry → Call
+  rootRight : State → Call
+  slot : State → ℕ → Call
+  overlap : State → Bound → Bound → Call
+  step : State → Bound → Bound → Call
+  drain : State → Bound → Bound → Cursor → ℕ → List ℕ → Call
+  exact : State → Interval → Call
+  plain : State → Query → List ℕ → Call
 
 -- what a build or an insertion leaves; the tree says which node has which children
 pub record Left : Type 0 where
@@ -108,7 +115,7 @@ unfoldable pub outcome : StepAnswer → Outcome
 outcome a = cond (eqb (a .no) 0) (cond (a .hit) (hit (a .slot)) end) (refused (a .no))
 
 -- the steps from a cursor on, up to the first that is no hit, and k at the most
-unfoldable pub stepsFrom : Store → Query → ℕ → Cursor → List Step
+unfoldable pub stepsFrom : State → Query → ℕ → Cursor → List Step
 stepsFrom t q zero c = []
 stepsFrom t q (suc k) c =
     let a : StepAnswer = stepCall (t .map) (t .words) (t .colours) q c in
@@ -116,26 +123,24 @@ stepsFrom t q (suc k) c =
     (outcome a entering a .entered) ∷ cond (a .hit) rest []
 
 -- from a cursor on, with the limit 0 and an output of 64 places, more than the stores have entries
-unfoldable pub foundFrom : Store → Query → Cursor → Found
+unfoldable pub foundFrom : State → Query → Cursor → Found
 foundFrom t q c =
-    let d : DrainAnswer = drainCall (t .map) (t .words) (t .colours) q c 0 64 in
-    record {
-      steps = stepsFrom t q (suc (t .map .count)) c;
-      hits = take (d .hits) (drainOutput (t .map) (t .words) (t .colours) q c 0 (replicate 64 0));
-      entered = d .entered;
-    }
+    let d : Output DrainAnswer = drainCall (t .map) (t .words) (t .colours) q c 0 (replicate 64 0) in
+    record { steps = stepsFrom t q (suc (t .map .count)) c; hits = take (d .answer .hits) (d .output); entered = d .answer .entered }
 
 abbrev pub span : Bound → Bound → Span
 span lo hi = record { lo = lo; hi = hi }
 
-unfoldable pub leftIn : Store → Left
+unfoldable pub leftIn : State → Left
 leftIn t = record { tree = treeOf t; bytes = t .colours; h = height (treeOf t); words = t .words }
 
 -- what the rules of the public calls tell
 unfoldable pub tell : Call → Told
-tell (build words bytes S) = built (buildRule (replicate words 0) (replicate bytes 0) S) (leftIn (buildIn words bytes S))
-tell (remove t s) = removed (removeCall (t .map) (t .words) (t .colours) s) (removeColours (t .map) (t .words) (t .colours) s)
-tell (insert t e) = inserted (insertCall (t .map) (t .words) (t .colours) e) (leftIn (t plus e))
+tell (build words bytes S) = built (buildCall (replicate words 0) (replicate bytes 0) S .answer) (leftIn (buildIn words bytes S))
+tell (remove t s) =
+    let r : Change RemoveAnswer = removeCall (t .map) (t .words) (t .colours) s in
+    removed (r .answer) (r .colours)
+tell (insert t e) = inserted (insertCall (t .map) (t .words) (t .colours) e .answer) (leftIn (t plus e))
 tell (rootRight t) = link (kid (t .words) false (t .map .root))
 tell (slot t k) = holds (take 8 (drop (8 * k) (t .words)))
 tell (overlap t lo hi) =
@@ -144,13 +149,14 @@ tell (overlap t lo hi) =
     (record { t = touched t (span lo hi); bound = boundOf t (span lo hi) })
 tell (step t lo hi) = stepped (stepCall (t .map) (t .words) (t .colours) (Overlap (span lo hi)) (fresh (t .map .root)))
 tell (drain t lo hi c limit out) =
-    drained
-    (drainCall (t .map) (t .words) (t .colours) (Overlap (span lo hi)) c limit (length out))
-    (drainOutput (t .map) (t .words) (t .colours) (Overlap (span lo hi)) c limit out)
+    let d : Output DrainAnswer = drainCall (t .map) (t .words) (t .colours) (Overlap (span lo hi)) c limit out in
+    drained (d .answer) (d .output)
 tell (exact t x) =
     let a : StartAnswer = startCall (t .map) (t .words) (t .colours) x in
     started a (foundFrom t (Exact x) (a .cursor))
-tell (plain t q out) = looked (plainCall (t .map) (t .words) (t .colours) q (length out)) (plainOutput (t .map) (t .words) (t .colours) q out)
+tell (plain t q out) =
+    let d : Output PlainAnswer = plainCall (t .map) (t .words) (t .colours) q out in
+    looked (d .answer) (d .output)
 
 -- a row holds if the rules tell what it says; a table, if each of its rows holds
 abbrev pub Holds : Row → Type 0

@@ -1,4 +1,4 @@
--- A map with what is lent with it; how a build, a removal and an insertion leave it; and the tree that its links make.
+-- How a build, a removal and an insertion leave a map with what is lent with it, and the tree that its links make.
 use mathlib.Core.Bool.{true, false, cond}
 use mathlib.Core.List.{List}
 use Prim.Native.Nat.{ℕ, zero, suc, _+_, _-_, _*_, _/_}
@@ -10,49 +10,22 @@ use Rattle.words.specs.declared.interval.Span.{Span}
 use Rattle.words.specs.declared.node.Entry.{Entry}
 use Rattle.tree.specs.Tree.{Tree, leaf, node, height}
 use Rattle.iter_laws.specs.Entered.{touching}
-use Rattle.iset.specs.Build.{buildRule, buildNodes, buildColour}
-use Rattle.iset.specs.Remove.{removeCall, removeNodes, removeColours}
-use Rattle.iset.specs.Insert.{insertCall, insertNodes, insertColours}
-use Rattle.iset.specs.declared.Map.{Map}
-
--- "A map is a count and a root by value, with two lent slices."
-pub record Store : Type 0 where
-  pub map : Map
-  pub words : List ℕ
-  pub colours : List ℕ
+use Rattle.iset.specs.Maps.{emptyMap}
+use Rattle.iset.specs.Sequence.{State, build, remove, insert, answered}
 
 -- the store that is built from the list S in so many words and bytes, all of them 0 before
-unfoldable pub buildIn : ℕ → ℕ → List ℕ → Store
-buildIn words bytes S =
-    let W : List ℕ = replicate words 0 in
-    let C : List ℕ = replicate bytes 0 in
-    record {
-      map = record { count = buildRule W C S .count; root = buildRule W C S .root };
-      words = buildNodes W C S;
-      colours = buildColour W C S;
-    }
+unfoldable pub buildIn : ℕ → ℕ → List ℕ → State
+buildIn words bytes S = answered (record { map = emptyMap; words = replicate words 0; colours = replicate bytes 0 }) (build S)
 
 -- the store after the removal of slot s
 infixl 75 _minus_
-unfoldable pub _minus_ : Store → ℕ → Store
-_minus_ t s =
-    let m : Map = t .map in
-    record {
-      map = record { count = removeCall m (t .words) (t .colours) s .count; root = removeCall m (t .words) (t .colours) s .root };
-      words = removeNodes m (t .words) (t .colours) s;
-      colours = removeColours m (t .words) (t .colours) s;
-    }
+unfoldable pub _minus_ : State → ℕ → State
+_minus_ t s = answered t (remove s)
 
 -- the store after the insertion of the entry e
 infixl 75 _plus_
-unfoldable pub _plus_ : Store → Entry → Store
-_plus_ t e =
-    let m : Map = t .map in
-    record {
-      map = record { count = insertCall m (t .words) (t .colours) e .count; root = insertCall m (t .words) (t .colours) e .root };
-      words = insertNodes m (t .words) (t .colours) e;
-      colours = insertColours m (t .words) (t .colours) e;
-    }
+unfoldable pub _plus_ : State → Entry → State
+_plus_ t e = answered t (insert e)
 
 -- the tree at the link k, down to so many levels
 unfoldable pub treeAt : List ℕ → ℕ → ℕ → Tree
@@ -63,14 +36,14 @@ treeAt W (suc levels) k =
     cond (eqb k U) leaf (node l k r)
 
 -- the tree of a store: where the store passes the check it is the check's own, at most 32 levels high (`read-tree` of proofs/Bounds)
-unfoldable pub treeOf : Store → Tree
+unfoldable pub treeOf : State → Tree
 treeOf t = treeAt (t .words) 32 (t .map .root)
 
 -- t, the number of entries that "meet or touch" the range, and demand 3's bound h + t * h * (h - 1) / 2, as `overlap-bound` has them
-unfoldable pub touched : Store → Span → ℕ
+unfoldable pub touched : State → Span → ℕ
 touched t q = touching (t .words) q (treeOf t)
 
-unfoldable pub boundOf : Store → Span → ℕ
+unfoldable pub boundOf : State → Span → ℕ
 boundOf t q =
     let h : ℕ = height (treeOf t) in
     h + touched t q * (h * (h - 1)) / 2

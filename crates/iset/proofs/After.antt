@@ -2,26 +2,24 @@
 use mathlib.Core.Path.{_≡_, refl, sym, ap, _∙_}
 use mathlib.Core.Bool.{Bool, true, false, cond}
 use mathlib.Core.List.{List, [], _∷_, map}
-use Prim.Native.Nat.{ℕ, suc, _+_, _-_, _<_, _≤_}
+use Prim.Native.Nat.{ℕ, suc, _-_, _<_}
 use native.Mathlib.Omega.{arith}
 use lib.ListN.{length}
 use lib.Dec.{eqb}
 use borrow.Author.Tests.{eq-eqb, ne-eqb, eqb-true, eqb-false}
 use Rattle.words.specs.Ix.{U}
-use Rattle.words.specs.Nodes.{room, entry}
-use Rattle.words.specs.declared.node.Entry.{Entry}
+use Rattle.words.specs.Nodes.{entry}
 use Rattle.tree.specs.Tree.{hit, slots, without, times}
-use Rattle.tree.specs.Passes.{Passes}
 use Rattle.tree.proofs.Slots.{hit-same, hit-ne, hit-cases, hit-zero, times-slots}
 use Rattle.tree.proofs.Checked.{slot-live}
-use Rattle.tree_rm_laws.specs.Names.{changed, same, tally, Names}
+use Rattle.tree_rm_laws.specs.Names.{changed, same, tally}
 use Rattle.tree_rm_laws.specs.Remove.{Removal, removeRule}
 use Rattle.tree_rm_laws.specs.Removed.{Removed}
 use Rattle.words.specs.declared.pair.Pair.{Pair}
 use Rattle.words.specs.declared.pair.Pairs.{Pairs}
 use Rattle.tree_rm_laws.proofs.PairLaws.{same-else, same-here}
 use Rattle.tree_rm_laws.proofs.Rows.{times-without}
-use Rattle.iset.specs.Remove.{removeNumber, removeCall, removeNodes, moved, slotAfter}
+use Rattle.iset.specs.Remove.{removeNumber, removeCall, moved, slotAfter}
 use Rattle.iset.specs.declared.Map.{Map}
 use Rattle.iset.proofs.Removals.{accepts, tree-before, by-rule}
 
@@ -137,9 +135,9 @@ module _ (m : Map) (W C : List ℕ) (s : ℕ) (e : removeNumber m W C s ≡ 0) w
         rw (ne-eqb a s d, q)
         (slot-live (R .store .words) (R .store .colours) (n - 1) (R .store .root) (D .passes) b (rw (← (times-slots b (D .passes .tree))) o), p)
 
-    pub kept-slot : (slotAfter (removeCall m W C s .pairs) s a < removeCall m W C s .count)
-        × (entry (removeNodes m W C s) (slotAfter (removeCall m W C s .pairs) s a) ≡ entry W a)
-    unfolding removeCall removeNodes
+    pub kept-slot : (slotAfter (removeCall m W C s .answer .pairs) s a < removeCall m W C s .answer .map .count)
+        × (entry (removeCall m W C s .words) (slotAfter (removeCall m W C s .answer .pairs) s a) ≡ entry W a)
+    unfolding removeCall
     kept-slot = rw (eq-eqb (removeNumber m W C s) 0 e) rule-keeps
 
 -- and the removed one has no slot

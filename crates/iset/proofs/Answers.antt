@@ -32,22 +32,23 @@ use Rattle.plain.specs.declared.Tally.{Tally}
 use Rattle.iter.specs.declared.rules.Query.the-variants.{Exact}
 use Rattle.iter_laws.specs.Highest.{Highest}
 use Rattle.iter_laws.proofs.ExactRuns.{exact-start}
+use Rattle.iset.specs.Changes.{Change, Output}
 use Rattle.iset.specs.Check.{checkRule}
-use Rattle.iset.specs.Build.{buildNumber, buildPaper, buildRule, buildNodes, buildColour}
-use Rattle.iset.specs.Remove.{removeNumber, removePaper, removeCall, removeNodes, removeColours}
-use Rattle.iset.specs.Insert.{insertNumber, insertPaper, insertCall, insertNodes, insertColours}
-use Rattle.iset.specs.Lookup.{startNumber, startPaper, startCall, stepPaper, stepCall, drainPaper, drainCall}
-use Rattle.iset.specs.Plain.{plainPaper, plainCall}
+use Rattle.iset.specs.Build.{BuildAnswer, buildNumber, buildAnswer, buildCall}
+use Rattle.iset.specs.Remove.{RemoveAnswer, removeNumber, removeAnswer, removeCall}
+use Rattle.iset.specs.Insert.{InsertAnswer, insertNumber, insertAnswer, insertCall}
+use Rattle.iset.specs.Lookup.{startNumber, startAnswer, startCall, stepAnswer, stepCall, DrainAnswer, drainAnswer, drainCall}
+use Rattle.iset.specs.Plain.{PlainAnswer, plainAnswer, plainCall}
 use Rattle.iset.specs.Demands.{removal, insertion}
 use Rattle.iset.specs.declared.Map.{Map}
 use Rattle.iset.specs.declared.build.Built.the-variants as built
-use Rattle.iset.specs.declared.remove.Gone.{Gone}
+use Rattle.iset.specs.declared.remove.Removed as gone
 use Rattle.iset.specs.declared.remove.Removal.the-variants as removed-as
-use Rattle.iset.specs.declared.insert.Added.{Added}
+use Rattle.iset.specs.declared.insert.Inserted as added
 use Rattle.iset.specs.declared.insert.Insertion.the-variants as inserted-as
 use Rattle.iset.specs.declared.lookup.Started.the-variants as started
 use Rattle.iset.specs.declared.lookup.Stepped.the-variants as stepped
-use Rattle.iset.specs.declared.lookup.Emptied.the-variants as emptied
+use Rattle.iset.specs.declared.lookup.Drain.the-variants as drained
 use Rattle.iset.specs.declared.scan.Looked.the-variants as looked
 use Rattle.iset.proofs.Map.build.Reads as build-reads
 use Rattle.iset.proofs.Map.build.Kinds as build-kinds
@@ -86,18 +87,19 @@ pub fresh-answers : (κs : Lfts 0) (a : K.Dens κs fresh-kinds.ps) (r : K.resT f
 fresh-answers κs a r s p = p
 
 -- A build: as many entries as triples, in a store that passes and holds the list in its order.
-pub build-answers : (W C S : List ℕ) → buildRule W C S .no ≡ 0
-    → (buildRule W C S .count ≡ length S / 3) × Built S W C (length S / 3) (buildNodes W C S) (buildColour W C S) (buildRule W C S .root)
-unfolding buildRule
+pub build-answers : (W C S : List ℕ) → buildCall W C S .answer .no ≡ 0
+    → (buildCall W C S .answer .map .count ≡ length S / 3)
+    × Built S W C (length S / 3) (buildCall W C S .words) (buildCall W C S .colours) (buildCall W C S .answer .map .root)
+unfolding buildCall
 build-answers W C S e =
     let z : buildNumber (length W) (length C) S ≡ 0 = sym (build-no W C S) ∙ e in
     (rw (eq-eqb (buildNumber (length W) (length C) S) 0 z), builds W C S z)
 
 -- A removal: the count is one less; value, pairs, root and what is left are those of a removal of slot s.
-pub remove-answers : (m : Map) (W C : List ℕ) (s : ℕ) → removeCall m W C s .no ≡ 0 → (P : Passes W C (m .count) (m .root))
-    → (removeCall m W C s .count ≡ m .count - 1)
+pub remove-answers : (m : Map) (W C : List ℕ) (s : ℕ) → removeCall m W C s .answer .no ≡ 0 → (P : Passes W C (m .count) (m .root))
+    → (removeCall m W C s .answer .map .count ≡ m .count - 1)
     × Removed W C (m .count) (m .root) s P (removal m W C s)
-unfolding removeCall removeNodes removeColours
+unfolding removeCall
 remove-answers m W C s e P =
     let z : removeNumber m W C s ≡ 0 = sym (remove-no m W C s) ∙ e in
     let h : m .count ≤ room (length W) (length C) = check-zero m W C (removals.accepts m W C s z .0) .0 in
@@ -105,12 +107,12 @@ remove-answers m W C s e P =
     (refl, removed W C (m .count) (m .root) s (omega arith) (omega arith) (omega arith) (removals.accepts m W C s z .1) P)
 
 -- An insertion: the count is one more; the slot it names is the old count, "slot count is always the next one", and there the new entry stands.
-pub insert-answers : (m : Map) (W C : List ℕ) (e : Entry) → insertCall m W C e .no ≡ 0 → (P : Passes W C (m .count) (m .root))
-    → (insertCall m W C e .slot ≡ m .count)
-    × (entry (insertNodes m W C e) (insertCall m W C e .slot) ≡ e)
-    × (insertCall m W C e .count ≡ m .count + 1)
+pub insert-answers : (m : Map) (W C : List ℕ) (e : Entry) → insertCall m W C e .answer .no ≡ 0 → (P : Passes W C (m .count) (m .root))
+    → (insertCall m W C e .answer .slot ≡ m .count)
+    × (entry (insertCall m W C e .words) (insertCall m W C e .answer .slot) ≡ e)
+    × (insertCall m W C e .answer .map .count ≡ m .count + 1)
     × Inserted W C (m .count) (m .root) e P (insertion m W C e)
-unfolding insertCall insertNodes insertColours
+unfolding insertCall
 insert-answers m W C e i P =
     let z : insertNumber m W C e ≡ 0 = sym (insert-no m W C e) ∙ i in
     let a = insertions.accepts m W C e z in
@@ -133,25 +135,25 @@ module _ (m : Map) (W C : List ℕ) (x : Interval) (e : startCall m W C x .no �
 -- Said of the code: where an answer r that a call's promise allows from its arguments a is no refusal, its parts are those above.
 pub build-done : (κs : Lfts 3) (a : K.Dens κs build-kinds.ps) (r : K.resT build-kinds.r κs .Denot) (s : AtExit (K.endedOf 3 build-kinds.ps build-kinds.r) κs)
     → build-reads.Post κs a r s → (m : Map) → r ≡ built.Done m
-    → buildRule (now (a .0)) (now (a .1 .0)) (now (a .1 .1 .0)) ≡ record { no = 0; count = m .count; root = m .root }
-build-done κs a r s p m e = sym (p .0) ∙ ap buildPaper e
+    → buildCall (now (a .0)) (now (a .1 .0)) (now (a .1 .1 .0)) .answer ≡ record { no = 0; map = m }
+build-done κs a r s p m e = ap (λ (c : Change BuildAnswer). c .answer) (sym p) ∙ ap buildAnswer e
 
 pub remove-done : (κs : Lfts 2) (a : K.Dens κs remove-kinds.ps) (r : K.resT remove-kinds.r κs .Denot) (s : AtExit (K.endedOf 2 remove-kinds.ps remove-kinds.r) κs)
-    → remove-reads.Post κs a r s → (g : Gone) → r ≡ removed-as.Done g
-    → removeCall (a .0) (now (a .1 .0)) (now (a .1 .1 .0)) (a .1 .1 .1 .0)
-    ≡ record { no = 0; value = g .value; count = g .map .count; root = g .map .root; pairs = g .pairs; reach = g .reach }
-remove-done κs a r s p g e = sym (p .0) ∙ ap (removePaper (a .0)) e
+    → remove-reads.Post κs a r s → (g : gone.Removed) → r ≡ removed-as.Done g
+    → removeCall (a .0) (now (a .1 .0)) (now (a .1 .1 .0)) (a .1 .1 .1 .0) .answer
+    ≡ record { no = 0; value = g .value; map = g .map; pairs = g .pairs; reach = g .reach }
+remove-done κs a r s p g e = ap (λ (c : Change RemoveAnswer). c .answer) (sym p) ∙ ap (removeAnswer (a .0)) e
 
 pub insert-done : (κs : Lfts 2) (a : K.Dens κs insert-kinds.ps) (r : K.resT insert-kinds.r κs .Denot) (s : AtExit (K.endedOf 2 insert-kinds.ps insert-kinds.r) κs)
-    → insert-reads.Post κs a r s → (g : Added) → r ≡ inserted-as.Done g
-    → insertCall (a .0) (now (a .1 .0)) (now (a .1 .1 .0)) (record { start = a .1 .1 .1 .0; end = a .1 .1 .1 .1 .0; value = a .1 .1 .1 .1 .1 .0 })
-    ≡ record { no = 0; slot = g .slot; count = g .map .count; root = g .map .root; reach = g .reach }
-insert-done κs a r s p g e = sym (p .0) ∙ ap (insertPaper (a .0)) e
+    → insert-reads.Post κs a r s → (g : added.Inserted) → r ≡ inserted-as.Done g
+    → insertCall (a .0) (now (a .1 .0)) (now (a .1 .1 .0)) (record { start = a .1 .1 .1 .0; end = a .1 .1 .1 .1 .0; value = a .1 .1 .1 .1 .1 .0 }) .answer
+    ≡ record { no = 0; slot = g .slot; map = g .map; reach = g .reach }
+insert-done κs a r s p g e = ap (λ (c : Change InsertAnswer). c .answer) (sym p) ∙ ap (insertAnswer (a .0)) e
 
 pub fresh-exact-done : (κs : Lfts 2) (a : K.Dens κs exact-kinds.ps) (r : K.resT exact-kinds.r κs .Denot) (s : AtExit (K.endedOf 2 exact-kinds.ps exact-kinds.r) κs)
     → exact-reads.Post κs a r s → (c : Cursor) → r ≡ started.Done c
     → startCall (a .0) (now (a .1 .0)) (now (a .1 .1 .0)) (a .1 .1 .1 .0) ≡ record { no = 0; cursor = c }
-fresh-exact-done κs a r s p c e = sym p ∙ ap startPaper e
+fresh-exact-done κs a r s p c e = sym p ∙ ap startAnswer e
 
 -- a hit's slot is its cursor's; at the end the slot is U and the cursor (U, no levels)
 pub step-done : (κs : Lfts 2) (a : K.Dens κs step-kinds.ps) (r : K.resT step-kinds.r κs .Denot) (s : AtExit (K.endedOf 2 step-kinds.ps step-kinds.r) κs)
@@ -160,16 +162,16 @@ pub step-done : (κs : Lfts 2) (a : K.Dens κs step-kinds.ps) (r : K.resT step-k
     ≡ record { no = 0; hit = true; slot = c .slot; next = c; entered = n })
     × (r ≡ stepped.Done (End n) → stepCall (a .0) (now (a .1 .0)) (now (a .1 .1 .0)) (a .1 .1 .1 .0) (a .1 .1 .1 .1 .0)
     ≡ record { no = 0; hit = false; slot = U; next = record { slot = U; levels = 0; bits = 0 }; entered = n })
-step-done κs a r s p c n = (λ e. sym p ∙ ap (stepPaper (a .1 .1 .1 .1 .0)) e, λ e. sym p ∙ ap (stepPaper (a .1 .1 .1 .1 .0)) e)
+step-done κs a r s p c n = (λ e. sym p ∙ ap (stepAnswer (a .1 .1 .1 .1 .0)) e, λ e. sym p ∙ ap (stepAnswer (a .1 .1 .1 .1 .0)) e)
 
 pub drain-done : (κs : Lfts 3) (a : K.Dens κs drain-kinds.ps) (r : K.resT drain-kinds.r κs .Denot) (s : AtExit (K.endedOf 3 drain-kinds.ps drain-kinds.r) κs)
-    → drain-reads.Post κs a r s → (d : Drained) → r ≡ emptied.Done d
-    → drainCall (a .0) (now (a .1 .0)) (now (a .1 .1 .0)) (a .1 .1 .1 .0) (a .1 .1 .1 .1 .0) (a .1 .1 .1 .1 .1 .0) (length (now (a .1 .1 .1 .1 .1 .1 .0)))
+    → drain-reads.Post κs a r s → (d : Drained) → r ≡ drained.Done d
+    → drainCall (a .0) (now (a .1 .0)) (now (a .1 .1 .0)) (a .1 .1 .1 .0) (a .1 .1 .1 .1 .0) (a .1 .1 .1 .1 .1 .0) (now (a .1 .1 .1 .1 .1 .1 .0)) .answer
     ≡ record { no = 0; hits = d .hits; entered = d .entered; next = d .next }
-drain-done κs a r s p d e = sym (p .0) ∙ ap (drainPaper (a .1 .1 .1 .1 .0)) e
+drain-done κs a r s p d e = ap (λ (c : Output DrainAnswer). c .answer) (sym p) ∙ ap (drainAnswer (a .1 .1 .1 .1 .0)) e
 
 pub plain-done : (κs : Lfts 3) (a : K.Dens κs plain-kinds.ps) (r : K.resT plain-kinds.r κs .Denot) (s : AtExit (K.endedOf 3 plain-kinds.ps plain-kinds.r) κs)
     → plain-reads.Post κs a r s → (d : Tally) → r ≡ looked.Done d
-    → plainCall (a .0) (now (a .1 .0)) (now (a .1 .1 .0)) (a .1 .1 .1 .0) (length (now (a .1 .1 .1 .1 .0)))
+    → plainCall (a .0) (now (a .1 .0)) (now (a .1 .1 .0)) (a .1 .1 .1 .0) (now (a .1 .1 .1 .1 .0)) .answer
     ≡ record { no = 0; hits = d .hits; entered = d .entered }
-plain-done κs a r s p d e = sym (p .0) ∙ ap plainPaper e
+plain-done κs a r s p d e = ap (λ (c : Output PlainAnswer). c .answer) (sym p) ∙ ap plainAnswer e

@@ -35,12 +35,13 @@ use Rattle.iter.specs.Queries.{rules}
 use Rattle.iter.specs.declared.Cursor.{Cursor}
 use Rattle.iter.specs.declared.rules.Query.{Query}
 use Rattle.iter.specs.declared.rules.Query.the-variants.{Overlap, Exact}
+use Rattle.iset.specs.Changes.{Change, change}
 use Rattle.iset.specs.Check.{checkRule}
-use Rattle.iset.specs.Build.{buildRule}
-use Rattle.iset.specs.Remove.{removeNumber, refusedRemoval, removeReach, removeCall, removeNodes, removeColours}
-use Rattle.iset.specs.Insert.{insertNumber, refusedInsertion, insertDone, insertReach, insertCall, insertNodes, insertColours}
-use Rattle.iset.specs.Lookup.{beginning, startNumber, stepNumber, drainNumber, startCall, stepCall, drainCall, drainOutput}
-use Rattle.iset.specs.Below.{SameBelow}
+use Rattle.iset.specs.Build.{buildNumber, refusedBuild, buildList, buildCall}
+use Rattle.iset.specs.Remove.{removeNumber, RemoveAnswer, refusedRemoval, removeReach, removeSlot, removeCall}
+use Rattle.iset.specs.Insert.{insertNumber, InsertAnswer, refusedInsertion, insertReach, insertEntry, insertCall}
+use Rattle.iset.specs.Lookup.{beginning, startNumber, stepNumber, drainNumber, startCall, stepCall, drainCall}
+use Rattle.iset.specs.Below.{SameBelow, SameChange}
 use Rattle.iset.specs.declared.Map.{Map}
 use Rattle.iset.proofs.Checks.{check-zero}
 use Rattle.iset.proofs.Orders.{remove-order, insert-order, start-order, step-order, drain-order}
@@ -53,9 +54,15 @@ unfolding checkRule
 check-below m W C X D s = rw (s .words .0, s .colours .0, whole-below W C X D (m .count) (s .words) (s .colours) (m .root))
 
 -- a build reads no slot at all: its answer goes by the two lengths and the list
-pub build-below : (W C X D S : List ℕ) → length W ≡ length X → length C ≡ length D → buildRule W C S ≡ buildRule X D S
-unfolding buildRule
-build-below W C X D S e f = rw (e, f)
+pub build-below : (W C X D S : List ℕ) → length W ≡ length X → length C ≡ length D → buildCall W C S .answer ≡ buildCall X D S .answer
+unfolding buildCall
+build-below W C X D S e f = rw (e, f) (go (eqb (buildNumber (length X) (length D) S) 0))
+  where
+    go : (t : Bool)
+        → cond t (buildList W C S) (change (refusedBuild (buildNumber (length X) (length D) S)) W C) .answer
+        ≡ cond t (buildList X D S) (change (refusedBuild (buildNumber (length X) (length D) S)) X D) .answer
+    go true = refl
+    go false = refl
 
 -- the rules of a lookup, at a slot below the count
 module _ (n : ℕ) (W X : List ℕ) (A : Agree n W X) where
@@ -198,23 +205,15 @@ module _ (m : Map) (W C X D : List ℕ) (s : SameBelow (m .count) W C X D) where
       same-drainNumber : (places : ℕ) → drainNumber m W C q c limit places ≡ drainNumber m X D q c limit places
       same-drainNumber places = rw (drain-order m W C q c limit places, drain-order m X D q c limit places, same-stepNumber)
 
-      pub drain-below : (places : ℕ) → drainCall m W C q c limit places ≡ drainCall m X D q c limit places
+      pub drain-below : (out : List ℕ) → drainCall m W C q c limit out ≡ drainCall m X D q c limit out
       unfolding drainCall
-      drain-below places = rw (same-drainNumber places, same-drain n W X (s .words) q (limitOf limit places) c)
+      drain-below out = rw (same-drainNumber (length out), same-drain n W X (s .words) q (limitOf limit (length out)) c)
 
-      pub output-below : (out : List ℕ) → drainOutput m W C q c limit out ≡ drainOutput m X D q c limit out
-      unfolding drainOutput
-      output-below out = rw (same-drainNumber (length out), same-drain n W X (s .words) q (limitOf limit (length out)) c)
-
-  -- a call that is refused, by the number k, or not
-  by-number : (k : ℕ) (j : ℕ) (Y Z E F I T G H : List ℕ) → (k ≡ 0 → SameBelow j Y E Z F) → SameBelow j I G T H
-      → SameBelow j (cond (eqb k 0) Y I) (cond (eqb k 0) E G) (cond (eqb k 0) Z T) (cond (eqb k 0) F H)
-  by-number zero j Y Z E F I T G H f g = f refl
-  by-number (suc k) j Y Z E F I T G H f g = rw (ne-eqb (suc k) 0 (λ z. omega arith)) g
-
-  one-answer : {A : Type 0} (k : ℕ) (x y z : A) → (k ≡ 0 → x ≡ y) → cond (eqb k 0) x z ≡ cond (eqb k 0) y z
-  one-answer zero x y z f = f refl
-  one-answer (suc k) x y z f = rw (ne-eqb (suc k) 0 (λ z. omega arith))
+  -- a call that is refused, by the number k, or not; f is the count that an answer has
+  by-number : {A : Type 0} (f : A → ℕ) (k : ℕ) (x y : Change A) (a : A) → (k ≡ 0 → SameChange (f (x .answer)) x y) → SameBelow (f a) W C X D
+      → SameChange (f (cond (eqb k 0) x (change a W C) .answer)) (cond (eqb k 0) x (change a W C)) (cond (eqb k 0) y (change a X D))
+  by-number f zero x y a g h = g refl
+  by-number f (suc k) x y a g h = rw (ne-eqb (suc k) 0 (λ z. omega arith)) (record { answers = refl; leaves = h })
 
   -- a removal
   module _ (t : ℕ) where
@@ -231,19 +230,13 @@ module _ (m : Map) (W C X D : List ℕ) (s : SameBelow (m .count) W C X D) where
         let h : m .count ≤ room (length W) (length C) = check-zero m W C (removals.accepts m W C t e .0) .0 in
         removal.reach-below W X C D n (m .root) t (omega arith) (removals.accepts m W C t e .1) (s .words) (s .colours)
 
-    pub remove-below : removeCall m W C t ≡ removeCall m X D t
+    pub remove-below : SameChange n (removeCall m W C t) (removeCall m X D t)
     unfolding removeCall
     remove-below =
         rw (← same-removeNumber)
-        (one-answer (removeNumber m W C t) _ _ (refusedRemoval m (removeNumber m W C t))
-        (λ e. let r = rule-below e in rw (r .values, r .stores .2, r .pairs, sum-below e)))
-
-    pub remove-leaves-below : SameBelow n (removeNodes m W C t) (removeColours m W C t) (removeNodes m X D t) (removeColours m X D t)
-    unfolding removeNodes removeColours
-    remove-leaves-below =
-        rw (← same-removeNumber)
-        (by-number (removeNumber m W C t) n _ _ _ _ W X C D
-        (λ e. record { words = rule-below e .stores .0; colours = rule-below e .stores .1 }) s)
+        (by-number (λ (a : RemoveAnswer). n) (removeNumber m W C t) (removeSlot m W C t) (removeSlot m X D t) (refusedRemoval m (removeNumber m W C t))
+        (λ e. let r = rule-below e in
+        record { answers = rw (r .values, r .stores .2, r .pairs, sum-below e); leaves = record { words = r .stores .0; colours = r .stores .1 } }) s)
 
   -- an insertion: below the count that it answers
   module _ (e : Entry) where
@@ -261,20 +254,10 @@ module _ (m : Map) (W C X D : List ℕ) (s : SameBelow (m .count) W C X D) where
         let h : m .count < room (length W) (length C) = insertions.accepts m W C e z .0 in
         insertion.reach-below W X C D n (m .root) e (omega arith) (omega arith) (s .words) (s .colours)
 
-    pub insert-below : insertCall m W C e ≡ insertCall m X D e
+    pub insert-below : SameChange (insertCall m W C e .answer .map .count) (insertCall m W C e) (insertCall m X D e)
     unfolding insertCall
     insert-below =
         rw (← same-insertNumber)
-        (one-answer (insertNumber m W C e) _ _ (refusedInsertion m (insertNumber m W C e)) (λ z. rw (added-below z .2, added-sum-below z)))
-
-    pub insert-leaves-below :
-        SameBelow (insertCall m W C e .count) (insertNodes m W C e) (insertColours m W C e) (insertNodes m X D e) (insertColours m X D e)
-    unfolding insertCall insertNodes insertColours
-    insert-leaves-below = rw (← same-insertNumber) (go (insertNumber m W C e) refl)
-      where
-        go : (k : ℕ) → insertNumber m W C e ≡ k
-            → SameBelow (cond (eqb k 0) (insertDone m (insertRule W C n (m .root) e) (insertReach m W C e)) (refusedInsertion m k) .count)
-            (cond (eqb k 0) (insertRule W C n (m .root) e .words) W) (cond (eqb k 0) (insertRule W C n (m .root) e .colours) C)
-            (cond (eqb k 0) (insertRule X D n (m .root) e .words) X) (cond (eqb k 0) (insertRule X D n (m .root) e .colours) D)
-        go zero z = record { words = added-below z .0; colours = added-below z .1 }
-        go (suc k) z = rw (ne-eqb (suc k) 0 (λ z. omega arith)) s
+        (by-number (λ (a : InsertAnswer). a .map .count) (insertNumber m W C e) (insertEntry m W C e) (insertEntry m X D e)
+        (refusedInsertion m (insertNumber m W C e))
+        (λ z. let r = added-below z in record { answers = rw (r .2, added-sum-below z); leaves = record { words = r .0; colours = r .1 } }) s)

@@ -7,9 +7,8 @@ use lib.ListN.{length}
 use borrow.Author.Tests.{eq-eqb}
 use Rattle.words.specs.Nodes.{room}
 use Rattle.words.specs.declared.node.Entry.{Entry}
-use Rattle.tree_rm_laws.specs.Remove.{Removal, vacated, removeRule}
-use Rattle.tree_rm_laws.specs.Reach.{cutFrom, lastStep}
 use Rattle.tree_edit.specs.Reach.{Follows}
+use Rattle.tree_rm_laws.specs.Remove.{Removal, removeRule}
 use Rattle.tree_rm_laws.specs.With.{removeWith}
 use Rattle.tree_rm_laws.proofs.Enough as removal-numbers
 use Rattle.tree_rm_laws.proofs.Reached as removal-hulls
@@ -19,12 +18,12 @@ use Rattle.tree_in_laws.specs.Reach.{insertHulls}
 use Rattle.tree_in_laws.specs.Inserted.{insertWith}
 use Rattle.tree_in_laws.proofs.Insertion as insertion-numbers
 use Rattle.tree_in_laws.proofs.Reached as insertion-hulls
-use Rattle.iset.specs.Remove.{RemoveAnswer, removeNumber, removeReach, removeCall, removeNodes, removeColours}
-use Rattle.iset.specs.Insert.{InsertAnswer, insertNumber, insertReach, insertCall, insertNodes, insertColours}
+use Rattle.iset.specs.Changes.{Change}
+use Rattle.iset.specs.Remove.{RemoveAnswer, removeNumber, removeReach, removeCall}
+use Rattle.iset.specs.Insert.{InsertAnswer, insertNumber, insertReach, insertCall}
 use Rattle.iset.specs.Demands.{Demand1, removal, insertion, Demand2, Demand3, Request9}
 use Rattle.iset.specs.declared.Map.{Map}
 use Rattle.iset.proofs.Checks.{check-zero}
-use Rattle.iset.proofs.Builds as builds
 use Rattle.iset.proofs.Removals as removals
 use Rattle.iset.proofs.Insertions as insertions
 use Rattle.iset.proofs.Refusals.{check-refusals, build-refusals, build-leaves, remove-refusals, remove-no, remove-leaves, insert-refusals, insert-no, insert-leaves, start-refusals, start-leaves, step-refusals, step-leaves, drain-refusals, drain-leaves, plain-refusals, plain-leaves}
@@ -40,8 +39,8 @@ demand-1 m W C =
       insert = λ e. insert-refusals m W C e;
       fresh-exact = λ x. start-refusals m W C x;
       step = λ q c. step-refusals m W C c q;
-      drain = λ q c limit places. drain-refusals m W C c limit q places;
-      plain = λ q places. plain-refusals m W C q places;
+      drain = λ q c limit out. drain-refusals m W C c limit q out;
+      plain = λ q out. plain-refusals m W C q out;
       build-leaves = λ S. build-leaves W C S;
       remove-leaves = λ s. remove-leaves m W C s;
       insert-leaves = λ e. insert-leaves m W C e;
@@ -57,7 +56,7 @@ module _ (m : Map) (W C : List ℕ) (s : ℕ) (e : removeNumber m W C s ≡ 0) w
   fits = check-zero m W C (removals.accepts m W C s e .0) .0
 
   removal-is : removal m W C s ≡ removeRule W C (m .count) (m .root) s
-  unfolding removeCall removeNodes removeColours
+  unfolding removeCall
   removal-is = rw (eq-eqb (removeNumber m W C s) 0 e)
 
   pub remove-enough : (turns links hulls : ℕ) → 36 ≤ turns → 32 ≤ links → 32 ≤ hulls
@@ -67,7 +66,7 @@ module _ (m : Map) (W C : List ℕ) (s : ℕ) (e : removeNumber m W C s ≡ 0) w
       ∙ sym (removal-numbers.enough W C (m .count) (m .root) s (omega (arith, fits)) (omega (arith, fits)) (omega (arith, fits))
       (removals.accepts m W C s e .1) (removals.tree-before m W C s e) turns links hulls i j k)
 
-  remove-sum : removeCall m W C s .reach ≡ removeReach m W C s
+  remove-sum : removeCall m W C s .answer .reach ≡ removeReach m W C s
   unfolding removeCall
   remove-sum = rw (eq-eqb (removeNumber m W C s) 0 e)
 
@@ -77,7 +76,7 @@ module _ (m : Map) (W C : List ℕ) (x : Entry) (e : insertNumber m W C x ≡ 0)
   roomy = insertions.accepts m W C x e .0
 
   insertion-is : insertion m W C x ≡ insertRule W C (m .count) (m .root) x
-  unfolding insertCall insertNodes insertColours
+  unfolding insertCall
   insertion-is = rw (eq-eqb (insertNumber m W C x) 0 e)
 
   pub insert-enough : (levels turns hulls : ℕ) → 32 ≤ levels → 32 ≤ turns → 32 ≤ hulls
@@ -87,12 +86,12 @@ module _ (m : Map) (W C : List ℕ) (x : Entry) (e : insertNumber m W C x ≡ 0)
       ∙ sym (insertion-numbers.enough W C (m .count) (m .root) x (omega (arith, roomy)) (omega (arith, roomy)) (omega (arith, roomy))
       (insertions.accepts m W C x e .2) (insertions.tree-before m W C x e) levels turns hulls i j k)
 
-  insert-sum : insertCall m W C x .reach ≡ insertReach m W C x
+  insert-sum : insertCall m W C x .answer .reach ≡ insertReach m W C x
   unfolding insertCall
   insert-sum = rw (eq-eqb (insertNumber m W C x) 0 e)
 
-  insert-hulls : Follows (m .count + 1) (hungWords W (m .count) x (under (m .count) W (m .root) (own x))) (insertHulls W C (m .count) (m .root) x) (insertNodes m W C x)
-  unfolding insertNodes
+  insert-hulls : Follows (m .count + 1) (hungWords W (m .count) x (under (m .count) W (m .root) (own x))) (insertHulls W C (m .count) (m .root) x) (insertCall m W C x .words)
+  unfolding insertCall
   insert-hulls = rw (eq-eqb (insertNumber m W C x) 0 e) (insertion-hulls.reached W C (m .count) (m .root) x)
 
 pub demand-2 : (m : Map) (W C : List ℕ) → Demand2 m W C
@@ -115,12 +114,12 @@ request-9 m W C =
       remove-hulls = λ s e. removal-hulls.reached W C (m .count) (m .root) s;
       remove-moves = λ s e.
           ap (λ (R : Removal). R .store) (removal-is m W C s (sym (remove-no m W C s) ∙ e)) ∙ removal-hulls.cut-then-moved W C (m .count) (m .root) s;
-      remove-none = λ s d. ap (λ (a : RemoveAnswer). a .reach) (remove-leaves m W C s d .0);
+      remove-none = λ s d. ap (λ (a : Change RemoveAnswer). a .answer .reach) (remove-leaves m W C s d);
       insert-sum = λ x e. insert-sum m W C x (sym (insert-no m W C x) ∙ e);
       insert-hangs = λ x e.
           let h = roomy m W C x (sym (insert-no m W C x) ∙ e) in
           let p : ℕ = under (m .count) W (m .root) (own x) in
           (insertion-hulls.hung-own W (m .count) x p (omega (arith, h)), λ a d. insertion-hulls.hung-stays W (m .count) x p a d);
       insert-hulls = λ x e. insert-hulls m W C x (sym (insert-no m W C x) ∙ e);
-      insert-none = λ x d. ap (λ (a : InsertAnswer). a .reach) (insert-leaves m W C x d .0);
+      insert-none = λ x d. ap (λ (a : Change InsertAnswer). a .answer .reach) (insert-leaves m W C x d);
     }

@@ -1,6 +1,7 @@
 -- Any two answers, and any two contents of each lent slice at exit, that a promise allows are equal.
 use mathlib.Core.Path.{_≡_, refl, sym, ap, _∙_}
 use mathlib.Core.Bool.{cond}
+use mathlib.Core.List.{List}
 use Prim.Native.Nat.{ℕ}
 use native.Mathlib.Omega.{arith}
 use lib.Dec.{eqb}
@@ -11,18 +12,19 @@ use denote.Triple.Clauses.{AtExit}
 use denote.Ref.{now}
 use Rattle.words.specs.Refusals.{refusalNumber}
 use Rattle.words.proofs.Refusals.{refusalAt, at-number, number-pos}
+use Rattle.iset.specs.Changes.{Change, change, Output, output}
 use Rattle.iset.specs.Check.{checkNumber}
 use Rattle.iset.specs.declared.Checked.{Checked}
 use Rattle.iset.specs.declared.Checked.the-variants.{Sound, Refused}
-use Rattle.iset.specs.Build.{BuildAnswer, buildPaper}
+use Rattle.iset.specs.Build.{BuildAnswer, buildAnswer}
 use Rattle.iset.specs.declared.build.Built.{Built}
 use Rattle.iset.specs.declared.build.Built.the-variants.{Done}
 use Rattle.iset.specs.declared.build.Built.the-variants as built
-use Rattle.iset.specs.Remove.{RemoveAnswer, removePaper}
+use Rattle.iset.specs.Remove.{RemoveAnswer, removeAnswer}
 use Rattle.iset.specs.declared.Map.{Map}
 use Rattle.iset.specs.declared.remove.Removal.{Removal}
 use Rattle.iset.specs.declared.remove.Removal.the-variants as removal
-use Rattle.iset.specs.Insert.{InsertAnswer, insertPaper}
+use Rattle.iset.specs.Insert.{InsertAnswer, insertAnswer}
 use Rattle.iset.specs.declared.insert.Insertion.{Insertion}
 use Rattle.iset.specs.declared.insert.Insertion.the-variants as insertion
 use Rattle.iset.proofs.Map.insert.Reads as insert-reads
@@ -32,16 +34,16 @@ use Rattle.iset.proofs.Map.remove.Kinds as remove-kinds
 use Rattle.iter.specs.declared.Cursor.{Cursor}
 use Rattle.iter.specs.declared.seek.Step.{Step}
 use Rattle.iter.specs.declared.seek.Step.the-variants.{Hit, End}
-use Rattle.iset.specs.Lookup.{StartAnswer, startPaper, StepAnswer, stepPaper, DrainAnswer, drainPaper}
-use Rattle.iset.specs.Plain.{PlainAnswer, plainPaper}
+use Rattle.iset.specs.Lookup.{StartAnswer, startAnswer, StepAnswer, stepAnswer, DrainAnswer, drainAnswer}
+use Rattle.iset.specs.Plain.{PlainAnswer, plainAnswer}
 use Rattle.iset.specs.declared.scan.Looked.{Looked}
 use Rattle.iset.specs.declared.scan.Looked.the-variants as looked
 use Rattle.iset.specs.declared.lookup.Started.{Started}
 use Rattle.iset.specs.declared.lookup.Started.the-variants as started
 use Rattle.iset.specs.declared.lookup.Stepped.{Stepped}
 use Rattle.iset.specs.declared.lookup.Stepped.the-variants as stepped
-use Rattle.iset.specs.declared.lookup.Emptied.{Emptied}
-use Rattle.iset.specs.declared.lookup.Emptied.the-variants as emptied
+use Rattle.iset.specs.declared.lookup.Drain.{Drain}
+use Rattle.iset.specs.declared.lookup.Drain.the-variants as drain
 use Rattle.iset.proofs.Map.fresh.Reads as fresh-reads
 use Rattle.iset.proofs.Map.fresh.Kinds as fresh-kinds
 use Rattle.iset.proofs.Map.fresh_exact.Reads as exact-reads
@@ -54,8 +56,8 @@ use Rattle.iset.proofs.Map.plain.Reads as plain-reads
 use Rattle.iset.proofs.Map.plain.Kinds as plain-kinds
 use Rattle.iset.proofs.Map.build.Reads as build-reads
 use Rattle.iset.proofs.Map.build.Kinds as build-kinds
-use Rattle.iset.proofs.remove.Gone.slot_after.Reads as slot-after-reads
-use Rattle.iset.proofs.remove.Gone.slot_after.Kinds as slot-after-kinds
+use Rattle.iset.proofs.remove.Removed.slot_after.Reads as slot-after-reads
+use Rattle.iset.proofs.remove.Removed.slot_after.Kinds as slot-after-kinds
 use Rattle.iset.proofs.Map.new.Reads as new-reads
 use Rattle.iset.proofs.Map.new.Kinds as new-kinds
 use Rattle.iset.proofs.Map.open_insert.Reads as open-insert-reads
@@ -72,6 +74,19 @@ use Rattle.iset.proofs.Map.open_plain.Reads as open-plain-reads
 use Rattle.iset.proofs.Map.open_plain.Kinds as open-plain-kinds
 use Rattle.iset.proofs.Map.check.Reads as check-reads
 use Rattle.iset.proofs.Map.check.Kinds as check-kinds
+
+-- One equation determines each part. The answer is read back from what it stands for.
+same-change : {A B : Type 0} {a a′ : A} {r r′ : B} {W W′ C C′ : List ℕ} {x : Change A} (at : A → B) → at a ≡ r → at a′ ≡ r′
+    → change a W C ≡ x → change a′ W′ C′ ≡ x → (r ≡ r′) × (W ≡ W′) × (C ≡ C′)
+same-change {A = A} {a = a} {a′ = a′} {W = W} {W′ = W′} {C = C} {C′ = C′} at b b′ p q =
+    let e : change a W C ≡ change a′ W′ C′ = p ∙ sym q in
+    (sym b ∙ ap (λ (c : Change A). at (c .answer)) e ∙ b′, ap (λ (c : Change A). c .words) e, ap (λ (c : Change A). c .colours) e)
+
+same-output : {A B : Type 0} {a a′ : A} {r r′ : B} {X X′ : List ℕ} {x : Output A} (at : A → B) → at a ≡ r → at a′ ≡ r′
+    → output a X ≡ x → output a′ X′ ≡ x → (r ≡ r′) × (X ≡ X′)
+same-output {A = A} {a = a} {a′ = a′} {X = X} {X′ = X′} at b b′ p q =
+    let e : output a X ≡ output a′ X′ = p ∙ sym q in
+    (sym b ∙ ap (λ (c : Output A). at (c .answer)) e ∙ b′, ap (λ (c : Output A). c .output) e)
 
 pub new-determined :
     (κs : Lfts 0) (a : K.Dens κs new-kinds.ps) (r r′ : K.resT new-kinds.r κs .Denot) (s s′ : AtExit (K.endedOf 0 new-kinds.ps new-kinds.r) κs)
@@ -93,56 +108,54 @@ check-determined κs a r r′ s s′ p q = sym (checked-back r) ∙ ap checkedAt
 
 -- and so do a build's
 abbrev builtAt : BuildAnswer → Built
-builtAt x = cond (eqb (x .no) 0) (Done (record { count = x .count; root = x .root })) (built.Refused (refusalAt (x .no)))
+builtAt x = cond (eqb (x .no) 0) (Done (x .map)) (built.Refused (refusalAt (x .no)))
 
-built-back : (r : Built) → builtAt (buildPaper r) ≡ r
+built-back : (r : Built) → builtAt (buildAnswer r) ≡ r
 built-back (Done m) = refl
 built-back (built.Refused y) = rw (ne-eqb (refusalNumber y) 0 (omega (arith, number-pos y)), at-number y)
 
 pub build-determined :
     (κs : Lfts 3) (a : K.Dens κs build-kinds.ps) (r r′ : K.resT build-kinds.r κs .Denot) (s s′ : AtExit (K.endedOf 3 build-kinds.ps build-kinds.r) κs)
     → build-reads.Post κs a r s → build-reads.Post κs a r′ s′ → (r ≡ r′) × (now (s .0) ≡ now (s′ .0)) × (now (s .1 .0) ≡ now (s′ .1 .0))
-build-determined κs a r r′ s s′ p q = (sym (built-back r) ∙ ap builtAt (p .0 ∙ sym (q .0)) ∙ built-back r′, p .1 ∙ sym (q .1), p .2 ∙ sym (q .2))
+build-determined κs a r r′ s s′ p q = same-change builtAt (built-back r) (built-back r′) p q
 
 -- and a removal's
 abbrev removalAt : RemoveAnswer → Removal
 removalAt x =
     cond (eqb (x .no) 0)
-    (removal.Done (record { map = record { count = x .count; root = x .root }; value = x .value; pairs = x .pairs; reach = x .reach }))
+    (removal.Done (record { map = x .map; value = x .value; pairs = x .pairs; reach = x .reach }))
     (removal.Refused (refusalAt (x .no)))
 
-removal-back : (m : Map) (r : Removal) → removalAt (removePaper m r) ≡ r
+removal-back : (m : Map) (r : Removal) → removalAt (removeAnswer m r) ≡ r
 removal-back m (removal.Done g) = refl
 removal-back m (removal.Refused y) = rw (ne-eqb (refusalNumber y) 0 (omega (arith, number-pos y)), at-number y)
 
 pub remove-determined :
     (κs : Lfts 2) (a : K.Dens κs remove-kinds.ps) (r r′ : K.resT remove-kinds.r κs .Denot) (s s′ : AtExit (K.endedOf 2 remove-kinds.ps remove-kinds.r) κs)
     → remove-reads.Post κs a r s → remove-reads.Post κs a r′ s′ → (r ≡ r′) × (now (s .1 .0) ≡ now (s′ .1 .0)) × (now (s .1 .1 .0) ≡ now (s′ .1 .1 .0))
-remove-determined κs a r r′ s s′ p q =
-    (sym (removal-back _ r) ∙ ap removalAt (p .0 ∙ sym (q .0)) ∙ removal-back _ r′, p .1 ∙ sym (q .1), p .2 ∙ sym (q .2))
+remove-determined κs a r r′ s s′ p q = same-change removalAt (removal-back _ r) (removal-back _ r′) p q
 
 -- and an insertion's
 abbrev insertionAt : InsertAnswer → Insertion
 insertionAt x =
     cond (eqb (x .no) 0)
-    (insertion.Done (record { map = record { count = x .count; root = x .root }; slot = x .slot; reach = x .reach }))
+    (insertion.Done (record { map = x .map; slot = x .slot; reach = x .reach }))
     (insertion.Refused (refusalAt (x .no)))
 
-insertion-back : (m : Map) (r : Insertion) → insertionAt (insertPaper m r) ≡ r
+insertion-back : (m : Map) (r : Insertion) → insertionAt (insertAnswer m r) ≡ r
 insertion-back m (insertion.Done g) = refl
 insertion-back m (insertion.Refused y) = rw (ne-eqb (refusalNumber y) 0 (omega (arith, number-pos y)), at-number y)
 
 pub insert-determined :
     (κs : Lfts 2) (a : K.Dens κs insert-kinds.ps) (r r′ : K.resT insert-kinds.r κs .Denot) (s s′ : AtExit (K.endedOf 2 insert-kinds.ps insert-kinds.r) κs)
     → insert-reads.Post κs a r s → insert-reads.Post κs a r′ s′ → (r ≡ r′) × (now (s .1 .0) ≡ now (s′ .1 .0)) × (now (s .1 .1 .0) ≡ now (s′ .1 .1 .0))
-insert-determined κs a r r′ s s′ p q =
-    (sym (insertion-back _ r) ∙ ap insertionAt (p .0 ∙ sym (q .0)) ∙ insertion-back _ r′, p .1 ∙ sym (q .1), p .2 ∙ sym (q .2))
+insert-determined κs a r r′ s s′ p q = same-change insertionAt (insertion-back _ r) (insertion-back _ r′) p q
 
 -- a fresh cursor's, a step's and a drain's
 abbrev startedAt : StartAnswer → Started
 startedAt x = cond (eqb (x .no) 0) (started.Done (x .cursor)) (started.Refused (refusalAt (x .no)))
 
-started-back : (r : Started) → startedAt (startPaper r) ≡ r
+started-back : (r : Started) → startedAt (startAnswer r) ≡ r
 started-back (started.Done c) = refl
 started-back (started.Refused y) = rw (ne-eqb (refusalNumber y) 0 (omega (arith, number-pos y)), at-number y)
 
@@ -168,7 +181,7 @@ stepAt x = cond (x .hit) (Hit (x .next) (x .entered)) (End (x .entered))
 abbrev steppedAt : StepAnswer → Stepped
 steppedAt x = cond (eqb (x .no) 0) (stepped.Done (stepAt x)) (stepped.Refused (refusalAt (x .no)))
 
-stepped-back : (c : Cursor) (r : Stepped) → steppedAt (stepPaper c r) ≡ r
+stepped-back : (c : Cursor) (r : Stepped) → steppedAt (stepAnswer c r) ≡ r
 stepped-back c (stepped.Done (Hit d e)) = refl
 stepped-back c (stepped.Done (End e)) = refl
 stepped-back c (stepped.Refused y) = rw (ne-eqb (refusalNumber y) 0 (omega (arith, number-pos y)), at-number y)
@@ -178,37 +191,36 @@ pub step-determined :
     → step-reads.Post κs a r s → step-reads.Post κs a r′ s′ → r ≡ r′
 step-determined κs a r r′ s s′ p q = sym (stepped-back _ r) ∙ ap steppedAt (p ∙ sym q) ∙ stepped-back _ r′
 
-abbrev emptiedAt : DrainAnswer → Emptied
-emptiedAt x =
-    cond (eqb (x .no) 0) (emptied.Done (record { hits = x .hits; entered = x .entered; next = x .next })) (emptied.Refused (refusalAt (x .no)))
+abbrev drainAt : DrainAnswer → Drain
+drainAt x =
+    cond (eqb (x .no) 0) (drain.Done (record { hits = x .hits; entered = x .entered; next = x .next })) (drain.Refused (refusalAt (x .no)))
 
-emptied-back : (c : Cursor) (r : Emptied) → emptiedAt (drainPaper c r) ≡ r
-emptied-back c (emptied.Done d) = refl
-emptied-back c (emptied.Refused y) = rw (ne-eqb (refusalNumber y) 0 (omega (arith, number-pos y)), at-number y)
+drain-back : (c : Cursor) (r : Drain) → drainAt (drainAnswer c r) ≡ r
+drain-back c (drain.Done d) = refl
+drain-back c (drain.Refused y) = rw (ne-eqb (refusalNumber y) 0 (omega (arith, number-pos y)), at-number y)
 
 pub drain-determined :
     (κs : Lfts 3) (a : K.Dens κs drain-kinds.ps) (r r′ : K.resT drain-kinds.r κs .Denot) (s s′ : AtExit (K.endedOf 3 drain-kinds.ps drain-kinds.r) κs)
     → drain-reads.Post κs a r s → drain-reads.Post κs a r′ s′ → (r ≡ r′) × (now (s .1 .1 .1 .1 .1 .1 .0) ≡ now (s′ .1 .1 .1 .1 .1 .1 .0))
-drain-determined κs a r r′ s s′ p q =
-    (sym (emptied-back _ r) ∙ ap emptiedAt (p .0 ∙ sym (q .0)) ∙ emptied-back _ r′, p .1 ∙ sym (q .1))
+drain-determined κs a r r′ s s′ p q = same-output drainAt (drain-back _ r) (drain-back _ r′) p q
 
 abbrev lookedAt : PlainAnswer → Looked
 lookedAt x = cond (eqb (x .no) 0) (looked.Done (record { hits = x .hits; entered = x .entered })) (looked.Refused (refusalAt (x .no)))
 
-looked-back : (r : Looked) → lookedAt (plainPaper r) ≡ r
+looked-back : (r : Looked) → lookedAt (plainAnswer r) ≡ r
 looked-back (looked.Done a) = refl
 looked-back (looked.Refused y) = rw (ne-eqb (refusalNumber y) 0 (omega (arith, number-pos y)), at-number y)
 
 pub plain-determined :
     (κs : Lfts 3) (a : K.Dens κs plain-kinds.ps) (r r′ : K.resT plain-kinds.r κs .Denot) (s s′ : AtExit (K.endedOf 3 plain-kinds.ps plain-kinds.r) κs)
     → plain-reads.Post κs a r s → plain-reads.Post κs a r′ s′ → (r ≡ r′) × (now (s .1 .1 .1 .1 .0) ≡ now (s′ .1 .1 .1 .1 .0))
-plain-determined κs a r r′ s s′ p q = (sym (looked-back r) ∙ ap lookedAt (p .0 ∙ sym (q .0)) ∙ looked-back r′, p .1 ∙ sym (q .1))
+plain-determined κs a r r′ s s′ p q = same-output lookedAt (looked-back r) (looked-back r′) p q
 
 -- the opened calls
 pub open-plain-determined :
     (κs : Lfts 3) (a : K.Dens κs open-plain-kinds.ps) (r r′ : K.resT open-plain-kinds.r κs .Denot) (s s′ : AtExit (K.endedOf 3 open-plain-kinds.ps open-plain-kinds.r) κs)
     → open-plain-reads.Post κs a r s → open-plain-reads.Post κs a r′ s′ → (r ≡ r′) × (now (s .1 .1 .1 .1 .0) ≡ now (s′ .1 .1 .1 .1 .0))
-open-plain-determined κs a r r′ s s′ p q = (sym (looked-back r) ∙ ap lookedAt (p .0 ∙ sym (q .0)) ∙ looked-back r′, p .1 ∙ sym (q .1))
+open-plain-determined κs a r r′ s s′ p q = same-output lookedAt (looked-back r) (looked-back r′) p q
 
 pub open-fresh-exact-determined :
     (κs : Lfts 2) (a : K.Dens κs open-exact-kinds.ps) (r r′ : K.resT open-exact-kinds.r κs .Denot) (s s′ : AtExit (K.endedOf 2 open-exact-kinds.ps open-exact-kinds.r) κs)
@@ -223,17 +235,14 @@ open-step-determined κs a r r′ s s′ p q = sym (stepped-back _ r) ∙ ap ste
 pub open-drain-determined :
     (κs : Lfts 3) (a : K.Dens κs open-drain-kinds.ps) (r r′ : K.resT open-drain-kinds.r κs .Denot) (s s′ : AtExit (K.endedOf 3 open-drain-kinds.ps open-drain-kinds.r) κs)
     → open-drain-reads.Post κs a r s → open-drain-reads.Post κs a r′ s′ → (r ≡ r′) × (now (s .1 .1 .1 .1 .1 .1 .0) ≡ now (s′ .1 .1 .1 .1 .1 .1 .0))
-open-drain-determined κs a r r′ s s′ p q =
-    (sym (emptied-back _ r) ∙ ap emptiedAt (p .0 ∙ sym (q .0)) ∙ emptied-back _ r′, p .1 ∙ sym (q .1))
+open-drain-determined κs a r r′ s s′ p q = same-output drainAt (drain-back _ r) (drain-back _ r′) p q
 
 pub open-remove-determined :
     (κs : Lfts 2) (a : K.Dens κs open-remove-kinds.ps) (r r′ : K.resT open-remove-kinds.r κs .Denot) (s s′ : AtExit (K.endedOf 2 open-remove-kinds.ps open-remove-kinds.r) κs)
     → open-remove-reads.Post κs a r s → open-remove-reads.Post κs a r′ s′ → (r ≡ r′) × (now (s .1 .0) ≡ now (s′ .1 .0)) × (now (s .1 .1 .0) ≡ now (s′ .1 .1 .0))
-open-remove-determined κs a r r′ s s′ p q =
-    (sym (removal-back _ r) ∙ ap removalAt (p .0 ∙ sym (q .0)) ∙ removal-back _ r′, p .1 ∙ sym (q .1), p .2 ∙ sym (q .2))
+open-remove-determined κs a r r′ s s′ p q = same-change removalAt (removal-back _ r) (removal-back _ r′) p q
 
 pub open-insert-determined :
     (κs : Lfts 2) (a : K.Dens κs open-insert-kinds.ps) (r r′ : K.resT open-insert-kinds.r κs .Denot) (s s′ : AtExit (K.endedOf 2 open-insert-kinds.ps open-insert-kinds.r) κs)
     → open-insert-reads.Post κs a r s → open-insert-reads.Post κs a r′ s′ → (r ≡ r′) × (now (s .1 .0) ≡ now (s′ .1 .0)) × (now (s .1 .1 .0) ≡ now (s′ .1 .1 .0))
-open-insert-determined κs a r r′ s s′ p q =
-    (sym (insertion-back _ r) ∙ ap insertionAt (p .0 ∙ sym (q .0)) ∙ insertion-back _ r′, p .1 ∙ sym (q .1), p .2 ∙ sym (q .2))
+open-insert-determined κs a r r′ s s′ p q = same-change insertionAt (insertion-back _ r) (insertion-back _ r′) p q

@@ -1,7 +1,7 @@
 -- A drain's limit 0 means as many hits as fit.
 use mathlib.Core.Path.{_≡_, refl, sym, ap, _∙_}
 use mathlib.Core.Bool.{Bool, true, false, cond}
-use mathlib.Core.List.{List}
+use mathlib.Core.List.{List, []}
 use Prim.Native.Nat.{ℕ, zero, suc, _<_}
 use native.Mathlib.Omega.{arith}
 use lib.ListN.{length}
@@ -25,9 +25,10 @@ use Rattle.iter.specs.declared.rules.Query.{Query}
 use Rattle.iter.specs.declared.rules.Query.the-variants.{Overlap, Exact}
 use Rattle.iter_laws.proofs.OverlapRuns.{overlap-first}
 use Rattle.iter_laws.proofs.ExactRuns.{exact-first}
+use Rattle.iset.specs.Changes.{output}
 use Rattle.iset.specs.Check.{first, checkRule}
 use Rattle.iset.specs.Fits.{Fits, Request8}
-use Rattle.iset.specs.Lookup.{ordered, queryNumber, beginning, formNumber, startNumber, stepNumber, drainNumber, startCall, drainCall, drainOutput}
+use Rattle.iset.specs.Lookup.{ordered, queryNumber, beginning, formNumber, startNumber, stepNumber, drainNumber, startCall, drainCall}
 use Rattle.iset.specs.Refusals.{BadRange, BadInterval}
 use Rattle.iset.specs.declared.Map.{Map}
 use Rattle.iset.proofs.Checks.{cases}
@@ -71,29 +72,27 @@ module _ (m : Map) (W C : List ℕ) where
       go zero = refl
       go (suc k) = rw (ne-eqb (suc k) 0 (λ z. omega arith))
 
-  no-room : (q : Query) (c : Cursor) → stepNumber m W C q c ≡ 0 → drainCall m W C q c 0 0 ≡ record { no = 0; hits = 0; entered = 0; next = c }
-  unfolding drainCall drains.drain
+  no-room : (q : Query) (c : Cursor) → stepNumber m W C q c ≡ 0 → drainCall m W C q c 0 [] ≡ output (record { no = 0; hits = 0; entered = 0; next = c }) []
+  unfolding drainCall drains.drain drains.filled
   no-room q c e = rw (zero-number q c 0, e) refl
 
   overlap-places : checkRule m W C ≡ 0 → (q : Span) → (BadRange (q .lo) (q .hi) → ⊥) → (P : Passes W C (m .count) (m .root)) (out : List ℕ)
-      → Fits (drainCall m W C (Overlap q) (fresh (m .root)) 0 (length out)) (drainOutput m W C (Overlap q) (fresh (m .root)) 0 out)
-      (those (meets W q) (slots (P .tree))) out
-  unfolding drainCall drainOutput rules
+      → Fits (drainCall m W C (Overlap q) (fresh (m .root)) 0 out) (those (meets W q) (slots (P .tree))) out
+  unfolding drainCall rules
   overlap-places sound q ranged P out =
       let e : startNumber m W C (Overlap q) ≡ 0 = range-started m W C sound q ranged in
       let z : drainNumber m W C (Overlap q) (fresh (m .root)) 0 (length out) ≡ 0 = zero-number (Overlap q) (fresh (m .root)) (length out) ∙ fresh-accepted m W C (Overlap q) e in
       let f = overlap-first W C (m .count) (m .root) q (few m W C (Overlap q) e) P (length out) in
-      record { accepted = rw z refl; hits = rw z (ap length f); output = rw (z, f) refl }
+      record { accepted = rw z refl; hits = rw z (ap length f); written = rw (z, f) refl }
 
   exact-places : checkRule m W C ≡ 0 → (x : Interval) → (BadInterval (x .start) (x .end) → ⊥) → (P : Passes W C (m .count) (m .root)) (out : List ℕ)
-      → Fits (drainCall m W C (Exact x) (startCall m W C x .cursor) 0 (length out)) (drainOutput m W C (Exact x) (startCall m W C x .cursor) 0 out)
-      (those (equals W x) (slots (P .tree))) out
-  unfolding drainCall drainOutput rules
+      → Fits (drainCall m W C (Exact x) (startCall m W C x .cursor) 0 out) (those (equals W x) (slots (P .tree))) out
+  unfolding drainCall rules
   exact-places sound x proper P out =
       let e : startNumber m W C (Exact x) ≡ 0 = interval-started m W C sound x proper in
       let z : drainNumber m W C (Exact x) (fresh (beginning m W (Exact x))) 0 (length out) ≡ 0 = zero-number (Exact x) (fresh (beginning m W (Exact x))) (length out) ∙ fresh-accepted m W C (Exact x) e in
       let f = exact-first W C (m .count) (m .root) x (few m W C (Exact x) e) P (length out) in
-      rw (exact-fresh m W C x e) (record { accepted = rw z refl; hits = rw z (ap length f); output = rw (z, f) refl })
+      rw (exact-fresh m W C x e) (record { accepted = rw z refl; hits = rw z (ap length f); written = rw (z, f) refl })
 
   pub request-8 : Request8 m W C
   request-8 =

@@ -7,7 +7,6 @@ use native.Mathlib.Omega.{arith}
 use lib.ListN.{length}
 use lib.Dec.{eqb, ltb}
 use borrow.Author.Tests.{lt-ltb, le-ltb, ltb-false, eq-eqb, ne-eqb}
-use Rattle.words.specs.Ix.{U}
 use Rattle.words.specs.Nodes.{room}
 use Rattle.words.specs.Refusals.{refusalNumber}
 use Rattle.words.specs.declared.node.Entry.{Entry}
@@ -18,10 +17,11 @@ use Rattle.tree_rm_laws.specs.Remove.{Removal}
 use Rattle.tree_edit.specs.Store.{Store, store}
 use Rattle.tree_rm.specs.Answers.{removal}
 use Rattle.tree_rm.specs.declared.remove.Removed.{Removed}
-use Rattle.iset.specs.Check.{checkNumber, first, checkRule}
+use Rattle.iset.specs.Changes.{Change, change}
+use Rattle.iset.specs.Check.{checkNumber}
 use Rattle.iset.specs.Remove.{openRemoveNumber, RemoveAnswer, refusedRemoval, removeDone}
 use Rattle.iset.specs.declared.Map.{Map}
-use Rattle.iset.specs.Build.{buildNumber, BuildAnswer}
+use Rattle.iset.specs.Build.{buildNumber, BuildAnswer, refusedBuild}
 use Rattle.iset.specs.declared.Checked.{Checked}
 use Rattle.iset.specs.declared.Checked.the-variants.{Sound, Refused}
 use Rattle.iset.specs.Insert.{openInsertNumber, InsertAnswer, refusedInsertion, insertDone}
@@ -79,12 +79,24 @@ module _ (words bytes : ℕ) (S : List ℕ) (t : Checked) (e : checkNumber t ≡
   pub built-bytes : length S / 3 ≤ bytes * 8
   built-bytes = omega (arith, built-room)
 
-pub refused-build : (k : ℕ) (t : Checked) (z : Refusal) → checkNumber t ≡ k → t ≡ Refused z
-    → _≡_ {A = BuildAnswer} (record { no = refusalNumber z; count = 0; root = U }) (record { no = k; count = 0; root = U })
-refused-build k t z e q = let f : refusalNumber z ≡ k = sym (ap checkNumber q) ∙ e in λ i. record { no = f i; count = 0; root = U }
+pub done-build : (n r s : ℕ) (W C X D : List ℕ) → r ≡ s → W ≡ X → C ≡ D
+    → _≡_ {A = Change BuildAnswer} (change (record { no = 0; map = record { count = n; root = r } }) W C)
+    (change (record { no = 0; map = record { count = n; root = s } }) X D)
+done-build n r s W C X D e f g = λ i. change (record { no = 0; map = record { count = n; root = e i } }) (f i) (g i)
 
-pub done-build : (n r s : ℕ) → r ≡ s → _≡_ {A = BuildAnswer} (record { no = 0; count = n; root = r }) (record { no = 0; count = n; root = s })
-done-build n r s e = λ i. record { no = 0; count = n; root = e i }
+-- a refusal by the number of the test that made it
+module _ (k : ℕ) (t : Checked) (z : Refusal) (e : checkNumber t ≡ k) (q : t ≡ Refused z) (W C : List ℕ) where
+  same-number : refusalNumber z ≡ k
+  same-number = sym (ap checkNumber q) ∙ e
+
+  pub refused-build : change (refusedBuild (refusalNumber z)) W C ≡ change (refusedBuild k) W C
+  refused-build = ap (λ (i : ℕ). change (refusedBuild i) W C) same-number
+
+  pub refused-removal : (m : Map) → change (refusedRemoval m (refusalNumber z)) W C ≡ change (refusedRemoval m k) W C
+  refused-removal m = ap (λ (i : ℕ). change (refusedRemoval m i) W C) same-number
+
+  pub refused-insertion : (m : Map) → change (refusedInsertion m (refusalNumber z)) W C ≡ change (refusedInsertion m k) W C
+  refused-insertion m = ap (λ (i : ℕ). change (refusedInsertion m i) W C) same-number
 
 -- what the tests of a removal leave: a slot that is there, in slices with room
 module _ (m : Map) (W C : List ℕ) (s : ℕ) (t : Checked) (e : checkNumber t ≡ openRemoveNumber m W C s) (q : t ≡ Sound) where
@@ -100,21 +112,12 @@ module _ (m : Map) (W C : List ℕ) (s : ℕ) (t : Checked) (e : checkNumber t �
   pub removable-slot : s < m .count
   removable-slot = removable .1
 
-pub refused-removal : (m : Map) (k : ℕ) (t : Checked) (z : Refusal) → checkNumber t ≡ k → t ≡ Refused z
-    → refusedRemoval m (refusalNumber z) ≡ refusedRemoval m k
-refused-removal m k t z e q = ap (λ (i : ℕ). refusedRemoval m i) (sym (ap checkNumber q) ∙ e)
-
--- the parts of what the removal's code answers and leaves
-module _ (a : Removed) (X K : List ℕ) (R : Removal) (e : removal a X K ≡ R) where
-  pub removed-answer : (m : Map) (k : ℕ) → a .reach ≡ k
-      → _≡_ {A = RemoveAnswer} (record { no = 0; value = a .value; count = m .count - 1; root = a .root; pairs = a .pairs; reach = a .reach }) (removeDone m R k)
-  removed-answer m k f = λ t. removeDone m (e t) (f t)
-
-  pub removed-words : X ≡ R .store .words
-  removed-words = ap (λ (S : Removal). S .store .words) e
-
-  pub removed-colours : K ≡ R .store .colours
-  removed-colours = ap (λ (S : Removal). S .store .colours) e
+-- what the removal's code answers and leaves
+pub removed-slot : (a : Removed) (X K : List ℕ) (R : Removal) → removal a X K ≡ R → (m : Map) (k : ℕ) → a .reach ≡ k
+    → _≡_ {A = Change RemoveAnswer}
+    (change (record { no = 0; value = a .value; map = record { count = m .count - 1; root = a .root }; pairs = a .pairs; reach = a .reach }) X K)
+    (change (removeDone m R k) (R .store .words) (R .store .colours))
+removed-slot a X K R e m k f = λ t. change (removeDone m (e t) (f t)) (e t .store .words) (e t .store .colours)
 
 -- what the tests of an insertion leave: slices with room for one entry more
 module _ (m : Map) (W C : List ℕ) (e : Entry) (t : Checked) (f : checkNumber t ≡ openInsertNumber m W C e) (q : t ≡ Sound) where
@@ -127,18 +130,8 @@ module _ (m : Map) (W C : List ℕ) (e : Entry) (t : Checked) (f : checkNumber t
   pub insertable-bytes : m .count < length C * 8
   insertable-bytes = omega (arith, insertable)
 
-pub refused-insertion : (m : Map) (k : ℕ) (t : Checked) (z : Refusal) → checkNumber t ≡ k → t ≡ Refused z
-    → refusedInsertion m (refusalNumber z) ≡ refusedInsertion m k
-refused-insertion m k t z e q = ap (λ (i : ℕ). refusedInsertion m i) (sym (ap checkNumber q) ∙ e)
-
--- the parts of what the insertion's code answers and leaves
-module _ (r : ℕ) (X K : List ℕ) (S : Store) (e : store X K r ≡ S) where
-  pub inserted-answer : (m : Map) (j k : ℕ) → j ≡ k
-      → _≡_ {A = InsertAnswer} (record { no = 0; slot = m .count; count = m .count + 1; root = r; reach = j }) (insertDone m S k)
-  inserted-answer m j k f = λ t. insertDone m (e t) (f t)
-
-  pub inserted-words : X ≡ S .words
-  inserted-words = ap (λ (T : Store). T .words) e
-
-  pub inserted-colours : K ≡ S .colours
-  inserted-colours = ap (λ (T : Store). T .colours) e
+-- what the insertion's code answers and leaves
+pub inserted-entry : (r : ℕ) (X K : List ℕ) (S : Store) → store X K r ≡ S → (m : Map) (j k : ℕ) → j ≡ k
+    → _≡_ {A = Change InsertAnswer} (change (record { no = 0; slot = m .count; map = record { count = m .count + 1; root = r }; reach = j }) X K)
+    (change (insertDone m S k) (S .words) (S .colours))
+inserted-entry r X K S e m j k f = λ t. change (insertDone m (e t) (f t)) (e t .words) (e t .colours)

@@ -15,7 +15,7 @@ use Rattle.words.specs.declared.interval.Bound.the-variants.{Included, Excluded
 use Rattle.words.specs.declared.interval.Interval.{Interval}
 use Rattle.words.specs.declared.interval.Span.{Span}
 use Rattle.words.specs.declared.refusal.Refusal.{Refusal}
-use Rattle.iter.specs.Cursors.{fresh, ended}
+use Rattle.iter.specs.Cursors.{fresh}
 use Rattle.iter.specs.Exact.{findFrom}
 use Rattle.iter.specs.Forms.{formOf}
 use Rattle.iter.specs.Places.{Placed}
@@ -30,8 +30,9 @@ use Rattle.iter.specs.declared.seek.Step.{Step}
 use Rattle.iter.specs.declared.rules.Query.{Query}
 use Rattle.iter.specs.declared.rules.Query.the-variants.{Overlap, Exact}
 use Rattle.iter.proofs.Ways.{form-placed}
+use Rattle.iset.specs.Changes.{Output, output}
 use Rattle.iset.specs.Check.{checkNumber, checkRule, countNumber}
-use Rattle.iset.specs.Lookup.{ordered, queryNumber, beginning, formNumber, startNumber, stepNumber, drainNumber, StartAnswer, stepAnswer, refusedStep, DrainAnswer, drainAnswer, refusedDrain, openStartNumber, openStepNumber, openDrainNumber}
+use Rattle.iset.specs.Lookup.{ordered, queryNumber, beginning, formNumber, startNumber, stepNumber, drainNumber, StartAnswer, refusedStart, stepDone, refusedStep, DrainAnswer, drainDone, refusedDrain, openStartNumber, openStepNumber, openDrainNumber}
 use Rattle.iset.specs.declared.Map.{Map}
 use Rattle.iset.specs.declared.Checked.{Checked}
 use Rattle.iset.specs.declared.Checked.the-variants.{Sound, Refused}
@@ -142,29 +143,27 @@ pub started-is : (c : Cursor) (b k : ℕ) → c ≡ fresh b → b ≡ k → _≡
 started-is c b k e q = rw (e, q)
 
 pub step-is : (s : Step) (S : Answer) (n : ℕ) → answer s ≡ S → isHit s ≡ ltb (answer s .slot) n
-    → stepAnswer (isHit s) (answer s) ≡ stepAnswer (ltb (S .slot) n) S
+    → stepDone (isHit s) (answer s) ≡ stepDone (ltb (S .slot) n) S
 step-is s S n e q = rw (q, e)
 
-module _ (W : List ℕ) (n : ℕ) (Q : Rules) (l x : ℕ) (c : Cursor) (e : l ≡ x) where
-  pub drain-is : (d : Drained) → d ≡ summary (drains.drain W n Q l c)
-      → _≡_ {A = DrainAnswer} (record { no = 0; hits = d .hits; entered = d .entered; next = d .next }) (drainAnswer (drains.drain W n Q x c))
-  drain-is d q = rw (q, e)
-
-  pub drain-out : (out new : List ℕ) → new ≡ drains.filled (drains.drain W n Q l c .slots) out → new ≡ drains.filled (drains.drain W n Q x c .slots) out
-  drain-out out new q = rw (← e) q
+pub drain-is : (W : List ℕ) (n : ℕ) (Q : Rules) (l x : ℕ) (c : Cursor) → l ≡ x → (d : Drained) → d ≡ summary (drains.drain W n Q l c)
+    → (out new : List ℕ) → new ≡ drains.filled (drains.drain W n Q l c .slots) out
+    → _≡_ {A = Output DrainAnswer} (output (record { no = 0; hits = d .hits; entered = d .entered; next = d .next }) new)
+    (output (drainDone (drains.drain W n Q x c)) (drains.filled (drains.drain W n Q x c .slots) out))
+drain-is W n Q l x c e d q out new f = rw (q, f, e)
 
 module _ (k : ℕ) (t : Checked) (z : Refusal) (e : checkNumber t ≡ k) (q : t ≡ Refused z) where
   same-number : refusalNumber z ≡ k
   same-number = sym (ap checkNumber q) ∙ e
 
-  pub refused-start : _≡_ {A = StartAnswer} (record { no = refusalNumber z; cursor = ended }) (record { no = k; cursor = ended })
-  refused-start = ap (λ (i : ℕ). record { no = i; cursor = ended }) same-number
+  pub refused-start : refusedStart (refusalNumber z) ≡ refusedStart k
+  refused-start = ap (λ (i : ℕ). refusedStart i) same-number
 
   pub refused-step : (c : Cursor) → refusedStep c (refusalNumber z) ≡ refusedStep c k
   refused-step c = ap (λ (i : ℕ). refusedStep c i) same-number
 
-  pub refused-drain : (c : Cursor) → refusedDrain c (refusalNumber z) ≡ refusedDrain c k
-  refused-drain c = ap (λ (i : ℕ). refusedDrain c i) same-number
+  pub refused-drain : (c : Cursor) (out : List ℕ) → output (refusedDrain c (refusalNumber z)) out ≡ output (refusedDrain c k) out
+  refused-drain c out = ap (λ (i : ℕ). output (refusedDrain c i) out) same-number
 
 pub query-range : (q : Query) (x : Span) (b : Bool) (k : ℕ) → q ≡ Overlap x → b ≡ ordered (x .lo) (x .hi) → k ≡ cond b 0 4 → k ≡ queryNumber q
 query-range q x b k e t h = rw (e, ← t) h

@@ -23,9 +23,10 @@ use Rattle.iter.specs.declared.rules.Query.the-variants.{Overlap, Exact}
 use Rattle.plain_laws.specs.Tour as tour
 use Rattle.plain_laws.proofs.Tours.{entries-are, entered-all}
 use Rattle.plain.specs.declared.Tally.{Tally}
+use Rattle.iset.specs.Changes.{Output, output}
 use Rattle.iset.specs.Check.{checkNumber}
 use Rattle.iset.specs.Lookup.{startNumber, openStartNumber, drainCall}
-use Rattle.iset.specs.Plain.{openPlainNumber, plainNumber, PlainAnswer, plainAnswer, refusedPlain, plainCall, plainOutput}
+use Rattle.iset.specs.Plain.{openPlainNumber, plainNumber, PlainAnswer, plainDone, refusedPlain, plainCall}
 use Rattle.iset.specs.PlainRuns.{plainSlots, drainSlots, PlainRun, Request5}
 use Rattle.iset.specs.Runs.{Ask, drain, run, total, Lookup, OnceEach}
 use Rattle.iset.specs.declared.Map.{Map}
@@ -58,19 +59,22 @@ module _ (m : Map) (W C : List ℕ) (q : Query) (places : ℕ) (t : Checked) (e 
   plain-places = places-held (m .count) places (passed .1)
 
 -- the code's answers, as the rules have them
-pub plain-answer : (a b : Tally) → a ≡ b → plainAnswer a ≡ plainAnswer b
-plain-answer a b e = ap plainAnswer e
+pub plain-is : (a b : Tally) (X Y : List ℕ) → a ≡ b → X ≡ Y → output (plainDone a) X ≡ output (plainDone b) Y
+plain-is a b X Y e f = λ i. output (plainDone (e i)) (f i)
 
-pub refused-plain : (k : ℕ) (t : Checked) (z : Refusal) → checkNumber t ≡ k → t ≡ Refused z → refusedPlain (refusalNumber z) ≡ refusedPlain k
-refused-plain k t z e q = ap refusedPlain (sym (ap checkNumber q) ∙ e)
+pub refused-plain : (k : ℕ) (t : Checked) (z : Refusal) → checkNumber t ≡ k → t ≡ Refused z → (out : List ℕ)
+    → output (refusedPlain (refusalNumber z)) out ≡ output (refusedPlain k) out
+refused-plain k t z e q out = ap (λ (i : ℕ). output (refusedPlain i) out) (sym (ap checkNumber q) ∙ e)
 
 -- the hits in the first places of an output
 first-places : (l out : List ℕ) → take (length l) (filled l out) ≡ l
 unfolding filled
 first-places l out = take-append-seam l (drop (length l) out)
 
-counted : {a b x y : ℕ} → a ≡ x → b ≡ y → _≡_ {A = PlainAnswer} (record { no = 0; hits = a; entered = b }) (record { no = 0; hits = x; entered = y })
-counted e f = λ i. record { no = 0; hits = e i; entered = f i }
+counted : {l k : List ℕ} {b y : ℕ} (out : List ℕ) → l ≡ k → b ≡ y
+    → _≡_ {A = Output PlainAnswer} (output (record { no = 0; hits = length l; entered = b }) (filled l out))
+    (output (record { no = 0; hits = length k; entered = y }) (filled k out))
+counted out e f = λ i. output (record { no = 0; hits = length (e i); entered = f i }) (filled (e i) out)
 
 -- An accepted lookup into an output that holds every entry. The store's tree is that of P, and L is a lookup of the same by steps and drains.
 module _ (m : Map) (W C : List ℕ) (q : Query) (e : startNumber m W C q ≡ 0) (P : Passes W C (m .count) (m .root)) (out : List ℕ) (h : m .count ≤ length out) where
@@ -84,25 +88,21 @@ module _ (m : Map) (W C : List ℕ) (q : Query) (e : startNumber m W C q ≡ 0) 
   unfolding tour.plain
   plain-found = rw (entries-are W C (m .count) (m .root) (few m W C q e) P)
 
-  plain-told : plainCall m W C q (length out) ≡ record { no = 0; hits = length found; entered = m .count }
+  plain-told : plainCall m W C q out ≡ output (record { no = 0; hits = length found; entered = m .count }) (filled found out)
   unfolding plainCall
   plain-told =
       rw (eq-eqb (plainNumber m W C q (length out)) 0 plain-zero)
-      (counted (ap (λ (l : List ℕ). length l) plain-found) (entered-all W C (m .count) (m .root) (few m W C q e) P))
-
-  plain-written : plainOutput m W C q out ≡ filled found out
-  unfolding plainOutput
-  plain-written = rw (eq-eqb (plainNumber m W C q (length out)) 0 plain-zero, plain-found)
+      (counted out plain-found (entered-all W C (m .count) (m .root) (few m W C q e) P))
 
   slots-are : plainSlots m W C q out ≡ found
-  slots-are = rw (plain-told, plain-written) (first-places found out)
+  slots-are = rw plain-told (first-places found out)
 
   module _ (c : Cursor) (named : List Ask → List ℕ) (L : (l : List Ask) → Lookup m W C q c found (named l) l) where
     run-same : (l : List Ask) → run m W C q c l .next ≡ ended → plainSlots m W C q out ≡ run m W C q c l .slots
     run-same l i = slots-are ∙ sym (L l .slots-all i)
 
     drain-same : (limit : ℕ) (room : List ℕ) → length found < limitOf limit (length room) → limitOf limit (length room) ≤ length room
-        → (drainCall m W C q c limit (length room) .next ≡ ended) × (plainSlots m W C q out ≡ drainSlots m W C q c limit room)
+        → (drainCall m W C q c limit room .answer .next ≡ ended) × (plainSlots m W C q out ≡ drainSlots m W C q c limit room)
     drain-same limit room k f =
         let l : List Ask = drain limit room ∷ [] in
         let w : total l ≡ limitOf limit (length room) = rw (le-ltb (length room) (limitOf limit (length room)) f, add-zero) in
@@ -110,7 +110,7 @@ module _ (m : Map) (W C : List ℕ) (q : Query) (e : startNumber m W C q ≡ 0) 
         (i, run-same l i ∙ append-nil _)
 
     plain-run : OnceEach (m .count) (rules W (m .count) q .match) found → PlainRun m W C q c (rules W (m .count) q .match) (P .tree) out
-    plain-run o = record { told = plain-told; written = plain-written; once-each = o; drain-agrees = drain-same; run-agrees = run-same }
+    plain-run o = record { told = plain-told; once-each = o; drain-agrees = drain-same; run-agrees = run-same }
 
 pub request-5 : (m : Map) (W C : List ℕ) → Request5 m W C
 unfolding rules

@@ -39,21 +39,27 @@ use Rattle.iter_laws.specs.Place.{Held}
 use Rattle.iter_laws.proofs.OverlapRuns.{overlap-fresh-form, overlap-ended-form, overlap-held-form, overlap-bad-form}
 use Rattle.iter_laws.proofs.ExactRuns.{exact-start, exact-fresh-form, exact-ended-form, exact-held-form, exact-bad-form, exact-none-held}
 use Rattle.iter_laws.proofs.Forms.{fresh-form, ended-form, bad-form}
-use Rattle.iset.specs.Build.{buildNumber, BuildAnswer, buildPaper, buildRule, buildNodes, buildColour}
+use Rattle.iset.specs.Changes.{Change, change, Output, output}
+use Rattle.iset.specs.Build.{buildNumber, BuildAnswer, buildAnswer, buildCall}
 use Rattle.iset.specs.Check.{checkRule, first}
-use Rattle.iset.specs.Remove.{removeNumber, RemoveAnswer, removePaper, removeCall, removeNodes, removeColours}
-use Rattle.iset.specs.Insert.{entryOf, insertNumber, InsertAnswer, insertPaper, insertCall, insertNodes, insertColours}
-use Rattle.iset.specs.Lookup.{ordered, queryNumber, beginning, formNumber, startNumber, stepNumber, drainNumber, StartAnswer, startCall, StepAnswer, stepCall, DrainAnswer, drainPaper, drainCall, drainOutput}
-use Rattle.iset.specs.Plain.{plainNumber, PlainAnswer, plainPaper, plainCall, plainOutput}
+use Rattle.iset.specs.Remove.{removeNumber, RemoveAnswer, removeAnswer, removeCall}
+use Rattle.iset.specs.Insert.{entryOf, insertNumber, InsertAnswer, insertAnswer, insertCall}
+use Rattle.iset.specs.Lookup.{ordered, queryNumber, beginning, formNumber, startNumber, stepNumber, drainNumber, StartAnswer, startCall, StepAnswer, stepCall, DrainAnswer, drainAnswer, drainCall}
+use Rattle.iset.specs.Plain.{plainNumber, PlainAnswer, plainAnswer, plainCall}
 use Rattle.iset.specs.Refusals.{Rows, accept, refuse, Exactly, NoSuch, BadRange, BadInterval, BadCursor, ShortOutput, checkRows, buildRows, removeRows, insertRows, startRows, stepRows, drainRows, plainRows}
 use Rattle.iset.specs.declared.Map.{Map}
 use Rattle.words.specs.Refusals.{refusalNumber}
 use Rattle.words.specs.declared.refusal.Refusal.{Refusal}
 use Rattle.words.proofs.Refusals.{number-pos}
+use Rattle.iset.specs.declared.build.Built.{Built}
 use Rattle.iset.specs.declared.build.Built.the-variants as built
+use Rattle.iset.specs.declared.remove.Removal.{Removal}
 use Rattle.iset.specs.declared.remove.Removal.the-variants as removal
+use Rattle.iset.specs.declared.insert.Insertion.{Insertion}
 use Rattle.iset.specs.declared.insert.Insertion.the-variants as insertion
-use Rattle.iset.specs.declared.lookup.Emptied.the-variants as emptied
+use Rattle.iset.specs.declared.lookup.Drain.{Drain}
+use Rattle.iset.specs.declared.lookup.Drain.the-variants as drained
+use Rattle.iset.specs.declared.scan.Looked.{Looked}
 use Rattle.iset.specs.declared.scan.Looked.the-variants as looked
 use Rattle.iset.proofs.Map.insert.Reads as insert-reads
 use Rattle.iset.proofs.Map.insert.Kinds as insert-kinds
@@ -166,9 +172,9 @@ module _ (W C S : List ℕ) where
       let (k, a, b, f) = every-fails (inOrder S) (count S - 1) 0 e in
       (k, omega arith, λ h. true≢false (sym (le-complete (intervalOf S k) (intervalOf S (k + 1)) (rw (add-one k) h)) ∙ f))
 
-  pub build-no : buildRule W C S .no ≡ buildNumber (length W) (length C) S
-  unfolding buildRule
-  build-no = number-is (λ (a : BuildAnswer). a .no) (buildNumber (length W) (length C) S) _ _ refl refl
+  pub build-no : buildCall W C S .answer .no ≡ buildNumber (length W) (length C) S
+  unfolding buildCall
+  build-no = number-is (λ (a : Change BuildAnswer). a .answer .no) (buildNumber (length W) (length C) S) _ _ refl refl
 
   -- the tables from each row on
   abbrev from-6 : Rows
@@ -192,7 +198,7 @@ module _ (W C S : List ℕ) where
       (λ u. ltb-true (room (length W) (length C)) (length S / 3) u)
       (λ u p. omega (arith, ltb-false (room (length W) (length C)) (length S / 3) u)) (λ u. build-5)
 
-  pub build-refusals : Exactly (buildRows W C S) (buildRule W C S .no)
+  pub build-refusals : Exactly (buildRows W C S) (buildCall W C S .answer .no)
   unfolding buildNumber
   build-refusals =
       rw build-no
@@ -201,20 +207,18 @@ module _ (W C S : List ℕ) where
       (λ t p. p (eqb-true (length S % 3) 0 t)) (λ t i. true≢false (sym (eq-eqb (length S % 3) 0 i) ∙ t)) (λ t. build-1))
 
   -- "a refused build: count 0, root U"
-  pub build-leaves : (buildRule W C S .no ≡ 0 → ⊥)
-      → (buildRule W C S ≡ record { no = buildRule W C S .no; count = 0; root = U }) × (buildNodes W C S ≡ W) × (buildColour W C S ≡ C)
-  unfolding buildRule buildNodes buildColour
-  build-leaves d =
-      let f : buildNumber (length W) (length C) S ≡ 0 → ⊥ = λ e. d (build-no ∙ e) in
-      (rw build-no (kept (buildNumber (length W) (length C) S) _ _ f), kept (buildNumber (length W) (length C) S) _ _ f, kept (buildNumber (length W) (length C) S) _ _ f)
+  pub build-leaves : (buildCall W C S .answer .no ≡ 0 → ⊥)
+      → buildCall W C S ≡ change (record { no = buildCall W C S .answer .no; map = record { count = 0; root = U } }) W C
+  unfolding buildCall
+  build-leaves d = rw build-no (kept (buildNumber (length W) (length C) S) _ _ (λ e. d (build-no ∙ e)))
 
 -- A removal.
 module _ (m : Map) (W C : List ℕ) (s : ℕ) where
-  pub remove-no : removeCall m W C s .no ≡ removeNumber m W C s
+  pub remove-no : removeCall m W C s .answer .no ≡ removeNumber m W C s
   unfolding removeCall
-  remove-no = number-is (λ (a : RemoveAnswer). a .no) (removeNumber m W C s) _ _ refl refl
+  remove-no = number-is (λ (a : Change RemoveAnswer). a .answer .no) (removeNumber m W C s) _ _ refl refl
 
-  pub remove-refusals : Exactly (removeRows m W C s) (removeCall m W C s .no)
+  pub remove-refusals : Exactly (removeRows m W C s) (removeCall m W C s .answer .no)
   remove-refusals =
       rw (remove-no, remove-order m W C s)
       (first-then (checkRows m W C) (refuse 3 (NoSuch m s) accept) (checkRule m W C) (cond (ltb s (m .count)) 0 3) (omega arith)
@@ -223,30 +227,26 @@ module _ (m : Map) (W C : List ℕ) (s : ℕ) where
       (λ t p. omega (arith, ltb-true s (m .count) t)) (ltb-false s (m .count)) (λ t. refl)))
 
   -- "the map .. as given .., value and counts 0, .. pairs U", and document 02, item 9: "a refusal 0"
-  pub remove-leaves : (removeCall m W C s .no ≡ 0 → ⊥)
-      → (removeCall m W C s
-      ≡ record {
-        no = removeCall m W C s .no;
+  pub remove-leaves : (removeCall m W C s .answer .no ≡ 0 → ⊥)
+      → removeCall m W C s
+      ≡ change (record {
+        no = removeCall m W C s .answer .no;
         value = 0;
-        count = m .count;
-        root = m .root;
+        map = m;
         pairs = record { first = none; second = none; third = none };
         reach = 0;
-      })
-      × (removeNodes m W C s ≡ W) × (removeColours m W C s ≡ C)
-  unfolding removeCall removeNodes removeColours
-  remove-leaves d =
-      let f : removeNumber m W C s ≡ 0 → ⊥ = λ e. d (remove-no ∙ e) in
-      (rw remove-no (kept (removeNumber m W C s) _ _ f), kept (removeNumber m W C s) _ _ f, kept (removeNumber m W C s) _ _ f)
+      }) W C
+  unfolding removeCall
+  remove-leaves d = rw remove-no (kept (removeNumber m W C s) _ _ (λ e. d (remove-no ∙ e)))
 
 -- An insertion.
 module _ (m : Map) (W C : List ℕ) (e : Entry) where
   abbrev held : ℕ
   held = room (length W) (length C)
 
-  pub insert-no : insertCall m W C e .no ≡ insertNumber m W C e
+  pub insert-no : insertCall m W C e .answer .no ≡ insertNumber m W C e
   unfolding insertCall
-  insert-no = number-is (λ (a : InsertAnswer). a .no) (insertNumber m W C e) _ _ refl refl
+  insert-no = number-is (λ (a : Change InsertAnswer). a .answer .no) (insertNumber m W C e) _ _ refl refl
 
   -- the refusals after that of a full store
   abbrev after-room : ℕ
@@ -259,7 +259,7 @@ module _ (m : Map) (W C : List ℕ) (e : Entry) where
       (λ z. passed-row 5 (BadInterval (e .start) (e .end)) accept 0 (ltb (e .start) (e .end)) (omega arith)
       (λ t p. omega (arith, ltb-true (e .start) (e .end) t)) (ltb-false (e .start) (e .end)) (λ t. refl))
 
-  pub insert-refusals : Exactly (insertRows m W C e) (insertCall m W C e .no)
+  pub insert-refusals : Exactly (insertRows m W C e) (insertCall m W C e .answer .no)
   insert-refusals = rw (insert-no, insert-order m W C e) (go (ltb (m .count) held) refl)
     where
       go : (t : Bool) → ltb (m .count) held ≡ t → Exactly (insertRows m W C e) (cond t after-room 1)
@@ -269,13 +269,10 @@ module _ (m : Map) (W C : List ℕ) (e : Entry) where
       go false i = ((λ z. ltb-false (m .count) held i, λ p. refl), λ z. absurd (z (ltb-false (m .count) held i)))
 
   -- "the map .. as given .., slot .. U"
-  pub insert-leaves : (insertCall m W C e .no ≡ 0 → ⊥)
-      → (insertCall m W C e ≡ record { no = insertCall m W C e .no; slot = U; count = m .count; root = m .root; reach = 0 })
-      × (insertNodes m W C e ≡ W) × (insertColours m W C e ≡ C)
-  unfolding insertCall insertNodes insertColours
-  insert-leaves d =
-      let f : insertNumber m W C e ≡ 0 → ⊥ = λ z. d (insert-no ∙ z) in
-      (rw insert-no (kept (insertNumber m W C e) _ _ f), kept (insertNumber m W C e) _ _ f, kept (insertNumber m W C e) _ _ f)
+  pub insert-leaves : (insertCall m W C e .answer .no ≡ 0 → ⊥)
+      → insertCall m W C e ≡ change (record { no = insertCall m W C e .answer .no; slot = U; map = m; reach = 0 }) W C
+  unfolding insertCall
+  insert-leaves d = rw insert-no (kept (insertNumber m W C e) _ _ (λ z. d (insert-no ∙ z)))
 
 -- BadRange, as the test of the bounds has it
 ordered-not : (x y : Bound) → ordered x y ≡ true → BadRange x y → ⊥
@@ -349,19 +346,17 @@ module _ (m : Map) (W C : List ℕ) where
       (first-then (followed (checkRows m W C) (queryRow (Exact x))) (refuse 9 (places < m .count) accept) (startNumber m W C (Exact x))
       (cond (leb (m .count) places) 0 9) (omega arith) (start-row (Exact x)) (λ e. places-row places))
 
-  plain-no : (q : Query) (places : ℕ) → plainCall m W C q places .no ≡ plainNumber m W C q places
+  plain-no : (q : Query) (out : List ℕ) → plainCall m W C q out .answer .no ≡ plainNumber m W C q (length out)
   unfolding plainCall
-  plain-no q places = number-is (λ (a : PlainAnswer). a .no) (plainNumber m W C q places) _ _ refl refl
+  plain-no q out = number-is (λ (a : Output PlainAnswer). a .answer .no) (plainNumber m W C q (length out)) _ _ refl refl
 
-  pub plain-refusals : (q : Query) (places : ℕ) → Exactly (plainRows m W C q places) (plainCall m W C q places .no)
-  plain-refusals q places = rw (plain-no q places) (plain-row q places)
+  pub plain-refusals : (q : Query) (out : List ℕ) → Exactly (plainRows m W C q (length out)) (plainCall m W C q out .answer .no)
+  plain-refusals q out = rw (plain-no q out) (plain-row q (length out))
 
-  pub plain-leaves : (q : Query) (out : List ℕ) → (plainCall m W C q (length out) .no ≡ 0 → ⊥)
-      → (plainCall m W C q (length out) ≡ record { no = plainCall m W C q (length out) .no; hits = 0; entered = 0 }) × (plainOutput m W C q out ≡ out)
-  unfolding plainCall plainOutput
-  plain-leaves q out d =
-      let f : plainNumber m W C q (length out) ≡ 0 → ⊥ = λ e. d (plain-no q (length out) ∙ e) in
-      (rw (plain-no q (length out)) (kept (plainNumber m W C q (length out)) _ _ f), kept (plainNumber m W C q (length out)) _ _ f)
+  pub plain-leaves : (q : Query) (out : List ℕ) → (plainCall m W C q out .answer .no ≡ 0 → ⊥)
+      → plainCall m W C q out ≡ output (record { no = plainCall m W C q out .answer .no; hits = 0; entered = 0 }) out
+  unfolding plainCall
+  plain-leaves q out d = rw (plain-no q out) (kept (plainNumber m W C q (length out)) _ _ (λ e. d (plain-no q out ∙ e)))
 
   module _ (c : Cursor) where
     -- by the form that the test finds
@@ -445,25 +440,24 @@ module _ (m : Map) (W C : List ℕ) where
           (first-then (stepRows m W C (Exact x) c) (refuse 9 (ShortOutput limit places) accept) (stepNumber m W C (Exact x) c)
           (cond (ltb places (limitOf limit places)) 9 0) (omega arith) (step-row (Exact x)) (λ e. room-row places))
 
-      drain-no : (q : Query) (places : ℕ) → drainCall m W C q c limit places .no ≡ drainNumber m W C q c limit places
+      drain-no : (q : Query) (out : List ℕ) → drainCall m W C q c limit out .answer .no ≡ drainNumber m W C q c limit (length out)
       unfolding drainCall
-      drain-no q places = number-is (λ (a : DrainAnswer). a .no) (drainNumber m W C q c limit places) _ _ refl refl
+      drain-no q out = number-is (λ (a : Output DrainAnswer). a .answer .no) (drainNumber m W C q c limit (length out)) _ _ refl refl
 
-      pub drain-refusals : (q : Query) (places : ℕ) → Exactly (drainRows m W C q c limit places) (drainCall m W C q c limit places .no)
-      drain-refusals q places = rw (drain-no q places) (drain-row q places)
+      pub drain-refusals : (q : Query) (out : List ℕ) → Exactly (drainRows m W C q c limit (length out)) (drainCall m W C q c limit out .answer .no)
+      drain-refusals q out = rw (drain-no q out) (drain-row q (length out))
 
-      pub drain-leaves : (q : Query) (out : List ℕ) → (drainCall m W C q c limit (length out) .no ≡ 0 → ⊥)
-          → (drainCall m W C q c limit (length out)
-          ≡ record { no = drainCall m W C q c limit (length out) .no; hits = 0; entered = 0; next = c })
-          × (drainOutput m W C q c limit out ≡ out)
-      unfolding drainCall drainOutput
-      drain-leaves q out d =
-          let f : drainNumber m W C q c limit (length out) ≡ 0 → ⊥ = λ e. d (drain-no q (length out) ∙ e) in
-          (rw (drain-no q (length out)) (kept (drainNumber m W C q c limit (length out)) _ _ f), kept (drainNumber m W C q c limit (length out)) _ _ f)
+      pub drain-leaves : (q : Query) (out : List ℕ) → (drainCall m W C q c limit out .answer .no ≡ 0 → ⊥)
+          → drainCall m W C q c limit out ≡ output (record { no = drainCall m W C q c limit out .answer .no; hits = 0; entered = 0; next = c }) out
+      unfolding drainCall
+      drain-leaves q out d = rw (drain-no q out) (kept (drainNumber m W C q c limit (length out)) _ _ (λ e. d (drain-no q out ∙ e)))
 
 -- Said of the code: whatever answer r and whatever slices at exit s a call's promise allows from its arguments a, a refusal leaves what was lent.
 refused-number : (k : ℕ) (y : Refusal) → refusalNumber y ≡ k → k ≡ 0 → ⊥
 refused-number k y e z = omega (arith, number-pos y)
+
+store-left : {A : Type 0} (x y : Change A) → x ≡ y → (x .words ≡ y .words) × (x .colours ≡ y .colours)
+store-left {A = A} x y e = (ap (λ (c : Change A). c .words) e, ap (λ (c : Change A). c .colours) e)
 
 pub build-code : (κs : Lfts 3) (a : K.Dens κs build-kinds.ps) (r : K.resT build-kinds.r κs .Denot) (s : AtExit (K.endedOf 3 build-kinds.ps build-kinds.r) κs)
     → build-reads.Post κs a r s → (y : Refusal) → r ≡ built.Refused y → (now (s .0) ≡ now (a .0)) × (now (s .1 .0) ≡ now (a .1 .0))
@@ -471,9 +465,9 @@ build-code κs a r s p y e =
     let W : List ℕ = now (a .0) in
     let C : List ℕ = now (a .1 .0) in
     let S : List ℕ = now (a .1 .1 .0) in
-    let k : refusalNumber y ≡ buildRule W C S .no = ap (λ (x : BuildAnswer). x .no) (ap buildPaper (sym e) ∙ p .0) in
-    let l = build-leaves W C S (refused-number (buildRule W C S .no) y k) in
-    (p .1 ∙ l .1, p .2 ∙ l .2)
+    let k : refusalNumber y ≡ buildCall W C S .answer .no =
+    ap (λ (x : Built). buildAnswer x .no) (sym e) ∙ ap (λ (x : Change BuildAnswer). x .answer .no) p in
+    store-left _ _ (p ∙ build-leaves W C S (refused-number (buildCall W C S .answer .no) y k))
 
 pub remove-code : (κs : Lfts 2) (a : K.Dens κs remove-kinds.ps) (r : K.resT remove-kinds.r κs .Denot) (s : AtExit (K.endedOf 2 remove-kinds.ps remove-kinds.r) κs)
     → remove-reads.Post κs a r s → (y : Refusal) → r ≡ removal.Refused y → (now (s .1 .0) ≡ now (a .1 .0)) × (now (s .1 .1 .0) ≡ now (a .1 .1 .0))
@@ -482,9 +476,9 @@ remove-code κs a r s p y e =
     let W : List ℕ = now (a .1 .0) in
     let C : List ℕ = now (a .1 .1 .0) in
     let t : ℕ = a .1 .1 .1 .0 in
-    let k : refusalNumber y ≡ removeCall m W C t .no = ap (λ (x : RemoveAnswer). x .no) (ap (removePaper m) (sym e) ∙ p .0) in
-    let l = remove-leaves m W C t (refused-number (removeCall m W C t .no) y k) in
-    (p .1 ∙ l .1, p .2 ∙ l .2)
+    let k : refusalNumber y ≡ removeCall m W C t .answer .no =
+    ap (λ (x : Removal). removeAnswer m x .no) (sym e) ∙ ap (λ (x : Change RemoveAnswer). x .answer .no) p in
+    store-left _ _ (p ∙ remove-leaves m W C t (refused-number (removeCall m W C t .answer .no) y k))
 
 pub insert-code : (κs : Lfts 2) (a : K.Dens κs insert-kinds.ps) (r : K.resT insert-kinds.r κs .Denot) (s : AtExit (K.endedOf 2 insert-kinds.ps insert-kinds.r) κs)
     → insert-reads.Post κs a r s → (y : Refusal) → r ≡ insertion.Refused y → (now (s .1 .0) ≡ now (a .1 .0)) × (now (s .1 .1 .0) ≡ now (a .1 .1 .0))
@@ -493,12 +487,12 @@ insert-code κs a r s p y e =
     let W : List ℕ = now (a .1 .0) in
     let C : List ℕ = now (a .1 .1 .0) in
     let t : Entry = entryOf (a .1 .1 .1 .0) (a .1 .1 .1 .1 .0) (a .1 .1 .1 .1 .1 .0) in
-    let k : refusalNumber y ≡ insertCall m W C t .no = ap (λ (x : InsertAnswer). x .no) (ap (insertPaper m) (sym e) ∙ p .0) in
-    let l = insert-leaves m W C t (refused-number (insertCall m W C t .no) y k) in
-    (p .1 ∙ l .1, p .2 ∙ l .2)
+    let k : refusalNumber y ≡ insertCall m W C t .answer .no =
+    ap (λ (x : Insertion). insertAnswer m x .no) (sym e) ∙ ap (λ (x : Change InsertAnswer). x .answer .no) p in
+    store-left _ _ (p ∙ insert-leaves m W C t (refused-number (insertCall m W C t .answer .no) y k))
 
 pub drain-code : (κs : Lfts 3) (a : K.Dens κs drain-kinds.ps) (r : K.resT drain-kinds.r κs .Denot) (s : AtExit (K.endedOf 3 drain-kinds.ps drain-kinds.r) κs)
-    → drain-reads.Post κs a r s → (y : Refusal) → r ≡ emptied.Refused y → now (s .1 .1 .1 .1 .1 .1 .0) ≡ now (a .1 .1 .1 .1 .1 .1 .0)
+    → drain-reads.Post κs a r s → (y : Refusal) → r ≡ drained.Refused y → now (s .1 .1 .1 .1 .1 .1 .0) ≡ now (a .1 .1 .1 .1 .1 .1 .0)
 drain-code κs a r s p y e =
     let m : Map = a .0 in
     let W : List ℕ = now (a .1 .0) in
@@ -507,8 +501,9 @@ drain-code κs a r s p y e =
     let c : Cursor = a .1 .1 .1 .1 .0 in
     let t : ℕ = a .1 .1 .1 .1 .1 .0 in
     let out : List ℕ = now (a .1 .1 .1 .1 .1 .1 .0) in
-    let k : refusalNumber y ≡ drainCall m W C q c t (length out) .no = ap (λ (x : DrainAnswer). x .no) (ap (drainPaper c) (sym e) ∙ p .0) in
-    p .1 ∙ drain-leaves m W C c t q out (refused-number (drainCall m W C q c t (length out) .no) y k) .1
+    let k : refusalNumber y ≡ drainCall m W C q c t out .answer .no =
+    ap (λ (x : Drain). drainAnswer c x .no) (sym e) ∙ ap (λ (x : Output DrainAnswer). x .answer .no) p in
+    ap (λ (x : Output DrainAnswer). x .output) (p ∙ drain-leaves m W C c t q out (refused-number (drainCall m W C q c t out .answer .no) y k))
 
 pub plain-code : (κs : Lfts 3) (a : K.Dens κs plain-kinds.ps) (r : K.resT plain-kinds.r κs .Denot) (s : AtExit (K.endedOf 3 plain-kinds.ps plain-kinds.r) κs)
     → plain-reads.Post κs a r s → (y : Refusal) → r ≡ looked.Refused y → now (s .1 .1 .1 .1 .0) ≡ now (a .1 .1 .1 .1 .0)
@@ -518,5 +513,6 @@ plain-code κs a r s p y e =
     let C : List ℕ = now (a .1 .1 .0) in
     let q : Query = a .1 .1 .1 .0 in
     let out : List ℕ = now (a .1 .1 .1 .1 .0) in
-    let k : refusalNumber y ≡ plainCall m W C q (length out) .no = ap (λ (x : PlainAnswer). x .no) (ap plainPaper (sym e) ∙ p .0) in
-    p .1 ∙ plain-leaves m W C q out (refused-number (plainCall m W C q (length out) .no) y k) .1
+    let k : refusalNumber y ≡ plainCall m W C q out .answer .no =
+    ap (λ (x : Looked). plainAnswer x .no) (sym e) ∙ ap (λ (x : Output PlainAnswer). x .answer .no) p in
+    ap (λ (x : Output PlainAnswer). x .output) (p ∙ plain-leaves m W C q out (refused-number (plainCall m W C q out .answer .no) y k))

@@ -42,7 +42,7 @@ use Rattle.iter_laws.proofs.Overlaps.{overlap-walk}
 use Rattle.iter_laws.proofs.OverlapRuns.{overlap-each, overlap-bound}
 use Rattle.iter_laws.proofs.ExactRuns.{exact-start, exact-each, walk-below, all-below, walk-none}
 use Rattle.iset.specs.Check.{checkRule}
-use Rattle.iset.specs.Lookup.{ordered, queryNumber, beginning, formNumber, startNumber, stepNumber, drainNumber, startCall, stepCall, drainCall, drainOutput}
+use Rattle.iset.specs.Lookup.{ordered, queryNumber, beginning, formNumber, startNumber, stepNumber, drainNumber, startCall, stepCall, drainCall}
 use Rattle.iset.specs.Runs.{Ask, step, drain, Given, given, Run, run, short, wanted, total, Sound, AllSound, Hold, NoneRefused, Lookup, OverlapRun, Begins, at-highest, no-equal, ExactRun}
 use Rattle.iset.specs.Refusals.{BadRange, BadInterval}
 use Rattle.iset.specs.declared.Map.{Map}
@@ -114,11 +114,11 @@ module _ (m : Map) (W C : List ℕ) (q : Query) (start : startNumber m W C q ≡
     drain-number = rw (drain-order m W C q c limit (length out), eq-eqb (stepNumber m W C q c) 0 e)
 
     drain-short : ltb (length out) (limitOf limit (length out)) ≡ true → given m W C q c (drain limit out) ≡ part 9 0 c
-    unfolding drainCall drainOutput drains.drain calls
+    unfolding drainCall drains.drain calls
     drain-short i = rw (drain-number, i)
 
     drain-given : ltb (length out) (limitOf limit (length out)) ≡ false → given m W C q c (drain limit out) ≡ part 0 (limitOf limit (length out)) c
-    unfolding drainCall drainOutput filled
+    unfolding drainCall filled
     drain-given i = rw (drain-number, i, take-append-seam)
 
     either : (b : Bool) → ltb (length out) (limitOf limit (length out)) ≡ b → given m W C q c (drain limit out) ≡ part (cond b 9 0) (cond b 0 (limitOf limit (length out))) c

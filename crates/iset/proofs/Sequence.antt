@@ -1,6 +1,6 @@
 -- "The store after every build and removal passes the check", and after every insertion: a build with any number of changes after it, and any
 -- public calls one after the other.
-use mathlib.Core.Path.{_≡_, refl}
+use mathlib.Core.Path.{_≡_, refl, ap}
 use mathlib.Core.Bool.{cond}
 use mathlib.Core.List.{List, [], _∷_}
 use Prim.Native.Nat.{ℕ, zero, suc, _+_, _-_, _/_, _≤_}
@@ -8,37 +8,37 @@ use native.Mathlib.Omega.{arith}
 use lib.ListN.{length}
 use lib.Dec.{eqb}
 use borrow.Author.Tests.{eq-eqb, ne-eqb}
-use Rattle.words.specs.Ix.{U}
 use Rattle.words.specs.Nodes.{room}
 use Rattle.words.specs.declared.node.Entry.{Entry}
 use Rattle.tree.specs.Tree.{leaf}
 use Rattle.tree.specs.Passes.{Passes}
 use Rattle.builder.specs.Build.{buildWords, buildColours, buildRoot}
-use Rattle.builder_laws.specs.Built.{Built}
 use Rattle.tree_edit.specs.Store.{Store, store}
-use Rattle.tree_rm_laws.specs.Remove.{Removal, removeRule}
 use Rattle.tree_edit.specs.Inside.{Inside}
+use Rattle.tree_rm_laws.specs.Remove.{Removal, removeRule}
 use Rattle.tree_rm_laws.proofs.Inside.{removed-inside}
 use Rattle.tree_in_laws.specs.Insert.{insertRule}
 use Rattle.tree_changes.specs.Sequence.{Change, run, total, TakesAll}
 use Rattle.tree_in_laws.proofs.Inside.{inserted-inside}
 use Rattle.tree_changes.proofs.Sequence.{ran}
+use Rattle.iset.specs.Changes.{change}
+use Rattle.iset.specs.Changes as calls
 use Rattle.iset.specs.Check.{checkRule}
-use Rattle.iset.specs.Build.{buildNumber, BuildAnswer, buildRule, buildNodes, buildColour}
-use Rattle.iset.specs.Remove.{removeNumber, RemoveAnswer, refusedRemoval, removeDone, removeReach, removeCall, removeNodes, removeColours}
-use Rattle.iset.specs.Insert.{insertNumber, InsertAnswer, refusedInsertion, insertDone, insertReach, insertCall, insertNodes, insertColours}
+use Rattle.iset.specs.Build.{buildNumber, BuildAnswer, refusedBuild, buildList, buildCall}
+use Rattle.iset.specs.Remove.{removeNumber, RemoveAnswer, refusedRemoval, removeSlot, removeCall}
+use Rattle.iset.specs.Insert.{insertNumber, InsertAnswer, refusedInsertion, insertEntry, insertCall}
 use Rattle.iset.specs.Maps.{emptyMap}
-use Rattle.iset.specs.Sequence.{Call, build, remove, insert, State, answered, allAnswered, openAnswered, allOpenAnswered}
+use Rattle.iset.specs.Sequence.{Call, build, remove, insert, State, left, removed, inserted, answered, allAnswered, openAnswered, allOpenAnswered}
 use Rattle.iset.specs.declared.Map.{Map}
 use Rattle.iset.proofs.Builds.{Accepted, accepted, builds}
 use Rattle.iset.proofs.Checks.{check-zero, zero-check}
 use Rattle.iset.proofs.Insertions as insertions
-use Rattle.iset.proofs.Opened.{remove-is, remove-nodes-is, remove-colours-is, insert-is, insert-nodes-is, insert-colours-is}
+use Rattle.iset.proofs.Opened.{remove-is, insert-is}
 use Rattle.iset.proofs.Removals as removals
 
 -- what a build leaves
 abbrev pub builtStore : List ℕ → List ℕ → List ℕ → Store
-builtStore W C S = store (buildNodes W C S) (buildColour W C S) (buildRule W C S .root)
+builtStore W C S = let b = buildCall W C S in store (b .words) (b .colours) (b .answer .map .root)
 
 -- a build, and any insertions and removals after it that find their slot or room
 pub build-then-change : (W C S : List ℕ) (l : List Change) → buildNumber (length W) (length C) S ≡ 0
@@ -47,7 +47,7 @@ pub build-then-change : (W C S : List ℕ) (l : List Change) → buildNumber (le
     (run (builtStore W C S) (length S / 3) l .root)
 build-then-change W C S l e t =
     let a : Accepted (length W) (length C) S = accepted (length W) (length C) S e in
-    let b : Built S W C (length S / 3) (buildNodes W C S) (buildColour W C S) (buildRule W C S .root) = builds W C S e in
+    let b = builds W C S e in
     ran l (builtStore W C S) (length S / 3) (room (length W) (length C)) (omega arith) (omega (arith, b .words-length))
     (omega (arith, b .bits-length)) (a .room-for) (b .passes) t .0
 
@@ -66,28 +66,26 @@ empty-passes W C =
       hues = record {};
     })
 
--- a call that is refused, by the number k, or not
-by-number : {A : Type 0} (count root : A → ℕ) (k : ℕ) (x y : A) (X W K C : List ℕ)
-    → (k ≡ 0 → checkRule (record { count = count x; root = root x }) X K ≡ 0) → checkRule (record { count = count y; root = root y }) W C ≡ 0
-    → checkRule (record { count = count (cond (eqb k 0) x y); root = root (cond (eqb k 0) x y) }) (cond (eqb k 0) X W) (cond (eqb k 0) K C) ≡ 0
-by-number count root zero x y X W K C f g = f refl
-by-number count root (suc k) x y X W K C f g = rw (ne-eqb (suc k) 0 (λ z. omega arith)) g
-
--- any one call leaves a store that passes
+-- the store passes
 abbrev pub Sound : State → Type 0
 Sound S = checkRule (S .map) (S .words) (S .colours) ≡ 0
 
+-- a call that is refused, by the number k, or not
+by-number : {A : Type 0} (map : A → Map) (k : ℕ) (x y : calls.Change A) → (k ≡ 0 → Sound (left map x)) → Sound (left map y)
+    → Sound (left map (cond (eqb k 0) x y))
+by-number map zero x y f g = f refl
+by-number map (suc k) x y f g = rw (ne-eqb (suc k) 0 (λ z. omega arith)) g
+
+-- any one call leaves a store that passes
 module _ (m : Map) (W C : List ℕ) where
   abbrev S : State
   S = record { map = m; words = W; colours = C }
 
   build-sound : (l : List ℕ) → Sound (answered S (build l))
-  unfolding buildRule buildNodes buildColour
+  unfolding buildCall
   build-sound l =
-      by-number (λ (a : BuildAnswer). a .count) (λ (a : BuildAnswer). a .root) (buildNumber (length W) (length C) l)
-      (record { no = 0; count = length l / 3; root = buildRoot (length l / 3) })
-      (record { no = buildNumber (length W) (length C) l; count = 0; root = U })
-      (buildWords l (length l / 3) W) W (buildColours (length l / 3) C) C
+      by-number (λ (a : BuildAnswer). a .map) (buildNumber (length W) (length C) l) (buildList W C l)
+      (change (refusedBuild (buildNumber (length W) (length C) l)) W C)
       (λ e. let a : Accepted (length W) (length C) l = accepted (length W) (length C) l e in
       let b = rw (eq-eqb (buildNumber (length W) (length C) l) 0 e) at (builds W C l e) in
       zero-check (record { count = length l / 3; root = buildRoot (length l / 3) }) (buildWords l (length l / 3) W) (buildColours (length l / 3) C)
@@ -99,22 +97,20 @@ module _ (m : Map) (W C : List ℕ) where
     fits = check-zero m W C h .0
 
     remove-sound : (s : ℕ) → Sound (answered S (remove s))
-    unfolding removeCall removeNodes removeColours
+    unfolding removeCall
     remove-sound s =
         let R : Removal = removeRule W C (m .count) (m .root) s in
-        by-number (λ (a : RemoveAnswer). a .count) (λ (a : RemoveAnswer). a .root) (removeNumber m W C s) (removeDone m R (removeReach m W C s))
-        (refusedRemoval m (removeNumber m W C s)) (R .store .words) W (R .store .colours) C
+        by-number (λ (a : RemoveAnswer). a .map) (removeNumber m W C s) (removeSlot m W C s) (change (refusedRemoval m (removeNumber m W C s)) W C)
         (λ e. let i : Inside (m .count) W C (R .store) = removed-inside W C (m .count) (m .root) s (removals.accepts m W C s e .1) in
         zero-check (record { count = m .count - 1; root = R .store .root }) (R .store .words) (R .store .colours)
         (rw (i .words-length, i .colours-length) (omega (arith, fits))) (removals.by-rule m W C s e .passes))
         h
 
     insert-sound : (e : Entry) → Sound (answered S (insert e))
-    unfolding insertCall insertNodes insertColours
+    unfolding insertCall
     insert-sound e =
         let R : Store = insertRule W C (m .count) (m .root) e in
-        by-number (λ (a : InsertAnswer). a .count) (λ (a : InsertAnswer). a .root) (insertNumber m W C e) (insertDone m R (insertReach m W C e))
-        (refusedInsertion m (insertNumber m W C e)) (R .words) W (R .colours) C
+        by-number (λ (a : InsertAnswer). a .map) (insertNumber m W C e) (insertEntry m W C e) (change (refusedInsertion m (insertNumber m W C e)) W C)
         (λ z. let i : Inside (m .count + 1) W C R = inserted-inside W C (m .count) (m .root) e in
         zero-check (record { count = m .count + 1; root = R .root }) (R .words) (R .colours)
         (rw (i .words-length, i .colours-length) (omega (arith, insertions.accepts m W C e z .0))) (insertions.by-rule m W C e z .passes))
@@ -134,20 +130,8 @@ calls-sound (x ∷ l) S h = calls-sound l (answered S x) (answered-sound (S .map
 -- lookups between them, answer what the public calls answer.
 opened-call : (S : State) → Sound S → (x : Call) → openAnswered S x ≡ answered S x
 opened-call S h (build l) = refl
-opened-call S h (remove s) =
-    rw (
-      remove-is (S .map) (S .words) (S .colours) h s,
-      remove-nodes-is (S .map) (S .words) (S .colours) h s,
-      remove-colours-is (S .map) (S .words) (S .colours) h s,
-    )
-    refl
-opened-call S h (insert e) =
-    rw (
-      insert-is (S .map) (S .words) (S .colours) h e,
-      insert-nodes-is (S .map) (S .words) (S .colours) h e,
-      insert-colours-is (S .map) (S .words) (S .colours) h e,
-    )
-    refl
+opened-call S h (remove s) = ap removed (remove-is (S .map) (S .words) (S .colours) h s)
+opened-call S h (insert e) = ap inserted (insert-is (S .map) (S .words) (S .colours) h e)
 
 pub opened-calls : (l : List Call) (S : State) → Sound S → allOpenAnswered S l ≡ allAnswered S l
 opened-calls [] S h = refl

@@ -4,11 +4,13 @@ use mathlib.Core.List.{List}
 use Prim.Native.Nat.{ℕ, _/_, _%_}
 use lib.ListN.{length}
 use lib.Dec.{eqb, ltb}
-use Rattle.words.specs.Ix.{U}
 use Rattle.words.specs.Nodes.{room}
 use Rattle.words.specs.Refusals.{refusalNumber}
 use Rattle.builder.specs.Input.{allProper, sorted}
 use Rattle.builder.specs.Build.{buildWords, buildColours, buildRoot}
+use Rattle.iset.specs.Changes.{Change, change}
+use Rattle.iset.specs.Maps.{emptyMap}
+use Rattle.iset.specs.declared.Map.{Map}
 use Rattle.iset.specs.declared.build.Built.{Built}
 use Rattle.iset.specs.declared.build.Built.the-variants.{Done, Refused}
 
@@ -19,25 +21,28 @@ buildNumber words bytes S =
     (cond (ltb (room words bytes) (length S / 3)) 1 (cond (allProper S) (cond (sorted S) 0 6) 5))
     8
 
--- an answer by this paper's numbers; "a refused build: count 0, root U"
+-- what it answers: the refusal's number and the new map
 pub record BuildAnswer : Type 0 where
   pub no : ℕ
-  pub count : ℕ
-  pub root : ℕ
+  pub map : Map
 
-abbrev pub buildPaper : Built → BuildAnswer
-buildPaper (Done m) = record { no = 0; count = m .count; root = m .root }
-buildPaper (Refused y) = record { no = refusalNumber y; count = 0; root = U }
+-- "a refused build: count 0, root U"
+abbrev pub refusedBuild : ℕ → BuildAnswer
+refusedBuild k = record { no = k; map = emptyMap }
 
--- the whole call: in the words W and the colours C, from the list S
-unfoldable pub buildRule : List ℕ → List ℕ → List ℕ → BuildAnswer
-buildRule W C S =
-    cond (eqb (buildNumber (length W) (length C) S) 0)
-    (record { no = 0; count = length S / 3; root = buildRoot (length S / 3) })
-    (record { no = buildNumber (length W) (length C) S; count = 0; root = U })
+-- what the code's answer stands for
+abbrev pub buildAnswer : Built → BuildAnswer
+buildAnswer (Done m) = record { no = 0; map = m }
+buildAnswer (Refused y) = refusedBuild (refusalNumber y)
 
-unfoldable pub buildNodes : List ℕ → List ℕ → List ℕ → List ℕ
-buildNodes W C S = cond (eqb (buildNumber (length W) (length C) S) 0) (buildWords S (length S / 3) W) W
+-- a list that is accepted
+abbrev pub buildList : List ℕ → List ℕ → List ℕ → Change BuildAnswer
+buildList W C S =
+    let n : ℕ = length S / 3 in
+    change (record { no = 0; map = record { count = n; root = buildRoot n } }) (buildWords S n W) (buildColours n C)
 
-unfoldable pub buildColour : List ℕ → List ℕ → List ℕ → List ℕ
-buildColour W C S = cond (eqb (buildNumber (length W) (length C) S) 0) (buildColours (length S / 3) C) C
+-- the call: in the words W and the colours C, from the list S
+unfoldable pub buildCall : List ℕ → List ℕ → List ℕ → Change BuildAnswer
+buildCall W C S =
+    let k : ℕ = buildNumber (length W) (length C) S in
+    cond (eqb k 0) (buildList W C S) (change (refusedBuild k) W C)

@@ -5,7 +5,6 @@ use mathlib.Core.Logic.{_≢_}
 use mathlib.Core.List.{List}
 use Prim.Native.Nat.{ℕ, _-_, _+_, _/_, _≤_}
 use lib.ListN.{length}
-use Rattle.words.specs.Ix.{U}
 use Rattle.words.specs.Nodes.{hull, entry}
 use Rattle.words.specs.declared.interval.Interval.{Interval}
 use Rattle.words.specs.declared.interval.Span.{Span}
@@ -22,15 +21,15 @@ use Rattle.tree_in_laws.specs.Descent.{under}
 use Rattle.tree_in_laws.specs.Insert.{own, hungWords}
 use Rattle.tree_in_laws.specs.Inserted.{Inserted, insertWith}
 use Rattle.tree_in_laws.specs.Reach.{insertHulls}
-use Rattle.iter.specs.Cursors.{ended}
 use Rattle.iter.specs.declared.Cursor.{Cursor}
 use Rattle.iter.specs.declared.rules.Query.{Query}
 use Rattle.iset.specs.Check.{checkRule}
-use Rattle.iset.specs.Build.{buildRule, buildNodes, buildColour}
-use Rattle.iset.specs.Remove.{refusedRemoval, removeCall, removeNodes, removeColours}
-use Rattle.iset.specs.Insert.{refusedInsertion, insertCall, insertNodes, insertColours}
-use Rattle.iset.specs.Lookup.{startCall, refusedStep, stepCall, refusedDrain, drainCall, drainOutput}
-use Rattle.iset.specs.Plain.{refusedPlain, plainCall, plainOutput}
+use Rattle.iset.specs.Changes.{Change, change, output}
+use Rattle.iset.specs.Build.{refusedBuild, buildCall}
+use Rattle.iset.specs.Remove.{RemoveAnswer, refusedRemoval, removeCall}
+use Rattle.iset.specs.Insert.{InsertAnswer, refusedInsertion, insertCall}
+use Rattle.iset.specs.Lookup.{refusedStart, startCall, refusedStep, stepCall, refusedDrain, drainCall}
+use Rattle.iset.specs.Plain.{refusedPlain, plainCall}
 use Rattle.iset.specs.Refusals.{BadRange, BadInterval, Exactly, checkRows, buildRows, removeRows, insertRows, startRows, stepRows, drainRows, plainRows}
 use Rattle.iset.specs.Runs.{Ask, OverlapRun, ExactRun}
 use Rattle.iset.specs.declared.Map.{Map}
@@ -40,58 +39,55 @@ use Rattle.iset.specs.declared.Map.{Map}
 -- any lent memory, is part of what the prover shows of its code.
 pub record Demand1 (m : Map) (W C : List ℕ) : Type 0 where
   pub check : Exactly (checkRows m W C) (checkRule m W C)
-  pub build : (S : List ℕ) → Exactly (buildRows W C S) (buildRule W C S .no)
-  pub remove : (s : ℕ) → Exactly (removeRows m W C s) (removeCall m W C s .no)
-  pub insert : (e : Entry) → Exactly (insertRows m W C e) (insertCall m W C e .no)
+  pub build : (S : List ℕ) → Exactly (buildRows W C S) (buildCall W C S .answer .no)
+  pub remove : (s : ℕ) → Exactly (removeRows m W C s) (removeCall m W C s .answer .no)
+  pub insert : (e : Entry) → Exactly (insertRows m W C e) (insertCall m W C e .answer .no)
   pub fresh-exact : (x : Interval) → Exactly (startRows m W C x) (startCall m W C x .no)
   pub step : (q : Query) (c : Cursor) → Exactly (stepRows m W C q c) (stepCall m W C q c .no)
-  pub drain : (q : Query) (c : Cursor) (limit places : ℕ) → Exactly (drainRows m W C q c limit places) (drainCall m W C q c limit places .no)
-  pub plain : (q : Query) (places : ℕ) → Exactly (plainRows m W C q places) (plainCall m W C q places .no)
+  pub drain : (q : Query) (c : Cursor) (limit : ℕ) (out : List ℕ) → Exactly (drainRows m W C q c limit (length out)) (drainCall m W C q c limit out .answer .no)
+  pub plain : (q : Query) (out : List ℕ) → Exactly (plainRows m W C q (length out)) (plainCall m W C q out .answer .no)
   -- a refused call answers its number with the map or the cursor as given ("a refused build: count 0, root U"), and leaves what was lent
-  pub build-leaves : (S : List ℕ) → (buildRule W C S .no ≡ 0 → ⊥)
-      → (buildRule W C S ≡ record { no = buildRule W C S .no; count = 0; root = U }) × (buildNodes W C S ≡ W) × (buildColour W C S ≡ C)
-  pub remove-leaves : (s : ℕ) → (removeCall m W C s .no ≡ 0 → ⊥)
-      → (removeCall m W C s ≡ refusedRemoval m (removeCall m W C s .no)) × (removeNodes m W C s ≡ W) × (removeColours m W C s ≡ C)
-  pub insert-leaves : (e : Entry) → (insertCall m W C e .no ≡ 0 → ⊥)
-      → (insertCall m W C e ≡ refusedInsertion m (insertCall m W C e .no)) × (insertNodes m W C e ≡ W) × (insertColours m W C e ≡ C)
-  pub fresh-exact-leaves : (x : Interval) → (startCall m W C x .no ≡ 0 → ⊥) → startCall m W C x ≡ record { no = startCall m W C x .no; cursor = ended }
+  pub build-leaves : (S : List ℕ) → (buildCall W C S .answer .no ≡ 0 → ⊥) → buildCall W C S ≡ change (refusedBuild (buildCall W C S .answer .no)) W C
+  pub remove-leaves : (s : ℕ) → (removeCall m W C s .answer .no ≡ 0 → ⊥)
+      → removeCall m W C s ≡ change (refusedRemoval m (removeCall m W C s .answer .no)) W C
+  pub insert-leaves : (e : Entry) → (insertCall m W C e .answer .no ≡ 0 → ⊥)
+      → insertCall m W C e ≡ change (refusedInsertion m (insertCall m W C e .answer .no)) W C
+  pub fresh-exact-leaves : (x : Interval) → (startCall m W C x .no ≡ 0 → ⊥) → startCall m W C x ≡ refusedStart (startCall m W C x .no)
   pub step-leaves : (q : Query) (c : Cursor) → (stepCall m W C q c .no ≡ 0 → ⊥) → stepCall m W C q c ≡ refusedStep c (stepCall m W C q c .no)
-  pub drain-leaves : (q : Query) (c : Cursor) (limit : ℕ) (out : List ℕ) → (drainCall m W C q c limit (length out) .no ≡ 0 → ⊥)
-      → (drainCall m W C q c limit (length out) ≡ refusedDrain c (drainCall m W C q c limit (length out) .no)) × (drainOutput m W C q c limit out ≡ out)
-  pub plain-leaves : (q : Query) (out : List ℕ) → (plainCall m W C q (length out) .no ≡ 0 → ⊥)
-      → (plainCall m W C q (length out) ≡ refusedPlain (plainCall m W C q (length out) .no)) × (plainOutput m W C q out ≡ out)
+  pub drain-leaves : (q : Query) (c : Cursor) (limit : ℕ) (out : List ℕ) → (drainCall m W C q c limit out .answer .no ≡ 0 → ⊥)
+      → drainCall m W C q c limit out ≡ output (refusedDrain c (drainCall m W C q c limit out .answer .no)) out
+  pub plain-leaves : (q : Query) (out : List ℕ) → (plainCall m W C q out .answer .no ≡ 0 → ⊥)
+      → plainCall m W C q out ≡ output (refusedPlain (plainCall m W C q out .answer .no)) out
 
 -- What `Map::remove` answers and leaves, in the form of the rule of removal; what `Map::insert` leaves, in that of insertion.
 abbrev pub removal : Map → List ℕ → List ℕ → ℕ → Removal
 removal m W C s =
-    record {
-      store = store (removeNodes m W C s) (removeColours m W C s) (removeCall m W C s .root);
-      value = removeCall m W C s .value;
-      pairs = removeCall m W C s .pairs;
-    }
+    let r : Change RemoveAnswer = removeCall m W C s in
+    record { store = store (r .words) (r .colours) (r .answer .map .root); value = r .answer .value; pairs = r .answer .pairs }
 
 abbrev pub insertion : Map → List ℕ → List ℕ → Entry → Store
-insertion m W C e = store (insertNodes m W C e) (insertColours m W C e) (insertCall m W C e .root)
+insertion m W C e = let r : Change InsertAnswer = insertCall m W C e in store (r .words) (r .colours) (r .answer .map .root)
 
 -- Demand 2, of calls that are not refused; P is the tree of the store before, the only one (`unique`, tree/proofs/Checked). "On stores that pass the check,
 -- removal, insertion .. are proved equal to document 01's rules. Each removal names exactly the entries that changed slot."
 pub record Demand2 (m : Map) (W C : List ℕ) : Type 0 where
   -- a build's store passes, with entry k in slot k
-  pub builds : (S : List ℕ) → buildRule W C S .no ≡ 0
-      → (buildRule W C S .count ≡ length S / 3) × Built S W C (length S / 3) (buildNodes W C S) (buildColour W C S) (buildRule W C S .root)
+  pub builds : (S : List ℕ) → buildCall W C S .answer .no ≡ 0
+      → (buildCall W C S .answer .map .count ≡ length S / 3)
+      × Built S W C (length S / 3) (buildCall W C S .words) (buildCall W C S .colours) (buildCall W C S .answer .map .root)
   -- a removal's store passes, with the other entries in their order; value and pairs are those of the removed and of the moved entries
-  pub removes : (s : ℕ) → removeCall m W C s .no ≡ 0 → (P : Passes W C (m .count) (m .root))
-      → (removeCall m W C s .count ≡ m .count - 1) × Removed W C (m .count) (m .root) s P (removal m W C s)
+  pub removes : (s : ℕ) → removeCall m W C s .answer .no ≡ 0 → (P : Passes W C (m .count) (m .root))
+      → (removeCall m W C s .answer .map .count ≡ m .count - 1) × Removed W C (m .count) (m .root) s P (removal m W C s)
   -- an insertion's store passes, with every old entry in its slot and the new one, after its equals, in the slot that is named: the old count
-  pub inserts : (e : Entry) → insertCall m W C e .no ≡ 0 → (P : Passes W C (m .count) (m .root))
-      → (insertCall m W C e .slot ≡ m .count)
-      × (entry (insertNodes m W C e) (insertCall m W C e .slot) ≡ e)
-      × (insertCall m W C e .count ≡ m .count + 1)
+  pub inserts : (e : Entry) → insertCall m W C e .answer .no ≡ 0 → (P : Passes W C (m .count) (m .root))
+      → (insertCall m W C e .answer .slot ≡ m .count)
+      × (entry (insertCall m W C e .words) (insertCall m W C e .answer .slot) ≡ e)
+      × (insertCall m W C e .answer .map .count ≡ m .count + 1)
       × Inserted W C (m .count) (m .root) e P (insertion m W C e)
   -- the numbers at which the rules stop counting never decide: any greater ones come to the same
-  pub remove-enough : (s : ℕ) → removeCall m W C s .no ≡ 0 → (turns links hulls : ℕ) → 36 ≤ turns → 32 ≤ links → 32 ≤ hulls
+  pub remove-enough : (s : ℕ) → removeCall m W C s .answer .no ≡ 0 → (turns links hulls : ℕ) → 36 ≤ turns → 32 ≤ links → 32 ≤ hulls
       → removal m W C s ≡ removeWith turns links hulls W C (m .count) (m .root) s
-  pub insert-enough : (e : Entry) → insertCall m W C e .no ≡ 0 → (levels turns hulls : ℕ) → 32 ≤ levels → 32 ≤ turns → 32 ≤ hulls
+  pub insert-enough : (e : Entry) → insertCall m W C e .answer .no ≡ 0 → (levels turns hulls : ℕ) → 32 ≤ levels → 32 ≤ turns → 32 ≤ hulls
       → insertion m W C e ≡ insertWith levels turns hulls W C (m .count) (m .root) e
 
 -- Demand 3, of any lookup by `Map::step` and `Map::drain` from the fresh cursor, in any mixture and with any limits, on an unchanged store that passes; the
@@ -107,19 +103,19 @@ pub record Demand3 (m : Map) (W C : List ℕ) : Type 0 where
 -- either end changes. `Follows` ties such a list to what is left: from the first words to the last these hulls are worked out, in this order, and no hull
 -- changes in between.
 pub record Request9 (m : Map) (W C : List ℕ) : Type 0 where
-  pub remove-sum : (s : ℕ) → removeCall m W C s .no ≡ 0 → removeCall m W C s .reach ≡ changes (m .count) (removeHulls W C (m .count) (m .root) s)
+  pub remove-sum : (s : ℕ) → removeCall m W C s .answer .no ≡ 0 → removeCall m W C s .answer .reach ≡ changes (m .count) (removeHulls W C (m .count) (m .root) s)
   -- up to the words in which the last slot moves, with its hull, into the emptied one
-  pub remove-hulls : (s : ℕ) → removeCall m W C s .no ≡ 0
+  pub remove-hulls : (s : ℕ) → removeCall m W C s .answer .no ≡ 0
       → Follows (m .count) W (removeHulls W C (m .count) (m .root) s) (cutFrom W C (m .count) (m .root) s (vacated (m .count) W s))
-  pub remove-moves : (s : ℕ) → removeCall m W C s .no ≡ 0
+  pub remove-moves : (s : ℕ) → removeCall m W C s .answer .no ≡ 0
       → removal m W C s .store
       ≡ lastStep (cutFrom W C (m .count) (m .root) s (vacated (m .count) W s)) W C (m .count) (m .root) s (vacated (m .count) W s)
-  pub remove-none : (s : ℕ) → (removeCall m W C s .no ≡ 0 → ⊥) → removeCall m W C s .reach ≡ 0
-  pub insert-sum : (e : Entry) → insertCall m W C e .no ≡ 0 → insertCall m W C e .reach ≡ changes (m .count + 1) (insertHulls W C (m .count) (m .root) e)
+  pub remove-none : (s : ℕ) → (removeCall m W C s .answer .no ≡ 0 → ⊥) → removeCall m W C s .answer .reach ≡ 0
+  pub insert-sum : (e : Entry) → insertCall m W C e .answer .no ≡ 0 → insertCall m W C e .answer .reach ≡ changes (m .count + 1) (insertHulls W C (m .count) (m .root) e)
   -- from the words in which the new node hangs: its first hull is set and not worked out, and every other hull is as it was
-  pub insert-hangs : (e : Entry) → insertCall m W C e .no ≡ 0
+  pub insert-hangs : (e : Entry) → insertCall m W C e .answer .no ≡ 0
       → (hull (hungWords W (m .count) e (under (m .count) W (m .root) (own e))) (m .count) ≡ own e)
       × ((a : ℕ) → a ≢ m .count → hull (hungWords W (m .count) e (under (m .count) W (m .root) (own e))) a ≡ hull W a)
-  pub insert-hulls : (e : Entry) → insertCall m W C e .no ≡ 0
-      → Follows (m .count + 1) (hungWords W (m .count) e (under (m .count) W (m .root) (own e))) (insertHulls W C (m .count) (m .root) e) (insertNodes m W C e)
-  pub insert-none : (e : Entry) → (insertCall m W C e .no ≡ 0 → ⊥) → insertCall m W C e .reach ≡ 0
+  pub insert-hulls : (e : Entry) → insertCall m W C e .answer .no ≡ 0
+      → Follows (m .count + 1) (hungWords W (m .count) e (under (m .count) W (m .root) (own e))) (insertHulls W C (m .count) (m .root) e) (insertCall m W C e .words)
+  pub insert-none : (e : Entry) → (insertCall m W C e .answer .no ≡ 0 → ⊥) → insertCall m W C e .answer .reach ≡ 0

@@ -12,6 +12,7 @@ use Rattle.tree_edit.specs.Store.{Store}
 use Rattle.tree_edit.specs.Reach.{changes}
 use Rattle.tree_in_laws.specs.Insert.{insertRule}
 use Rattle.tree_in_laws.specs.Reach.{insertHulls}
+use Rattle.iset.specs.Changes.{Change, change}
 use Rattle.iset.specs.Check.{first, checkRule}
 use Rattle.iset.specs.declared.Map.{Map}
 use Rattle.iset.specs.declared.insert.Insertion.{Insertion}
@@ -35,56 +36,44 @@ roomThenCheck m W C = first (fullNumber m W C) (checkRule m W C)
 unfoldable pub insertNumber : Map → List ℕ → List ℕ → Entry → ℕ
 insertNumber m W C e = first (roomThenCheck m W C) (openInsertNumber m W C e)
 
--- an answer by the papers' numbers: the slot of the new entry, the new map, and by item 9 how many hulls changed
+-- what it answers: the slot of the new entry, the new map, and by item 9 how many hulls changed
 pub record InsertAnswer : Type 0 where
   pub no : ℕ
   pub slot : ℕ
-  pub count : ℕ
-  pub root : ℕ
+  pub map : Map
   pub reach : ℕ
 
 -- a refusal: "the map .. as given .., slot .. U", and by item 9 "a refusal 0"
 abbrev pub refusedInsertion : Map → ℕ → InsertAnswer
-refusedInsertion m k = record { no = k; slot = U; count = m .count; root = m .root; reach = 0 }
+refusedInsertion m k = record { no = k; slot = U; map = m; reach = 0 }
 
-abbrev pub insertPaper : Map → Insertion → InsertAnswer
-insertPaper m (Done g) = record { no = 0; slot = g .slot; count = g .map .count; root = g .map .root; reach = g .reach }
-insertPaper m (Refused y) = refusedInsertion m (refusalNumber y)
+-- what the code's answer stands for
+abbrev pub insertAnswer : Map → Insertion → InsertAnswer
+insertAnswer m (Done g) = record { no = 0; slot = g .slot; map = g .map; reach = g .reach }
+insertAnswer m (Refused y) = refusedInsertion m (refusalNumber y)
 
 -- what the rule of insertion answers, with k changed hulls: "slot count is always the next one"
 abbrev pub insertDone : Map → Store → ℕ → InsertAnswer
-insertDone m S k = record { no = 0; slot = m .count; count = m .count + 1; root = S .root; reach = k }
+insertDone m S k = record { no = 0; slot = m .count; map = record { count = m .count + 1; root = S .root }; reach = k }
 
 -- how many of the hulls that an insertion works out change
 abbrev pub insertReach : Map → List ℕ → List ℕ → Entry → ℕ
 insertReach m W C e = changes (m .count + 1) (insertHulls W C (m .count) (m .root) e)
 
--- a call that is refused by the number k, or not: answer, words and colours
-abbrev pub insertBy : Map → List ℕ → List ℕ → Entry → ℕ → InsertAnswer
-insertBy m W C e k = cond (eqb k 0) (insertDone m (insertRule W C (m .count) (m .root) e) (insertReach m W C e)) (refusedInsertion m k)
+-- an entry that there is room for
+abbrev pub insertEntry : Map → List ℕ → List ℕ → Entry → Change InsertAnswer
+insertEntry m W C e =
+    let S : Store = insertRule W C (m .count) (m .root) e in
+    change (insertDone m S (insertReach m W C e)) (S .words) (S .colours)
 
-abbrev pub insertNodesBy : Map → List ℕ → List ℕ → Entry → ℕ → List ℕ
-insertNodesBy m W C e k = cond (eqb k 0) (insertRule W C (m .count) (m .root) e .words) W
-
-abbrev pub insertColoursBy : Map → List ℕ → List ℕ → Entry → ℕ → List ℕ
-insertColoursBy m W C e k = cond (eqb k 0) (insertRule W C (m .count) (m .root) e .colours) C
+-- a call that is refused by the number k, or not
+abbrev pub insertBy : Map → List ℕ → List ℕ → Entry → ℕ → Change InsertAnswer
+insertBy m W C e k = cond (eqb k 0) (insertEntry m W C e) (change (refusedInsertion m k) W C)
 
 -- the opened call
-unfoldable pub openInsertCall : Map → List ℕ → List ℕ → Entry → InsertAnswer
+unfoldable pub openInsertCall : Map → List ℕ → List ℕ → Entry → Change InsertAnswer
 openInsertCall m W C e = insertBy m W C e (openInsertNumber m W C e)
 
-unfoldable pub openInsertNodes : Map → List ℕ → List ℕ → Entry → List ℕ
-openInsertNodes m W C e = insertNodesBy m W C e (openInsertNumber m W C e)
-
-unfoldable pub openInsertColours : Map → List ℕ → List ℕ → Entry → List ℕ
-openInsertColours m W C e = insertColoursBy m W C e (openInsertNumber m W C e)
-
 -- the public call
-unfoldable pub insertCall : Map → List ℕ → List ℕ → Entry → InsertAnswer
+unfoldable pub insertCall : Map → List ℕ → List ℕ → Entry → Change InsertAnswer
 insertCall m W C e = insertBy m W C e (insertNumber m W C e)
-
-unfoldable pub insertNodes : Map → List ℕ → List ℕ → Entry → List ℕ
-insertNodes m W C e = insertNodesBy m W C e (insertNumber m W C e)
-
-unfoldable pub insertColours : Map → List ℕ → List ℕ → Entry → List ℕ
-insertColours m W C e = insertColoursBy m W C e (insertNumber m W C e)

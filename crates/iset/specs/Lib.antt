@@ -1,3 +1,4 @@
+pub mod Changes
 pub mod Maps
 pub mod Check
 pub mod Build

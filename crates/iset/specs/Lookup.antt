@@ -22,14 +22,15 @@ use Rattle.iter.specs.declared.Form.{Form}
 use Rattle.iter.specs.declared.Form.the-variants as form
 use Rattle.iter.specs.declared.rules.Query.{Query}
 use Rattle.iter.specs.declared.rules.Query.the-variants.{Overlap, Exact}
+use Rattle.iset.specs.Changes.{Output, output}
 use Rattle.iset.specs.Check.{first, countNumber, checkRule}
 use Rattle.iset.specs.declared.Map.{Map}
 use Rattle.iset.specs.declared.lookup.Started.{Started}
 use Rattle.iset.specs.declared.lookup.Started.the-variants as started
 use Rattle.iset.specs.declared.lookup.Stepped.{Stepped}
 use Rattle.iset.specs.declared.lookup.Stepped.the-variants as stepped
-use Rattle.iset.specs.declared.lookup.Emptied.{Emptied}
-use Rattle.iset.specs.declared.lookup.Emptied.the-variants as emptied
+use Rattle.iset.specs.declared.lookup.Drain.{Drain}
+use Rattle.iset.specs.declared.lookup.Drain.the-variants as drain
 
 -- not BadRange: a bound is Unbounded, or lo < hi, or lo = hi and both are Included
 abbrev pub ordered : Bound → Bound → Bool
@@ -78,17 +79,21 @@ stepNumber m W C q c = first (checkRule m W C) (openStepNumber m W C q c)
 unfoldable pub drainNumber : Map → List ℕ → List ℕ → Query → Cursor → ℕ → ℕ → ℕ
 drainNumber m W C q c limit room = first (checkRule m W C) (openDrainNumber m W C q c limit room)
 
--- Answers by this paper's numbers. A refusal has the cursor as given, slot U, counts 0; a fresh cursor that is refused is the ended one.
+-- What the calls answer. A refusal has the cursor as given, slot U, counts 0; a fresh cursor that is refused is the ended one. `startAnswer`,
+-- `stepAnswer` and `drainAnswer` say what the code's answers stand for.
 pub record StartAnswer : Type 0 where
   pub no : ℕ
   pub cursor : Cursor
 
-abbrev pub startPaper : Started → StartAnswer
-startPaper (started.Done c) = record { no = 0; cursor = c }
-startPaper (started.Refused y) = record { no = refusalNumber y; cursor = ended }
+abbrev pub refusedStart : ℕ → StartAnswer
+refusedStart k = record { no = k; cursor = ended }
+
+abbrev pub startAnswer : Started → StartAnswer
+startAnswer (started.Done c) = record { no = 0; cursor = c }
+startAnswer (started.Refused y) = refusedStart (refusalNumber y)
 
 abbrev pub startBy : Map → List ℕ → Interval → ℕ → StartAnswer
-startBy m W x k = cond (eqb k 0) (record { no = 0; cursor = fresh (beginning m W (Exact x)) }) (record { no = k; cursor = ended })
+startBy m W x k = cond (eqb k 0) (record { no = 0; cursor = fresh (beginning m W (Exact x)) }) (refusedStart k)
 
 unfoldable pub openStartCall : Map → List ℕ → List ℕ → Interval → StartAnswer
 openStartCall m W C x = startBy m W x (openStartNumber m W C (Exact x))
@@ -104,21 +109,20 @@ pub record StepAnswer : Type 0 where
   pub next : Cursor
   pub entered : ℕ
 
-abbrev pub stepAnswer : Bool → Answer → StepAnswer
-stepAnswer h a = record { no = 0; hit = h; slot = a .slot; next = a .next; entered = a .entered }
+abbrev pub stepDone : Bool → Answer → StepAnswer
+stepDone h a = record { no = 0; hit = h; slot = a .slot; next = a .next; entered = a .entered }
 
 abbrev pub refusedStep : Cursor → ℕ → StepAnswer
 refusedStep c k = record { no = k; hit = false; slot = U; next = c; entered = 0 }
 
-abbrev pub stepPaper : Cursor → Stepped → StepAnswer
-stepPaper c (stepped.Done s) = stepAnswer (isHit s) (answer s)
-stepPaper c (stepped.Refused y) = refusedStep c (refusalNumber y)
+abbrev pub stepAnswer : Cursor → Stepped → StepAnswer
+stepAnswer c (stepped.Done s) = stepDone (isHit s) (answer s)
+stepAnswer c (stepped.Refused y) = refusedStep c (refusalNumber y)
 
 abbrev pub stepBy : Map → List ℕ → Query → Cursor → ℕ → StepAnswer
 stepBy m W q c k =
-    cond (eqb k 0)
-    (stepAnswer (ltb (step W (m .count) (rules W (m .count) q) c .slot) (m .count)) (step W (m .count) (rules W (m .count) q) c))
-    (refusedStep c k)
+    let a : Answer = step W (m .count) (rules W (m .count) q) c in
+    cond (eqb k 0) (stepDone (ltb (a .slot) (m .count)) a) (refusedStep c k)
 
 unfoldable pub openStepCall : Map → List ℕ → List ℕ → Query → Cursor → StepAnswer
 openStepCall m W C q c = stepBy m W q c (openStepNumber m W C q c)
@@ -133,33 +137,24 @@ pub record DrainAnswer : Type 0 where
   pub entered : ℕ
   pub next : Cursor
 
-abbrev pub drainAnswer : drains.Drained → DrainAnswer
-drainAnswer d = record { no = 0; hits = length (d .slots); entered = d .entered; next = d .next }
+abbrev pub drainDone : drains.Drained → DrainAnswer
+drainDone d = record { no = 0; hits = length (d .slots); entered = d .entered; next = d .next }
 
 abbrev pub refusedDrain : Cursor → ℕ → DrainAnswer
 refusedDrain c k = record { no = k; hits = 0; entered = 0; next = c }
 
-abbrev pub drainPaper : Cursor → Emptied → DrainAnswer
-drainPaper c (emptied.Done d) = record { no = 0; hits = d .hits; entered = d .entered; next = d .next }
-drainPaper c (emptied.Refused y) = refusedDrain c (refusalNumber y)
-
-abbrev pub drainBy : Map → List ℕ → Query → Cursor → ℕ → ℕ → ℕ → DrainAnswer
-drainBy m W q c limit room k =
-    cond (eqb k 0) (drainAnswer (drains.drain W (m .count) (rules W (m .count) q) (drains.limitOf limit room) c)) (refusedDrain c k)
+abbrev pub drainAnswer : Cursor → Drain → DrainAnswer
+drainAnswer c (drain.Done d) = record { no = 0; hits = d .hits; entered = d .entered; next = d .next }
+drainAnswer c (drain.Refused y) = refusedDrain c (refusalNumber y)
 
 -- "Places past the hits written stay."
-abbrev pub drainOutputBy : Map → List ℕ → Query → Cursor → ℕ → List ℕ → ℕ → List ℕ
-drainOutputBy m W q c limit out k =
-    cond (eqb k 0) (drains.filled (drains.drain W (m .count) (rules W (m .count) q) (drains.limitOf limit (length out)) c .slots) out) out
+abbrev pub drainBy : Map → List ℕ → Query → Cursor → ℕ → List ℕ → ℕ → Output DrainAnswer
+drainBy m W q c limit out k =
+    let d : drains.Drained = drains.drain W (m .count) (rules W (m .count) q) (drains.limitOf limit (length out)) c in
+    cond (eqb k 0) (output (drainDone d) (drains.filled (d .slots) out)) (output (refusedDrain c k) out)
 
-unfoldable pub openDrainCall : Map → List ℕ → List ℕ → Query → Cursor → ℕ → ℕ → DrainAnswer
-openDrainCall m W C q c limit room = drainBy m W q c limit room (openDrainNumber m W C q c limit room)
+unfoldable pub openDrainCall : Map → List ℕ → List ℕ → Query → Cursor → ℕ → List ℕ → Output DrainAnswer
+openDrainCall m W C q c limit out = drainBy m W q c limit out (openDrainNumber m W C q c limit (length out))
 
-unfoldable pub openDrainOutput : Map → List ℕ → List ℕ → Query → Cursor → ℕ → List ℕ → List ℕ
-openDrainOutput m W C q c limit out = drainOutputBy m W q c limit out (openDrainNumber m W C q c limit (length out))
-
-unfoldable pub drainCall : Map → List ℕ → List ℕ → Query → Cursor → ℕ → ℕ → DrainAnswer
-drainCall m W C q c limit room = drainBy m W q c limit room (drainNumber m W C q c limit room)
-
-unfoldable pub drainOutput : Map → List ℕ → List ℕ → Query → Cursor → ℕ → List ℕ → List ℕ
-drainOutput m W C q c limit out = drainOutputBy m W q c limit out (drainNumber m W C q c limit (length out))
+unfoldable pub drainCall : Map → List ℕ → List ℕ → Query → Cursor → ℕ → List ℕ → Output DrainAnswer
+drainCall m W C q c limit out = drainBy m W q c limit out (drainNumber m W C q c limit (length out))

@@ -17,29 +17,29 @@ use Rattle.iter.specs.declared.Cursor.{Cursor}
 use Rattle.iter.specs.declared.rules.Query.{Query}
 use Rattle.iter.specs.declared.rules.Query.the-variants.{Overlap, Exact}
 use Rattle.iset.specs.Check.{checkRule}
-use Rattle.iset.specs.Lookup.{startCall, drainCall, drainOutput}
+use Rattle.iset.specs.Changes.{Output, output}
+use Rattle.iset.specs.Lookup.{startCall, DrainAnswer, drainCall}
 use Rattle.iset.specs.Refusals.{BadRange, BadInterval}
 use Rattle.iset.specs.Runs.{Ask, run, OnceEach}
-use Rattle.iset.specs.Plain.{plainCall, plainOutput}
+use Rattle.iset.specs.Plain.{PlainAnswer, plainCall}
 use Rattle.iset.specs.declared.Map.{Map}
 
 -- the slots that a plain lookup hands out: the first places of its output, as many as it answers hits; and those of a drain
 abbrev pub plainSlots : Map → List ℕ → List ℕ → Query → List ℕ → List ℕ
-plainSlots m W C q out = take (plainCall m W C q (length out) .hits) (plainOutput m W C q out)
+plainSlots m W C q out = let r : Output PlainAnswer = plainCall m W C q out in take (r .answer .hits) (r .output)
 
 abbrev pub drainSlots : Map → List ℕ → List ℕ → Query → Cursor → ℕ → List ℕ → List ℕ
-drainSlots m W C q c limit out = take (drainCall m W C q c limit (length out) .hits) (drainOutput m W C q c limit out)
+drainSlots m W C q c limit out = let r : Output DrainAnswer = drainCall m W C q c limit out in take (r .answer .hits) (r .output)
 
 -- A plain lookup for q into `out`, in a store with the tree t: p says which entries are asked for, c is the fresh cursor.
 pub record PlainRun (m : Map) (W C : List ℕ) (q : Query) (c : Cursor) (p : ℕ → Bool) (t : Tree) (out : List ℕ) : Type 0 where
-  -- it is not refused, and "Its entered count is the map's count"
-  pub told : plainCall m W C q (length out) ≡ record { no = 0; hits = length (those p (slots t)); entered = m .count }
-  -- "demand 3's list holds for it too": exactly the entries that are asked for, in tree order, once each; the places past them stay
-  pub written : plainOutput m W C q out ≡ filled (those p (slots t)) out
+  -- it is not refused, and "Its entered count is the map's count"; "demand 3's list holds for it too": exactly the entries that are asked for, in
+  -- tree order, once each; the places past them stay
+  pub told : plainCall m W C q out ≡ output (record { no = 0; hits = length (those p (slots t)); entered = m .count }) (filled (those p (slots t)) out)
   pub once-each : OnceEach (m .count) p (those p (slots t))
   -- "its list of slots equals that of a fresh drain run to its end": any limit above the number of hits
   pub drain-agrees : (limit : ℕ) (room : List ℕ) → length (those p (slots t)) < limitOf limit (length room) → limitOf limit (length room) ≤ length room
-      → (drainCall m W C q c limit (length room) .next ≡ ended) × (plainSlots m W C q out ≡ drainSlots m W C q c limit room)
+      → (drainCall m W C q c limit room .answer .next ≡ ended) × (plainSlots m W C q out ≡ drainSlots m W C q c limit room)
   -- and that of any steps and drains from the fresh cursor to the end
   pub run-agrees : (l : List Ask) → run m W C q c l .next ≡ ended → plainSlots m W C q out ≡ run m W C q c l .slots
 

@@ -11,6 +11,7 @@ use Rattle.tree_edit.specs.Reach.{changes}
 use Rattle.tree_rm_laws.specs.Reach.{removeHulls}
 use Rattle.words.specs.declared.pair.Pair.{Pair}
 use Rattle.words.specs.declared.pair.Pairs.{Pairs}
+use Rattle.iset.specs.Changes.{Change, change}
 use Rattle.iset.specs.Check.{first, countNumber, checkRule}
 use Rattle.iset.specs.declared.Map.{Map}
 use Rattle.iset.specs.declared.remove.Removal.{Removal}
@@ -24,62 +25,48 @@ openRemoveNumber m W C s = first (countNumber m W C) (cond (ltb s (m .count)) 0 
 unfoldable pub removeNumber : Map → List ℕ → List ℕ → ℕ → ℕ
 removeNumber m W C s = first (checkRule m W C) (openRemoveNumber m W C s)
 
--- an answer by this paper's numbers: "removed value, new map, and up to three pairs", and document 02, item 9: how many hulls changed
+-- what it answers: "removed value, new map, and up to three pairs", and document 02, item 9: how many hulls changed
 pub record RemoveAnswer : Type 0 where
   pub no : ℕ
   pub value : ℕ
-  pub count : ℕ
-  pub root : ℕ
+  pub map : Map
   pub pairs : Pairs
   pub reach : ℕ
 
 -- a refusal: "the map .. as given .., value and counts 0, slot and pairs U", and by item 9 "a refusal 0"
 abbrev pub refusedRemoval : Map → ℕ → RemoveAnswer
-refusedRemoval m k =
-    record { no = k; value = 0; count = m .count; root = m .root; pairs = record { first = none; second = none; third = none }; reach = 0 }
+refusedRemoval m k = record { no = k; value = 0; map = m; pairs = record { first = none; second = none; third = none }; reach = 0 }
 
-abbrev pub removePaper : Map → Removal → RemoveAnswer
-removePaper m (Done g) = record { no = 0; value = g .value; count = g .map .count; root = g .map .root; pairs = g .pairs; reach = g .reach }
-removePaper m (Refused y) = refusedRemoval m (refusalNumber y)
+-- what the code's answer stands for
+abbrev pub removeAnswer : Map → Removal → RemoveAnswer
+removeAnswer m (Done g) = record { no = 0; value = g .value; map = g .map; pairs = g .pairs; reach = g .reach }
+removeAnswer m (Refused y) = refusedRemoval m (refusalNumber y)
 
 -- what the rule of removal answers, with k changed hulls
 abbrev pub removeDone : Map → rule.Removal → ℕ → RemoveAnswer
-removeDone m R k = record { no = 0; value = R .value; count = m .count - 1; root = R .store .root; pairs = R .pairs; reach = k }
+removeDone m R k = record { no = 0; value = R .value; map = record { count = m .count - 1; root = R .store .root }; pairs = R .pairs; reach = k }
 
 -- how many of the hulls that a removal works out change
 abbrev pub removeReach : Map → List ℕ → List ℕ → ℕ → ℕ
 removeReach m W C s = changes (m .count) (removeHulls W C (m .count) (m .root) s)
 
--- a call that is refused by the number k, or not: answer, words and colours
-abbrev pub removeBy : Map → List ℕ → List ℕ → ℕ → ℕ → RemoveAnswer
-removeBy m W C s k =
-    cond (eqb k 0) (removeDone m (rule.removeRule W C (m .count) (m .root) s) (removeReach m W C s)) (refusedRemoval m k)
+-- a slot that is there
+abbrev pub removeSlot : Map → List ℕ → List ℕ → ℕ → Change RemoveAnswer
+removeSlot m W C s =
+    let R : rule.Removal = rule.removeRule W C (m .count) (m .root) s in
+    change (removeDone m R (removeReach m W C s)) (R .store .words) (R .store .colours)
 
-abbrev pub removeNodesBy : Map → List ℕ → List ℕ → ℕ → ℕ → List ℕ
-removeNodesBy m W C s k = cond (eqb k 0) (rule.removeRule W C (m .count) (m .root) s .store .words) W
-
-abbrev pub removeColoursBy : Map → List ℕ → List ℕ → ℕ → ℕ → List ℕ
-removeColoursBy m W C s k = cond (eqb k 0) (rule.removeRule W C (m .count) (m .root) s .store .colours) C
+-- a call that is refused by the number k, or not
+abbrev pub removeBy : Map → List ℕ → List ℕ → ℕ → ℕ → Change RemoveAnswer
+removeBy m W C s k = cond (eqb k 0) (removeSlot m W C s) (change (refusedRemoval m k) W C)
 
 -- the opened call
-unfoldable pub openRemoveCall : Map → List ℕ → List ℕ → ℕ → RemoveAnswer
+unfoldable pub openRemoveCall : Map → List ℕ → List ℕ → ℕ → Change RemoveAnswer
 openRemoveCall m W C s = removeBy m W C s (openRemoveNumber m W C s)
 
-unfoldable pub openRemoveNodes : Map → List ℕ → List ℕ → ℕ → List ℕ
-openRemoveNodes m W C s = removeNodesBy m W C s (openRemoveNumber m W C s)
-
-unfoldable pub openRemoveColours : Map → List ℕ → List ℕ → ℕ → List ℕ
-openRemoveColours m W C s = removeColoursBy m W C s (openRemoveNumber m W C s)
-
 -- the public call
-unfoldable pub removeCall : Map → List ℕ → List ℕ → ℕ → RemoveAnswer
+unfoldable pub removeCall : Map → List ℕ → List ℕ → ℕ → Change RemoveAnswer
 removeCall m W C s = removeBy m W C s (removeNumber m W C s)
-
-unfoldable pub removeNodes : Map → List ℕ → List ℕ → ℕ → List ℕ
-removeNodes m W C s = removeNodesBy m W C s (removeNumber m W C s)
-
-unfoldable pub removeColours : Map → List ℕ → List ℕ → ℕ → List ℕ
-removeColours m W C s = removeColoursBy m W C s (removeNumber m W C s)
 
 -- the slot after the removal of slot s of the entry that was in slot a before it, by the removal's pairs; U for the removed one
 abbrev pub moved : Pair → ℕ → ℕ → ℕ

@@ -23,7 +23,8 @@ use Rattle.iter.specs.declared.rules.Query.{Query}
 use Rattle.iter.specs.declared.rules.Query.the-variants.{Overlap, Exact}
 use Rattle.iter_laws.specs.Entered.{entered, overlapRule, exactRule, touching}
 use Rattle.iter_laws.specs.Highest.{Highest}
-use Rattle.iset.specs.Lookup.{beginning, stepNumber, startCall, stepCall, StepAnswer, drainCall, DrainAnswer, drainOutput}
+use Rattle.iset.specs.Changes.{Output}
+use Rattle.iset.specs.Lookup.{beginning, stepNumber, startCall, stepCall, StepAnswer, drainCall, DrainAnswer}
 use Rattle.iset.specs.declared.Map.{Map}
 
 -- a call of a lookup: `Map::step`, or `Map::drain` with a limit and an output
@@ -51,10 +52,11 @@ given m W C q c step =
       next = a .next;
     }
 given m W C q c (drain limit out) =
-    let a : DrainAnswer = drainCall m W C q c limit (length out) in
+    let d : Output DrainAnswer = drainCall m W C q c limit out in
+    let a : DrainAnswer = d .answer in
     record {
       no = a .no;
-      slots = take (a .hits) (drainOutput m W C q c limit out);
+      slots = take (a .hits) (d .output);
       nodes = when (eqb (a .no) 0) (calls W (m .count) (rules W (m .count) q) (limitOf limit (length out)) c);
       entered = a .entered;
       next = a .next;

@@ -2,9 +2,10 @@
 use mathlib.Core.List.{List, [], _∷_}
 use Prim.Native.Nat.{ℕ}
 use Rattle.words.specs.declared.node.Entry.{Entry}
-use Rattle.iset.specs.Build.{buildRule, buildNodes, buildColour}
-use Rattle.iset.specs.Remove.{openRemoveCall, openRemoveNodes, openRemoveColours, removeCall, removeNodes, removeColours}
-use Rattle.iset.specs.Insert.{openInsertCall, openInsertNodes, openInsertColours, insertCall, insertNodes, insertColours}
+use Rattle.iset.specs.Changes.{Change}
+use Rattle.iset.specs.Build.{BuildAnswer, buildCall}
+use Rattle.iset.specs.Remove.{RemoveAnswer, openRemoveCall, removeCall}
+use Rattle.iset.specs.Insert.{InsertAnswer, openInsertCall, insertCall}
 use Rattle.iset.specs.declared.Map.{Map}
 
 -- the calls that write: of any list, any slot, any entry
@@ -19,32 +20,24 @@ pub record State : Type 0 where
   pub words : List ℕ
   pub colours : List ℕ
 
--- what a call answers and leaves, refused or not
+-- the map that a call answers, with what it leaves
+abbrev pub left : {A : Type 0} → (A → Map) → Change A → State
+left map c = record { map = map (c .answer); words = c .words; colours = c .colours }
+
+abbrev pub built : Change BuildAnswer → State
+built = left (λ (a : BuildAnswer). a .map)
+
+abbrev pub removed : Change RemoveAnswer → State
+removed = left (λ (a : RemoveAnswer). a .map)
+
+abbrev pub inserted : Change InsertAnswer → State
+inserted = left (λ (a : InsertAnswer). a .map)
+
+-- after a call, refused or not
 abbrev pub answered : State → Call → State
-answered S (build l) =
-    record {
-      map = record { count = buildRule (S .words) (S .colours) l .count; root = buildRule (S .words) (S .colours) l .root };
-      words = buildNodes (S .words) (S .colours) l;
-      colours = buildColour (S .words) (S .colours) l;
-    }
-answered S (remove s) =
-    record {
-      map = record {
-        count = removeCall (S .map) (S .words) (S .colours) s .count;
-        root = removeCall (S .map) (S .words) (S .colours) s .root;
-      };
-      words = removeNodes (S .map) (S .words) (S .colours) s;
-      colours = removeColours (S .map) (S .words) (S .colours) s;
-    }
-answered S (insert e) =
-    record {
-      map = record {
-        count = insertCall (S .map) (S .words) (S .colours) e .count;
-        root = insertCall (S .map) (S .words) (S .colours) e .root;
-      };
-      words = insertNodes (S .map) (S .words) (S .colours) e;
-      colours = insertColours (S .map) (S .words) (S .colours) e;
-    }
+answered S (build l) = built (buildCall (S .words) (S .colours) l)
+answered S (remove s) = removed (removeCall (S .map) (S .words) (S .colours) s)
+answered S (insert e) = inserted (insertCall (S .map) (S .words) (S .colours) e)
 
 abbrev pub allAnswered : State → List Call → State
 allAnswered S [] = S
@@ -53,24 +46,8 @@ allAnswered S (x ∷ l) = allAnswered (answered S x) l
 -- the same by the opened calls, which do not run the check; a build has none
 abbrev pub openAnswered : State → Call → State
 openAnswered S (build l) = answered S (build l)
-openAnswered S (remove s) =
-    record {
-      map = record {
-        count = openRemoveCall (S .map) (S .words) (S .colours) s .count;
-        root = openRemoveCall (S .map) (S .words) (S .colours) s .root;
-      };
-      words = openRemoveNodes (S .map) (S .words) (S .colours) s;
-      colours = openRemoveColours (S .map) (S .words) (S .colours) s;
-    }
-openAnswered S (insert e) =
-    record {
-      map = record {
-        count = openInsertCall (S .map) (S .words) (S .colours) e .count;
-        root = openInsertCall (S .map) (S .words) (S .colours) e .root;
-      };
-      words = openInsertNodes (S .map) (S .words) (S .colours) e;
-      colours = openInsertColours (S .map) (S .words) (S .colours) e;
-    }
+openAnswered S (remove s) = removed (openRemoveCall (S .map) (S .words) (S .colours) s)
+openAnswered S (insert e) = inserted (openInsertCall (S .map) (S .words) (S .colours) e)
 
 abbrev pub allOpenAnswered : State → List Call → State
 allOpenAnswered S [] = S

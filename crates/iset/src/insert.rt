@@ -8,12 +8,12 @@ use words::refusal::Refusal;
 ghost use mathlib.Core.Path.{_≡_};
 ghost use Prim.Native.Nat.{_+_, _*_, _≤_, _<_};
 ghost use lib.ListN.{length};
-ghost use Rattle.tree_in_laws.specs.Insert.{insertRule};
+ghost use Rattle.iset.specs.Changes.{change};
 ghost use Rattle.iset.specs.Check.{checkNumber};
-ghost use Rattle.iset.specs.Insert.{entryOf, fullNumber, openInsertNumber, roomThenCheck, insertDone, insertReach, insertPaper, openInsertCall, openInsertNodes, openInsertColours, insertCall, insertNodes, insertColours};
+ghost use Rattle.iset.specs.Insert.{entryOf, fullNumber, openInsertNumber, roomThenCheck, insertAnswer, insertEntry, openInsertCall, insertCall};
 
 // The map with the entry, the entry's slot, and how many hulls changed.
-pub struct Added {
+pub struct Inserted {
     pub map: Map,
     pub slot: u64,
     pub reach: u64,
@@ -21,7 +21,7 @@ pub struct Added {
 
 // What an insertion answers. Where it is refused the map is as it was given.
 pub enum Insertion {
-    Done(Added),
+    Done(Inserted),
     Refused(Refusal),
 }
 
@@ -61,12 +61,11 @@ impl Map {
     // The insertion of an entry that there is room for.
     fn insert_entry(self, nodes: &mut [u64], colours: &mut [u8], entry: Entry) -> Insertion
         requires { ⌜ (self .count * 8 + 8 ≤ length (now nodes)) × (self .count < length (now colours) * 8) ⌝ }
-        ensures { λ r. ⌜ (insertPaper self r ≡ insertDone self (insertRule (now (nodes .entry)) (now (colours .entry)) (self .count) (self .root) entry) (insertReach self (now (nodes .entry)) (now (colours .entry)) entry))
-            × (now (nodes .exit) ≡ insertRule (now (nodes .entry)) (now (colours .entry)) (self .count) (self .root) entry .words)
-            × (now (colours .exit) ≡ insertRule (now (nodes .entry)) (now (colours .entry)) (self .count) (self .root) entry .colours) ⌝ }
+        ensures { λ r. ⌜ change (insertAnswer self r) (now (nodes .exit)) (now (colours .exit))
+            ≡ insertEntry self (now (nodes .entry)) (now (colours .entry)) entry ⌝ }
     {
         let r = force_insert(nodes, colours, self.count, self.root, entry);
-        Insertion::Done(Added {
+        Insertion::Done(Inserted {
             map: Map {
                 count: self.count + 1,
                 root: r.root,
@@ -85,9 +84,8 @@ impl Map {
         end: u64,
         value: u64,
     ) -> Insertion
-        ensures { λ r. ⌜ (insertPaper self r ≡ openInsertCall self (now (nodes .entry)) (now (colours .entry)) (entryOf start end value))
-            × (now (nodes .exit) ≡ openInsertNodes self (now (nodes .entry)) (now (colours .entry)) (entryOf start end value))
-            × (now (colours .exit) ≡ openInsertColours self (now (nodes .entry)) (now (colours .entry)) (entryOf start end value)) ⌝ }
+        ensures { λ r. ⌜ change (insertAnswer self r) (now (nodes .exit)) (now (colours .exit))
+            ≡ openInsertCall self (now (nodes .entry)) (now (colours .entry)) (entryOf start end value) ⌝ }
     {
         let entry = Entry { start, end, value };
         let Checked::Refused(why) = self.test_entry(nodes, colours, entry) else {
@@ -105,9 +103,8 @@ impl Map {
         end: u64,
         value: u64,
     ) -> Insertion
-        ensures { λ r. ⌜ (insertPaper self r ≡ insertCall self (now (nodes .entry)) (now (colours .entry)) (entryOf start end value))
-            × (now (nodes .exit) ≡ insertNodes self (now (nodes .entry)) (now (colours .entry)) (entryOf start end value))
-            × (now (colours .exit) ≡ insertColours self (now (nodes .entry)) (now (colours .entry)) (entryOf start end value)) ⌝ }
+        ensures { λ r. ⌜ change (insertAnswer self r) (now (nodes .exit)) (now (colours .exit))
+            ≡ insertCall self (now (nodes .entry)) (now (colours .entry)) (entryOf start end value) ⌝ }
     {
         let Checked::Refused(why) = self.test_insert(nodes, colours) else {
             return self.open_insert(nodes, colours, start, end, value);

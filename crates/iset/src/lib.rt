@@ -10,10 +10,21 @@ pub mod lookup;
 pub mod remove;
 pub mod scan;
 
+// What the calls' signatures name, so that a user imports from this crate alone.
 use audit::audit;
+pub use iter::Cursor;
+pub use iter::drain::Drained;
+pub use iter::rules::Query;
+pub use iter::seek::Step;
+pub use plain::Tally;
+pub use words::pair::Pair;
+pub use words::pair::Pairs;
+pub use words::interval::Bound;
+pub use words::interval::Interval;
+pub use words::interval::Span;
 use words::ix::U;
 use words::node::capacity;
-use words::refusal::Refusal;
+pub use words::refusal::Refusal;
 ghost use mathlib.Core.Path.{_≡_};
 ghost use mathlib.Core.Bool.{cond};
 ghost use Rattle.words.specs.Refusals.{refusalNumber};

@@ -23,8 +23,9 @@ ghost use Rattle.iter.specs.Places.{Placed};
 ghost use Rattle.iter.specs.Walk.{step};
 ghost use Rattle.iter.specs.Queries.{rules};
 ghost use Rattle.iter.specs.Answers.{answer, isHit};
+ghost use Rattle.iset.specs.Changes.{output};
 ghost use Rattle.iset.specs.Check.{checkNumber};
-ghost use Rattle.iset.specs.Lookup.{ordered, queryNumber, beginning, formNumber, openStartNumber, openStepNumber, openDrainNumber, startPaper, openStartCall, startCall, stepPaper, openStepCall, stepCall, drainPaper, openDrainCall, openDrainOutput, drainCall, drainOutput};
+ghost use Rattle.iset.specs.Lookup.{ordered, queryNumber, beginning, formNumber, openStartNumber, openStepNumber, openDrainNumber, startAnswer, openStartCall, startCall, stepAnswer, openStepCall, stepCall, drainAnswer, openDrainCall, drainCall};
 
 // What the calls answer.
 pub enum Started {
@@ -37,7 +38,7 @@ pub enum Stepped {
     Refused(Refusal),
 }
 
-pub enum Emptied {
+pub enum Drain {
     Done(Drained),
     Refused(Refusal),
 }
@@ -187,7 +188,7 @@ impl Map {
 
     // `fresh_exact`, `step` and `drain` for an opened store.
     pub fn open_fresh_exact(self, nodes: &[u64], colours: &[u8], query: Interval) -> Started
-        ensures { λ r. ⌜ startPaper r ≡ openStartCall self (now (nodes .entry)) (now (colours .entry)) query ⌝ }
+        ensures { λ r. ⌜ startAnswer r ≡ openStartCall self (now (nodes .entry)) (now (colours .entry)) query ⌝ }
     {
         let exact = Query::Exact(query);
         let Checked::Refused(why) = self.test_start(nodes, colours, exact) else {
@@ -197,7 +198,7 @@ impl Map {
     }
 
     pub fn open_step(self, nodes: &[u64], colours: &[u8], query: Query, cursor: Cursor) -> Stepped
-        ensures { λ r. ⌜ stepPaper cursor r ≡ openStepCall self (now (nodes .entry)) (now (colours .entry)) query cursor ⌝ }
+        ensures { λ r. ⌜ stepAnswer cursor r ≡ openStepCall self (now (nodes .entry)) (now (colours .entry)) query cursor ⌝ }
     {
         let Checked::Refused(why) = self.test_step(nodes, colours, query, cursor) else {
             return Stepped::Done(one_hit(cursor, nodes, self.count, query));
@@ -213,27 +214,21 @@ impl Map {
         cursor: Cursor,
         limit: u64,
         out: &mut [u64],
-    ) -> Emptied
-        ensures { λ r. ⌜ (drainPaper cursor r ≡ openDrainCall self (now (nodes .entry)) (now (colours .entry)) query cursor limit (length (now (out .entry))))
-            × (now (out .exit) ≡ openDrainOutput self (now (nodes .entry)) (now (colours .entry)) query cursor limit (now (out .entry))) ⌝ }
+    ) -> Drain
+        ensures { λ r. ⌜ output (drainAnswer cursor r) (now (out .exit))
+            ≡ openDrainCall self (now (nodes .entry)) (now (colours .entry)) query cursor limit (now (out .entry)) ⌝ }
     {
         let room = out.len() as u64;
         let Checked::Refused(why) = self.test_drain(nodes, colours, query, cursor, limit, room)
         else {
-            return Emptied::Done(cursor.drain(
-                nodes,
-                self.count,
-                query,
-                limit_of(limit, room),
-                out,
-            ));
+            return Drain::Done(cursor.drain(nodes, self.count, query, limit_of(limit, room), out));
         };
-        Emptied::Refused(why)
+        Drain::Refused(why)
     }
 
     // The fresh cursor of an exact lookup: at the highest entry equal to the query.
     pub fn fresh_exact(self, nodes: &[u64], colours: &[u8], query: Interval) -> Started
-        ensures { λ r. ⌜ startPaper r ≡ startCall self (now (nodes .entry)) (now (colours .entry)) query ⌝ }
+        ensures { λ r. ⌜ startAnswer r ≡ startCall self (now (nodes .entry)) (now (colours .entry)) query ⌝ }
     {
         let Checked::Refused(why) = self.check(nodes, colours) else {
             return self.open_fresh_exact(nodes, colours, query);
@@ -243,7 +238,7 @@ impl Map {
 
     // The next hit after a cursor, or the end.
     pub fn step(self, nodes: &[u64], colours: &[u8], query: Query, cursor: Cursor) -> Stepped
-        ensures { λ r. ⌜ stepPaper cursor r ≡ stepCall self (now (nodes .entry)) (now (colours .entry)) query cursor ⌝ }
+        ensures { λ r. ⌜ stepAnswer cursor r ≡ stepCall self (now (nodes .entry)) (now (colours .entry)) query cursor ⌝ }
     {
         let Checked::Refused(why) = self.check(nodes, colours) else {
             return self.open_step(nodes, colours, query, cursor);
@@ -260,13 +255,13 @@ impl Map {
         cursor: Cursor,
         limit: u64,
         out: &mut [u64],
-    ) -> Emptied
-        ensures { λ r. ⌜ (drainPaper cursor r ≡ drainCall self (now (nodes .entry)) (now (colours .entry)) query cursor limit (length (now (out .entry))))
-            × (now (out .exit) ≡ drainOutput self (now (nodes .entry)) (now (colours .entry)) query cursor limit (now (out .entry))) ⌝ }
+    ) -> Drain
+        ensures { λ r. ⌜ output (drainAnswer cursor r) (now (out .exit))
+            ≡ drainCall self (now (nodes .entry)) (now (colours .entry)) query cursor limit (now (out .entry)) ⌝ }
     {
         let Checked::Refused(why) = self.check(nodes, colours) else {
             return self.open_drain(nodes, colours, query, cursor, limit, out);
         };
-        Emptied::Refused(why)
+        Drain::Refused(why)
     }
 }

@@ -8,19 +8,19 @@ use words::refusal::Refusal;
 ghost use mathlib.Core.Path.{_≡_};
 ghost use Prim.Native.Nat.{_*_, _≤_, _<_};
 ghost use lib.ListN.{length};
-ghost use Rattle.tree_rm_laws.specs.Remove.{removeRule};
+ghost use Rattle.iset.specs.Changes.{change};
 ghost use Rattle.iset.specs.Check.{checkNumber};
-ghost use Rattle.iset.specs.Remove.{slotAfter, removeDone, removeReach, removePaper, openRemoveNumber, openRemoveCall, openRemoveNodes, openRemoveColours, removeCall, removeNodes, removeColours};
+ghost use Rattle.iset.specs.Remove.{slotAfter, removeAnswer, removeSlot, openRemoveNumber, openRemoveCall, removeCall};
 
 // The map without the entry, the entry's value, the other entries that changed slot, and how many hulls changed.
-pub struct Gone {
+pub struct Removed {
     pub map: Map,
     pub value: u64,
     pub pairs: Pairs,
     pub reach: u64,
 }
 
-impl Gone {
+impl Removed {
     // The slot of the entry that was in slot `kept` before this removal of slot `removed`; U for the removed one.
     pub fn slot_after(self, removed: u64, kept: u64) -> u64
         ensures { λ r. ⌜ r ≡ slotAfter (self .pairs) removed kept ⌝ }
@@ -43,7 +43,7 @@ impl Gone {
 
 // What a removal answers. Where it is refused the map is as it was given.
 pub enum Removal {
-    Done(Gone),
+    Done(Removed),
     Refused(Refusal),
 }
 
@@ -62,13 +62,12 @@ impl Map {
     // The removal of a slot that is there.
     fn remove_slot(self, nodes: &mut [u64], colours: &mut [u8], slot: u64) -> Removal
         requires { ⌜ (self .count * 8 ≤ length (now nodes)) × (self .count ≤ length (now colours) * 8) × (slot < self .count) ⌝ }
-        ensures { λ r. ⌜ (removePaper self r ≡ removeDone self (removeRule (now (nodes .entry)) (now (colours .entry)) (self .count) (self .root) slot) (removeReach self (now (nodes .entry)) (now (colours .entry)) slot))
-            × (now (nodes .exit) ≡ removeRule (now (nodes .entry)) (now (colours .entry)) (self .count) (self .root) slot .store .words)
-            × (now (colours .exit) ≡ removeRule (now (nodes .entry)) (now (colours .entry)) (self .count) (self .root) slot .store .colours) ⌝ }
+        ensures { λ r. ⌜ change (removeAnswer self r) (now (nodes .exit)) (now (colours .exit))
+            ≡ removeSlot self (now (nodes .entry)) (now (colours .entry)) slot ⌝ }
     {
         let r = remove_at(nodes, colours, self.count, self.root, slot);
         let pairs = r.pairs;
-        Removal::Done(Gone {
+        Removal::Done(Removed {
             map: Map {
                 count: self.count - 1,
                 root: r.root,
@@ -81,9 +80,8 @@ impl Map {
 
     // `remove` for an opened store.
     pub fn open_remove(self, nodes: &mut [u64], colours: &mut [u8], slot: u64) -> Removal
-        ensures { λ r. ⌜ (removePaper self r ≡ openRemoveCall self (now (nodes .entry)) (now (colours .entry)) slot)
-            × (now (nodes .exit) ≡ openRemoveNodes self (now (nodes .entry)) (now (colours .entry)) slot)
-            × (now (colours .exit) ≡ openRemoveColours self (now (nodes .entry)) (now (colours .entry)) slot) ⌝ }
+        ensures { λ r. ⌜ change (removeAnswer self r) (now (nodes .exit)) (now (colours .exit))
+            ≡ openRemoveCall self (now (nodes .entry)) (now (colours .entry)) slot ⌝ }
     {
         let Checked::Refused(why) = self.test_slot(nodes, colours, slot) else {
             return self.remove_slot(nodes, colours, slot);
@@ -93,9 +91,8 @@ impl Map {
 
     // Removes the entry of a slot. Up to three other entries change slot with it; the answer names them.
     pub fn remove(self, nodes: &mut [u64], colours: &mut [u8], slot: u64) -> Removal
-        ensures { λ r. ⌜ (removePaper self r ≡ removeCall self (now (nodes .entry)) (now (colours .entry)) slot)
-            × (now (nodes .exit) ≡ removeNodes self (now (nodes .entry)) (now (colours .entry)) slot)
-            × (now (colours .exit) ≡ removeColours self (now (nodes .entry)) (now (colours .entry)) slot) ⌝ }
+        ensures { λ r. ⌜ change (removeAnswer self r) (now (nodes .exit)) (now (colours .exit))
+            ≡ removeCall self (now (nodes .entry)) (now (colours .entry)) slot ⌝ }
     {
         let Checked::Refused(why) = self.check(nodes, colours) else {
             return self.open_remove(nodes, colours, slot);

@@ -6,9 +6,9 @@ use plain::Tally;
 use plain::scan;
 use words::refusal::Refusal;
 ghost use mathlib.Core.Path.{_≡_};
-ghost use lib.ListN.{length};
+ghost use Rattle.iset.specs.Changes.{output};
 ghost use Rattle.iset.specs.Check.{checkNumber};
-ghost use Rattle.iset.specs.Plain.{openPlainNumber, plainPaper, openPlainCall, openPlainOutput, plainCall, plainOutput};
+ghost use Rattle.iset.specs.Plain.{openPlainNumber, plainAnswer, openPlainCall, plainCall};
 
 // What the call answers.
 pub enum Looked {
@@ -30,8 +30,7 @@ impl Map {
 
     // `plain` for an opened store.
     pub fn open_plain(self, nodes: &[u64], colours: &[u8], query: Query, out: &mut [u64]) -> Looked
-        ensures { λ r. ⌜ (plainPaper r ≡ openPlainCall self (now (nodes .entry)) (now (colours .entry)) query (length (now (out .entry))))
-            × (now (out .exit) ≡ openPlainOutput self (now (nodes .entry)) (now (colours .entry)) query (now (out .entry))) ⌝ }
+        ensures { λ r. ⌜ output (plainAnswer r) (now (out .exit)) ≡ openPlainCall self (now (nodes .entry)) (now (colours .entry)) query (now (out .entry)) ⌝ }
     {
         let room = out.len() as u64;
         let Checked::Refused(why) = self.test_plain(nodes, colours, query, room) else {
@@ -42,8 +41,7 @@ impl Map {
 
     // The slots of all entries that the query asks for, in tree order, into an output that has a place for every entry.
     pub fn plain(self, nodes: &[u64], colours: &[u8], query: Query, out: &mut [u64]) -> Looked
-        ensures { λ r. ⌜ (plainPaper r ≡ plainCall self (now (nodes .entry)) (now (colours .entry)) query (length (now (out .entry))))
-            × (now (out .exit) ≡ plainOutput self (now (nodes .entry)) (now (colours .entry)) query (now (out .entry))) ⌝ }
+        ensures { λ r. ⌜ output (plainAnswer r) (now (out .exit)) ≡ plainCall self (now (nodes .entry)) (now (colours .entry)) query (now (out .entry)) ⌝ }
     {
         let Checked::Refused(why) = self.check(nodes, colours) else {
             return self.open_plain(nodes, colours, query, out);

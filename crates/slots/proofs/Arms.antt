@@ -11,17 +11,18 @@ use borrow.Author.Tests.{leb-true, ne-eqb}
 use Rattle.words.specs.Refusals.{refusalNumber}
 use Rattle.words.specs.declared.refusal.Refusal.{Refusal}
 use Rattle.words.proofs.Refusals.{number-pos}
-use Rattle.iset.specs.Build.{BuildAnswer, buildPaper, buildRule, buildNodes, buildColour}
-use Rattle.iset.specs.Remove.{RemoveAnswer, removePaper, removeCall, removeNodes, removeColours}
+use Rattle.iset.specs.Changes.{Change, change}
+use Rattle.iset.specs.Build.{buildAnswer, buildCall}
+use Rattle.iset.specs.Remove.{removeAnswer, removeCall}
 use Rattle.iset.specs.declared.Map.{Map}
 use Rattle.iset.specs.declared.build.Built.{Built}
 use Rattle.iset.specs.declared.build.Built.the-variants as built
-use Rattle.iset.specs.declared.remove.Gone.{Gone}
+use Rattle.iset.specs.declared.remove.Removed.{Removed}
 use Rattle.iset.specs.declared.remove.Removal.{Removal}
 use Rattle.iset.specs.declared.remove.Removal.the-variants as removal
 use Rattle.lines.specs.Output.{page}
 use Rattle.slots.specs.Reading.{gapAfter, byteRule, complete, endRule, newRule}
-use Rattle.slots.specs.Working.{Shelf, Desk, shelf, desk, roomFor, enteredWork, enteredList, listedIn, workLeft}
+use Rattle.slots.specs.Working.{Desk, desk, roomFor, enteredWork, enteredList, listedIn, workLeft, buildLeft, removeLeft}
 use Rattle.slots.specs.Working.{builtIn, removalIn, settledIn, removedIn, wrongIn, onDesk, lineIn}
 use Rattle.slots.specs.Feeding.{Turn, turn, stepped, lined, lastLine, settledDesk, finished, printedOn}
 use Rattle.slots.specs.Writing.{puts, workText}
@@ -74,11 +75,11 @@ module _ (w z : Work) (e : w ≡ z) where
   pub wrong-of : (r : Work) → r ≡ wrongIn z → r ≡ wrongIn w
   wrong-of r h = rw e h
 
-  module _ (W C : List ℕ) (h : Shelf) where
-    pub settled-of : (E : List ℕ) → h ≡ settledIn E (shelf z W C) → h ≡ settledIn E (shelf w W C)
+  module _ (W C : List ℕ) (h : Change Work) where
+    pub settled-of : (E : List ℕ) → h ≡ settledIn E (change z W C) → h ≡ settledIn E (change w W C)
     settled-of E p = rw e p
 
-    pub removed-of : (k : ℕ) → h ≡ removedIn k (shelf z W C) → h ≡ removedIn k (shelf w W C)
+    pub removed-of : (k : ℕ) → h ≡ removedIn k (change z W C) → h ≡ removedIn k (change w W C)
     removed-of k p = rw e p
 
 pub three : (E : List ℕ) (i a b c : ℕ) → set (set (set E i a) (i + 1) b) (i + 2) c ≡ sets E i (a ∷ b ∷ c ∷ [])
@@ -87,44 +88,36 @@ three E i a b c =
     let q : i + 2 ≡ suc (suc i) = omega arith in
     rw (p, q)
 
--- what a call leaves where it is done, and where it is refused
-work-refused : (y : Refusal) (n r : ℕ) → workLeft (refusalNumber y) n r ≡ Refused (refusalNumber y)
-work-refused y n r = rw (ne-eqb (refusalNumber y) 0 (λ f. omega (arith, number-pos y)))
+-- what a call leads to where it is done, and where it is refused
+work-refused : (y : Refusal) (m : Map) → workLeft (refusalNumber y) m ≡ Refused (refusalNumber y)
+work-refused y m = rw (ne-eqb (refusalNumber y) 0 (λ f. omega (arith, number-pos y)))
 
-shelf-is : (r s : Work) (W X C K : List ℕ) → r ≡ s → W ≡ X → C ≡ K → shelf r W C ≡ shelf s X K
-shelf-is r s W X C K e p q = λ i. shelf (e i) (p i) (q i)
-
-module _ (b : Built) (n m : ℕ) (W C E X K : List ℕ) (f : m ≡ min n (length E / 3))
-    (e : buildPaper b ≡ buildRule W C (take (m * 3) E)) (p : X ≡ buildNodes W C (take (m * 3) E)) (q : K ≡ buildColour W C (take (m * 3) E)) where
-  build-left : (r : Work) → r ≡ workLeft (buildPaper b .no) (buildPaper b .count) (buildPaper b .root)
-      → shelf r X K ≡ builtIn W C (listedIn n E)
+module _ (b : Built) (n m : ℕ) (W C E X K : List ℕ) (f : m ≡ min n (length E / 3)) (e : change (buildAnswer b) X K ≡ buildCall W C (take (m * 3) E)) where
+  build-left : (r : Work) → r ≡ workLeft (buildAnswer b .no) (buildAnswer b .map) → change r X K ≡ builtIn W C (listedIn n E)
   unfolding builtIn listedIn
-  build-left r h =
-      rw (← f) (shelf-is r _ X _ K _ (h ∙ ap (λ (a : BuildAnswer). workLeft (a .no) (a .count) (a .root)) e) p q)
+  build-left r h = rw (← f) (ap (λ (w : Work). change w X K) h ∙ ap buildLeft e)
 
-  pub build-done : (r : Work) (o : Map) → b ≡ built.Done o → r ≡ Held o → shelf r X K ≡ builtIn W C (listedIn n E)
+  pub build-done : (r : Work) (o : Map) → b ≡ built.Done o → r ≡ Held o → change r X K ≡ builtIn W C (listedIn n E)
   build-done r o d h = build-left r (rw d h)
 
-  pub build-refused : (r : Work) (y : Refusal) → b ≡ built.Refused y → r ≡ Refused (refusalNumber y) → shelf r X K ≡ builtIn W C (listedIn n E)
-  build-refused r y d h = build-left r (rw d (h ∙ sym (work-refused y _ _)))
+  pub build-refused : (r : Work) (y : Refusal) → b ≡ built.Refused y → r ≡ Refused (refusalNumber y) → change r X K ≡ builtIn W C (listedIn n E)
+  build-refused r y d h = build-left r (rw d (h ∙ sym (work-refused y _)))
 
-module _ (b : Removal) (m : Map) (k : ℕ) (W C X K : List ℕ)
-    (e : removePaper m b ≡ removeCall m W C k) (p : X ≡ removeNodes m W C k) (q : K ≡ removeColours m W C k) where
-  remove-left : (r : Work) → r ≡ workLeft (removePaper m b .no) (removePaper m b .count) (removePaper m b .root)
-      → shelf r X K ≡ removalIn m W C k
+module _ (b : Removal) (m : Map) (k : ℕ) (W C X K : List ℕ) (e : change (removeAnswer m b) X K ≡ removeCall m W C k) where
+  remove-left : (r : Work) → r ≡ workLeft (removeAnswer m b .no) (removeAnswer m b .map) → change r X K ≡ removalIn m W C k
   unfolding removalIn
-  remove-left r h = shelf-is r _ X _ K _ (h ∙ ap (λ (a : RemoveAnswer). workLeft (a .no) (a .count) (a .root)) e) p q
+  remove-left r h = ap (λ (w : Work). change w X K) h ∙ ap removeLeft e
 
-  pub remove-done : (r : Work) (g : Gone) → b ≡ removal.Done g → r ≡ Held (g .map) → shelf r X K ≡ removalIn m W C k
+  pub remove-done : (r : Work) (g : Removed) → b ≡ removal.Done g → r ≡ Held (g .map) → change r X K ≡ removalIn m W C k
   remove-done r g d h = remove-left r (rw d h)
 
-  pub remove-refused : (r : Work) (y : Refusal) → b ≡ removal.Refused y → r ≡ Refused (refusalNumber y) → shelf r X K ≡ removalIn m W C k
-  remove-refused r y d h = remove-left r (rw d (h ∙ sym (work-refused y _ _)))
+  pub remove-refused : (r : Work) (y : Refusal) → b ≡ removal.Refused y → r ≡ Refused (refusalNumber y) → change r X K ≡ removalIn m W C k
+  remove-refused r y d h = remove-left r (rw d (h ∙ sym (work-refused y _)))
 
 -- a removal after the build
-pub removed-then : (r w : Work) (h : Shelf) (X K Y L : List ℕ) (k : ℕ) → shelf w X K ≡ h → shelf r Y L ≡ removedIn k (shelf w X K)
-    → shelf r Y L ≡ removedIn k h
-removed-then r w h X K Y L k e q = q ∙ ap (λ (s : Shelf). removedIn k s) e
+pub removed-then : (r w : Work) (h : Change Work) (X K Y L : List ℕ) (k : ℕ) → change w X K ≡ h → change r Y L ≡ removedIn k (change w X K)
+    → change r Y L ≡ removedIn k h
+removed-then r w h X K Y L k e q = q ∙ ap (λ (s : Change Work). removedIn k s) e
 
 -- one line
 module _ (said : Said) (w r : Work) (W C E : List ℕ) where
@@ -133,7 +126,7 @@ module _ (said : Said) (w r : Work) (W C E : List ℕ) where
   unfolding lineIn
   line-entry a b c F e p q = rw e (λ i. desk (p i) W C (q i))
 
-  pub line-remove : (k : ℕ) (X K : List ℕ) → said ≡ Remove k → shelf r X K ≡ removedIn k (settledIn E (shelf w W C))
+  pub line-remove : (k : ℕ) (X K : List ℕ) → said ≡ Remove k → change r X K ≡ removedIn k (settledIn E (change w W C))
       → desk r X K E ≡ lineIn said (desk w W C E)
   unfolding lineIn
   line-remove k X K e p = rw e (λ i. onDesk (p i) E)
@@ -169,7 +162,7 @@ module _ (s : State) (r : Work) (W C E : List ℕ) where
   unfolding lastLine
   last-line b o X K F e t q p = rw (sym e ∙ t, ← q) p
 
-pub settled-then : (r w : Work) (d : Desk) (W C E X K : List ℕ) → desk w W C E ≡ d → shelf r X K ≡ settledIn E (shelf w W C)
+pub settled-then : (r w : Work) (d : Desk) (W C E X K : List ℕ) → desk w W C E ≡ d → change r X K ≡ settledIn E (change w W C)
     → desk r X K E ≡ settledDesk d
 settled-then r w d W C E X K e q =
     let f : desk r X K E ≡ settledDesk (desk w W C E) = λ i. onDesk (q i) E in

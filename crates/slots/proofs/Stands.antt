@@ -8,15 +8,16 @@ use lib.ListN.{length, take, drop, length-append}
 use lib.Seq.{sets, sets-eq, length-sets, take-at, length-take-le}
 use lib.Dec.{eqb, ltb, leb}
 use borrow.Author.Tests.{ltb-true, eqb-true, eq-eqb, le-leb}
-use Rattle.words.specs.Ix.{U}
-use Rattle.builder.specs.Build.{buildRoot}
 use Rattle.tree_rm_laws.specs.Remove.{removeRule}
 use Rattle.tree_edit.specs.Inside.{Inside}
 use Rattle.tree_rm_laws.proofs.Inside.{removed-inside}
-use Rattle.iset.specs.Build.{BuildAnswer, buildNumber, buildRule, buildNodes, buildColour}
-use Rattle.iset.specs.Remove.{RemoveAnswer, removeNumber, refusedRemoval, removeDone, removeReach, removeCall, removeNodes, removeColours}
+use Rattle.iset.specs.Changes.{Change}
+use Rattle.iset.specs.Build.{BuildAnswer, buildCall}
+use Rattle.iset.specs.Remove.{RemoveAnswer, removeNumber, removeCall}
 use Rattle.iset.specs.declared.Map.{Map}
-use Rattle.iset.proofs.Builds.{Accepted, accepted, builds}
+use Rattle.iset.proofs.Answers.{build-answers}
+use Rattle.iset.proofs.Builds.{Accepted, accepted}
+use Rattle.iset.proofs.Refusals.{build-no, remove-no}
 use Rattle.iset.proofs.Removals.{accepts}
 use Rattle.slots.specs.Printed.{Stand, listed, held, refused, left, built, settled, removal, removed, entered, wrong, after}
 use Rattle.slots.specs.Working.{Desk, desk, roomFor, enteredWork, enteredList, listedIn, workLeft}
@@ -70,53 +71,27 @@ list-more n a b c E h long =
     ∙ ap (λ (s : List ℕ). s ++ v) (sym (list-take n E (omega arith) long))
 
 -- what a call leaves: the number of a refusal, or the map, whose entries the words hold
-module _ (W C : List ℕ) (why count root : ℕ) (X K E : List ℕ) (long : 768 ≤ length E) where
-  call-left : (why ≡ 0 → (count ≤ 256) × (count * 8 ≤ length X))
-      → Stands W C (desk (workLeft why count root) X K E) (left why count root X K)
+module _ (W C : List ℕ) (why : ℕ) (m : Map) (X K E : List ℕ) (long : 768 ≤ length E) where
+  call-left : (why ≡ 0 → (m .count ≤ 256) × (m .count * 8 ≤ length X)) → Stands W C (desk (workLeft why m) X K E) (left why m X K)
   call-left f = go (eqb why 0) refl
     where
-      go : (t : Bool) → eqb why 0 ≡ t
-          → Stands W C (desk (cond t (Held (record { count = count; root = root })) (Refused why)) X K E)
-          (cond t (held (record { count = count; root = root }) X K) (refused why))
+      go : (t : Bool) → eqb why 0 ≡ t → Stands W C (desk (cond t (Held m) (Refused why)) X K E) (cond t (held m X K) (refused why))
       go true e = record { same = refl; kept = f (eqb-true why 0 e); long = long }
       go false e = record { same = refl; kept = tt; long = long }
 
--- the number of a call's answer is that of its tests
-build-number : (W C S : List ℕ) → buildRule W C S .no ≡ 0 → buildNumber (length W) (length C) S ≡ 0
-unfolding buildRule
-build-number W C S e = go (eqb (buildNumber (length W) (length C) S) 0) refl e
-  where
-    go : (t : Bool) → eqb (buildNumber (length W) (length C) S) 0 ≡ t
-        → cond {A = BuildAnswer} t (record { no = 0; count = length S / 3; root = buildRoot (length S / 3) })
-        (record { no = buildNumber (length W) (length C) S; count = 0; root = U }) .no ≡ 0 → buildNumber (length W) (length C) S ≡ 0
-    go true f z = eqb-true (buildNumber (length W) (length C) S) 0 f
-    go false f z = z
-
-remove-number : (m : Map) (W C : List ℕ) (k : ℕ) → removeCall m W C k .no ≡ 0 → removeNumber m W C k ≡ 0
-unfolding removeCall
-remove-number m W C k e = go (eqb (removeNumber m W C k) 0) refl e
-  where
-    go : (t : Bool) → eqb (removeNumber m W C k) 0 ≡ t
-        → cond {A = RemoveAnswer} t (removeDone m (removeRule W C (m .count) (m .root) k) (removeReach m W C k)) (refusedRemoval m (removeNumber m W C k)) .no ≡ 0
-        → removeNumber m W C k ≡ 0
-    go true f z = eqb-true (removeNumber m W C k) 0 f
-    go false f z = z
-
 -- what an accepted build answers, and an accepted removal
-build-held : (W C S : List ℕ) → length S ≤ 768 → buildRule W C S .no ≡ 0
-    → (buildRule W C S .count ≤ 256) × (buildRule W C S .count * 8 ≤ length (buildNodes W C S))
-unfolding buildRule
+build-held : (W C S : List ℕ) → length S ≤ 768 → buildCall W C S .answer .no ≡ 0
+    → (buildCall W C S .answer .map .count ≤ 256) × (buildCall W C S .answer .map .count * 8 ≤ length (buildCall W C S .words))
 build-held W C S h e =
-    let z : buildNumber (length W) (length C) S ≡ 0 = build-number W C S e in
-    let a : Accepted (length W) (length C) S = accepted (length W) (length C) S z in
-    let l : length (buildNodes W C S) ≡ length W = builds W C S z .words-length in
-    rw (eq-eqb (buildNumber (length W) (length C) S) 0 z, l) (omega arith, omega (arith, a .room-for))
+    let a : Accepted (length W) (length C) S = accepted (length W) (length C) S (sym (build-no W C S) ∙ e) in
+    let b = build-answers W C S e in
+    (omega (arith, b .0), omega (arith, b .0, b .1 .words-length, a .room-for))
 
-remove-held : (m : Map) (W C : List ℕ) (k : ℕ) → m .count ≤ 256 → m .count * 8 ≤ length W → removeCall m W C k .no ≡ 0
-    → (removeCall m W C k .count ≤ 256) × (removeCall m W C k .count * 8 ≤ length (removeNodes m W C k))
-unfolding removeCall removeNodes
+remove-held : (m : Map) (W C : List ℕ) (k : ℕ) → m .count ≤ 256 → m .count * 8 ≤ length W → removeCall m W C k .answer .no ≡ 0
+    → (removeCall m W C k .answer .map .count ≤ 256) × (removeCall m W C k .answer .map .count * 8 ≤ length (removeCall m W C k .words))
+unfolding removeCall
 remove-held m W C k h g e =
-    let z : removeNumber m W C k ≡ 0 = remove-number m W C k e in
+    let z : removeNumber m W C k ≡ 0 = sym (remove-no m W C k) ∙ e in
     let i : Inside (m .count) W C (removeRule W C (m .count) (m .root) k .store) =
     removed-inside W C (m .count) (m .root) k (accepts m W C k z .1) in
     rw (eq-eqb (removeNumber m W C k) 0 z, i .words-length) (omega arith, omega arith)
@@ -126,8 +101,8 @@ module _ (W C : List ℕ) where
   built-stands : (S E : List ℕ) → length S ≤ 768 → 768 ≤ length E → Stands W C (onDesk (builtIn W C S) E) (built W C S)
   unfolding builtIn built
   built-stands S E h long =
-      call-left W C (buildRule W C S .no) (buildRule W C S .count) (buildRule W C S .root) (buildNodes W C S) (buildColour W C S) E long
-      (build-held W C S h)
+      let r : Change BuildAnswer = buildCall W C S in
+      call-left W C (r .answer .no) (r .answer .map) (r .words) (r .colours) E long (build-held W C S h)
 
   settled-of : (w : Work) (X K E : List ℕ) → Kept W C w X K → 768 ≤ length E
       → Stands W C (onDesk (settledBy E w X K) E) (settled W C (standOf w X K E))
@@ -140,8 +115,8 @@ module _ (W C : List ℕ) where
       → Stands W C (onDesk (removalIn m X K k) E) (removal m X K k)
   unfolding removalIn removal
   removal-stands m X K E k h g long =
-      call-left W C (removeCall m X K k .no) (removeCall m X K k .count) (removeCall m X K k .root) (removeNodes m X K k) (removeColours m X K k) E
-      long (remove-held m X K k h g)
+      let r : Change RemoveAnswer = removeCall m X K k in
+      call-left W C (r .answer .no) (r .answer .map) (r .words) (r .colours) E long (remove-held m X K k h g)
 
   removed-of : (k : ℕ) (w : Work) (X K E : List ℕ) → Kept W C w X K → 768 ≤ length E
       → Stands W C (onDesk (removedBy k w X K) E) (removed k (standOf w X K E))

@@ -4,8 +4,9 @@ use mathlib.Core.List.{List, foldl}
 use Prim.Native.Nat.{ℕ}
 use lib.Dec.{eqb}
 use Rattle.lines.specs.Output.{Page, page}
+use Rattle.iset.specs.Changes.{change}
 use Rattle.slots.specs.Reading.{byteRule, endRule, newRule}
-use Rattle.slots.specs.Working.{Desk, shelf, desk, lineIn, settledIn, onDesk}
+use Rattle.slots.specs.Working.{Desk, desk, lineIn, settledIn, onDesk}
 use Rattle.slots.specs.Writing.{puts, workText}
 use Rattle.slots.specs.declared.State.{State}
 use Rattle.slots.specs.declared.reading.Line.{Line}
@@ -40,7 +41,7 @@ lastLine t = cond (newRule (t .line)) (t .desk) (lined t)
 
 -- the end of the input
 abbrev pub settledDesk : Desk → Desk
-settledDesk d = onDesk (settledIn (d .entries) (shelf (d .work) (d .nodes) (d .colours))) (d .entries)
+settledDesk d = onDesk (settledIn (d .entries) (change (d .work) (d .nodes) (d .colours))) (d .entries)
 
 abbrev pub ended : Turn → Desk
 ended t = settledDesk (lastLine t)

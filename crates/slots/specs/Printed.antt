@@ -4,8 +4,9 @@ use mathlib.Core.List.{List, [], _∷_, _++_}
 use Prim.Native.Nat.{ℕ, _/_}
 use lib.ListN.{length, replicate}
 use lib.Dec.{eqb, ltb}
-use Rattle.iset.specs.Build.{buildRule, buildNodes, buildColour}
-use Rattle.iset.specs.Remove.{removeCall, removeNodes, removeColours}
+use Rattle.iset.specs.Changes.{Change}
+use Rattle.iset.specs.Build.{BuildAnswer, buildCall}
+use Rattle.iset.specs.Remove.{RemoveAnswer, removeCall}
 use Rattle.iset.specs.declared.Map.{Map}
 use Rattle.slots.specs.Words.{words, said}
 use Rattle.slots.specs.Text.{mapText, refusalText}
@@ -28,12 +29,12 @@ pub data Stand : Type 0 where
   refused : ℕ → Stand
 
 -- what a call leaves: its number, the map that it answered, the words and the colours
-abbrev pub left : ℕ → ℕ → ℕ → List ℕ → List ℕ → Stand
-left why count root W C = cond (eqb why 0) (held (record { count = count; root = root }) W C) (refused why)
+abbrev pub left : ℕ → Map → List ℕ → List ℕ → Stand
+left why m W C = cond (eqb why 0) (held m W C) (refused why)
 
 -- the build of the entries E in the words W and the colours C
 unfoldable pub built : List ℕ → List ℕ → List ℕ → Stand
-built W C E = left (buildRule W C E .no) (buildRule W C E .count) (buildRule W C E .root) (buildNodes W C E) (buildColour W C E)
+built W C E = let r : Change BuildAnswer = buildCall W C E in left (r .answer .no) (r .answer .map) (r .words) (r .colours)
 
 -- "It builds at the first `remove` or at the end of input"
 abbrev pub settled : List ℕ → List ℕ → Stand → Stand
@@ -42,8 +43,7 @@ settled W C (held m X K) = held m X K
 settled W C (refused why) = refused why
 
 unfoldable pub removal : Map → List ℕ → List ℕ → ℕ → Stand
-removal m W C k =
-    left (removeCall m W C k .no) (removeCall m W C k .count) (removeCall m W C k .root) (removeNodes m W C k) (removeColours m W C k)
+removal m W C k = let r : Change RemoveAnswer = removeCall m W C k in left (r .answer .no) (r .answer .map) (r .words) (r .colours)
 
 abbrev pub removed : ℕ → Stand → Stand
 removed k (listed E) = listed E

@@ -5,28 +5,21 @@ use Prim.Native.Nat.{ℕ, _+_, _*_, _/_, min}
 use lib.ListN.{length, take}
 use lib.Seq.{sets}
 use lib.Dec.{eqb, ltb, leb}
-use Rattle.iset.specs.Build.{buildRule, buildNodes, buildColour}
-use Rattle.iset.specs.Remove.{removeCall, removeNodes, removeColours}
+use Rattle.iset.specs.Changes.{Change, change}
+use Rattle.iset.specs.Build.{BuildAnswer, buildCall}
+use Rattle.iset.specs.Remove.{RemoveAnswer, removeCall}
 use Rattle.iset.specs.declared.Map.{Map}
 use Rattle.slots.specs.declared.reading.Said.{Said}
 use Rattle.slots.specs.declared.reading.Said.the-variants.{Entry, Remove, Other}
 use Rattle.slots.specs.declared.working.Work.{Work}
 use Rattle.slots.specs.declared.working.Work.the-variants.{Listing, Held, Refused}
 
--- the work with the map's memory; with the list's too
-pub record Shelf : Type 0 where
-  pub work : Work
-  pub nodes : List ℕ
-  pub colours : List ℕ
-
+-- The work with the map's memory is a `Change Work`; with the list's too it is this.
 pub record Desk : Type 0 where
   pub work : Work
   pub nodes : List ℕ
   pub colours : List ℕ
   pub entries : List ℕ
-
-abbrev pub shelf : Work → List ℕ → List ℕ → Shelf
-shelf w W C = record { work = w; nodes = W; colours = C }
 
 abbrev pub desk : Work → List ℕ → List ℕ → List ℕ → Desk
 desk w W C E = record { work = w; nodes = W; colours = C; entries = E }
@@ -50,35 +43,38 @@ enteredList (Refused why) a b c E = E
 unfoldable pub listedIn : ℕ → List ℕ → List ℕ
 listedIn n E = take (min n (length E / 3) * 3) E
 
--- what a call leaves
-abbrev pub workLeft : ℕ → ℕ → ℕ → Work
-workLeft why count root = cond (eqb why 0) (Held (record { count = count; root = root })) (Refused why)
+-- what a call leads to, by its number and the map that it answered
+abbrev pub workLeft : ℕ → Map → Work
+workLeft why m = cond (eqb why 0) (Held m) (Refused why)
+
+abbrev pub buildLeft : Change BuildAnswer → Change Work
+buildLeft r = change (workLeft (r .answer .no) (r .answer .map)) (r .words) (r .colours)
+
+abbrev pub removeLeft : Change RemoveAnswer → Change Work
+removeLeft r = change (workLeft (r .answer .no) (r .answer .map)) (r .words) (r .colours)
 
 -- the build of the list S; the removal of slot k
-unfoldable pub builtIn : List ℕ → List ℕ → List ℕ → Shelf
-builtIn W C S =
-    shelf (workLeft (buildRule W C S .no) (buildRule W C S .count) (buildRule W C S .root)) (buildNodes W C S) (buildColour W C S)
+unfoldable pub builtIn : List ℕ → List ℕ → List ℕ → Change Work
+builtIn W C S = buildLeft (buildCall W C S)
 
-unfoldable pub removalIn : Map → List ℕ → List ℕ → ℕ → Shelf
-removalIn m W C k =
-    shelf (workLeft (removeCall m W C k .no) (removeCall m W C k .count) (removeCall m W C k .root)) (removeNodes m W C k)
-    (removeColours m W C k)
+unfoldable pub removalIn : Map → List ℕ → List ℕ → ℕ → Change Work
+removalIn m W C k = removeLeft (removeCall m W C k)
 
-abbrev pub settledBy : List ℕ → Work → List ℕ → List ℕ → Shelf
+abbrev pub settledBy : List ℕ → Work → List ℕ → List ℕ → Change Work
 settledBy E (Listing n) W C = builtIn W C (listedIn n E)
-settledBy E (Held m) W C = shelf (Held m) W C
-settledBy E (Refused why) W C = shelf (Refused why) W C
+settledBy E (Held m) W C = change (Held m) W C
+settledBy E (Refused why) W C = change (Refused why) W C
 
-abbrev pub settledIn : List ℕ → Shelf → Shelf
-settledIn E h = settledBy E (h .work) (h .nodes) (h .colours)
+abbrev pub settledIn : List ℕ → Change Work → Change Work
+settledIn E h = settledBy E (h .answer) (h .words) (h .colours)
 
-abbrev pub removedBy : ℕ → Work → List ℕ → List ℕ → Shelf
-removedBy k (Listing n) W C = shelf (Listing n) W C
+abbrev pub removedBy : ℕ → Work → List ℕ → List ℕ → Change Work
+removedBy k (Listing n) W C = change (Listing n) W C
 removedBy k (Held m) W C = removalIn m W C k
-removedBy k (Refused why) W C = shelf (Refused why) W C
+removedBy k (Refused why) W C = change (Refused why) W C
 
-abbrev pub removedIn : ℕ → Shelf → Shelf
-removedIn k h = removedBy k (h .work) (h .nodes) (h .colours)
+abbrev pub removedIn : ℕ → Change Work → Change Work
+removedIn k h = removedBy k (h .answer) (h .words) (h .colours)
 
 -- any other line
 abbrev pub wrongIn : Work → Work
@@ -87,11 +83,11 @@ wrongIn (Held m) = Refused 8
 wrongIn (Refused why) = Refused why
 
 -- one line more
-abbrev pub onDesk : Shelf → List ℕ → Desk
-onDesk h E = desk (h .work) (h .nodes) (h .colours) E
+abbrev pub onDesk : Change Work → List ℕ → Desk
+onDesk h E = desk (h .answer) (h .words) (h .colours) E
 
 unfoldable pub lineIn : Said → Desk → Desk
 lineIn (Entry a b c) d =
     desk (enteredWork (d .work) (length (d .entries))) (d .nodes) (d .colours) (enteredList (d .work) a b c (d .entries))
-lineIn (Remove k) d = onDesk (removedIn k (settledIn (d .entries) (shelf (d .work) (d .nodes) (d .colours)))) (d .entries)
+lineIn (Remove k) d = onDesk (removedIn k (settledIn (d .entries) (change (d .work) (d .nodes) (d .colours)))) (d .entries)
 lineIn Other d = desk (wrongIn (d .work)) (d .nodes) (d .colours) (d .entries)

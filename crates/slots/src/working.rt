@@ -1,16 +1,17 @@
 // The lines' work: entries are listed, then built into a map, from which slots are removed.
 use crate::reading::Said;
 use iset::Map;
+use iset::Refusal;
 use iset::build::Built;
 use iset::remove::Removal;
-use words::refusal::Refusal;
 ghost use mathlib.Core.Path.{_≡_};
 ghost use Prim.Native.Nat.{_+_, _*_, _/_, _≤_, min};
 ghost use lib.ListN.{length};
 ghost use lib.Seq.{sets};
 ghost use mathlib.Core.List.{[], _∷_};
 ghost use Rattle.words.specs.Refusals.{refusalNumber};
-ghost use Rattle.slots.specs.Working.{shelf, desk, roomFor, enteredWork, enteredList, listedIn};
+ghost use Rattle.iset.specs.Changes.{change};
+ghost use Rattle.slots.specs.Working.{desk, roomFor, enteredWork, enteredList, listedIn};
 ghost use Rattle.slots.specs.Working.{builtIn, removalIn, settledIn, removedIn, wrongIn, lineIn};
 
 // What the lines so far have led to: the number of entries in the list; the map that was built; the first refusal's number.
@@ -64,7 +65,7 @@ fn list_entry(n: usize, a: u64, b: u64, c: u64, entries: &mut [u64]) -> Work
 
 // The map of the n entries that are listed.
 fn build(n: usize, nodes: &mut [u64], colours: &mut [u8], entries: &[u64]) -> Work
-    ensures { λ r. ⌜ shelf r (now (nodes .exit)) (now (colours .exit))
+    ensures { λ r. ⌜ change r (now (nodes .exit)) (now (colours .exit))
         ≡ builtIn (now (nodes .entry)) (now (colours .entry)) (listedIn n (now (entries .entry))) ⌝ }
 {
     let m = least(n, entries.len() / 3);
@@ -75,7 +76,7 @@ fn build(n: usize, nodes: &mut [u64], colours: &mut [u8], entries: &[u64]) -> Wo
 }
 
 fn remove_slot(map: Map, k: u64, nodes: &mut [u64], colours: &mut [u8]) -> Work
-    ensures { λ r. ⌜ shelf r (now (nodes .exit)) (now (colours .exit)) ≡ removalIn map (now (nodes .entry)) (now (colours .entry)) k ⌝ }
+    ensures { λ r. ⌜ change r (now (nodes .exit)) (now (colours .exit)) ≡ removalIn map (now (nodes .entry)) (now (colours .entry)) k ⌝ }
 {
     match map.remove(nodes, colours, k) {
         Removal::Done(gone) => {
@@ -101,8 +102,8 @@ impl Work {
 
     // The entries are complete: the map is built, where it is not built yet.
     pub(crate) fn settle(self, nodes: &mut [u64], colours: &mut [u8], entries: &[u64]) -> Work
-        ensures { λ r. ⌜ shelf r (now (nodes .exit)) (now (colours .exit))
-            ≡ settledIn (now (entries .entry)) (shelf self (now (nodes .entry)) (now (colours .entry))) ⌝ }
+        ensures { λ r. ⌜ change r (now (nodes .exit)) (now (colours .exit))
+            ≡ settledIn (now (entries .entry)) (change self (now (nodes .entry)) (now (colours .entry))) ⌝ }
     {
         match self {
             Work::Listing(n) => build(n, nodes, colours, entries),
@@ -113,8 +114,8 @@ impl Work {
 
     // A removal from the map that is held.
     fn remove_held(self, k: u64, nodes: &mut [u64], colours: &mut [u8]) -> Work
-        ensures { λ r. ⌜ shelf r (now (nodes .exit)) (now (colours .exit))
-            ≡ removedIn k (shelf self (now (nodes .entry)) (now (colours .entry))) ⌝ }
+        ensures { λ r. ⌜ change r (now (nodes .exit)) (now (colours .exit))
+            ≡ removedIn k (change self (now (nodes .entry)) (now (colours .entry))) ⌝ }
     {
         match self {
             Work::Listing(n) => Work::Listing(n),
@@ -124,8 +125,8 @@ impl Work {
     }
 
     fn remove(self, k: u64, nodes: &mut [u64], colours: &mut [u8], entries: &[u64]) -> Work
-        ensures { λ r. ⌜ shelf r (now (nodes .exit)) (now (colours .exit))
-            ≡ removedIn k (settledIn (now (entries .entry)) (shelf self (now (nodes .entry)) (now (colours .entry)))) ⌝ }
+        ensures { λ r. ⌜ change r (now (nodes .exit)) (now (colours .exit))
+            ≡ removedIn k (settledIn (now (entries .entry)) (change self (now (nodes .entry)) (now (colours .entry)))) ⌝ }
     {
         let settled = self.settle(nodes, colours, entries);
         settled.remove_held(k, nodes, colours)

@@ -1,7 +1,7 @@
 use Rattle.words.proofs.Refusals.{number-pos}
-use Rattle.iset.specs.Insert.{insertPaper}
+use Rattle.iset.specs.Insert.{insertAnswer}
 use Rattle.capi.specs.Replies.{insertReply}
-use Rattle.capi.proofs.Laws.{short-number, short-handed, short-left, made-number, refused-handed, done-handed, made-left}
+use Rattle.capi.proofs.Laws.{short-exit, refused-change, done-change}
 use borrow.Author.Needs.{needs}
 use Rattle.capi.proofs.iset_insert.Statement.{statement}
 use Rattle.capi.proofs.iset_insert.Tie as tie
@@ -10,7 +10,7 @@ pub iset-insert-spec : {M : Type 1} → statement M
 iset-insert-spec =
     tie.close
     (tie.spec
-    (λ c. (search short-number, search short-handed, search short-left, search short-left))
+    (λ c. search short-exit)
     (λ c κs. search needs)
     (λ c. search needs)
     (λ c κs. search needs)
@@ -18,18 +18,8 @@ iset-insert-spec =
     (λ c κs. search needs)
     (λ c. search needs)
     (λ c. search needs)
-    (λ c. (
-      search (made-number insertPaper insertReply),
-      search (refused-handed insertPaper insertReply, number-pos),
-      search made-left,
-      search made-left,
-    ))
+    (λ c. search (refused-change insertAnswer insertReply, number-pos))
     (λ c. search needs)
     (λ c. search needs)
     (λ c. search needs)
-    (λ c. (
-      search (made-number insertPaper insertReply),
-      search (done-handed insertPaper insertReply),
-      search made-left,
-      search made-left,
-    )))
+    (λ c. search (done-change insertAnswer insertReply)))

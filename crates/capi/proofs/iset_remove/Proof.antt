@@ -1,7 +1,7 @@
 use Rattle.words.proofs.Refusals.{number-pos}
-use Rattle.iset.specs.Remove.{removePaper}
+use Rattle.iset.specs.Remove.{removeAnswer}
 use Rattle.capi.specs.Replies.{removeReply}
-use Rattle.capi.proofs.Laws.{short-number, short-handed, short-left, made-number, refused-handed, done-handed, made-left}
+use Rattle.capi.proofs.Laws.{short-exit, refused-change, done-change}
 use borrow.Author.Needs.{needs}
 use Rattle.capi.proofs.iset_remove.Statement.{statement}
 use Rattle.capi.proofs.iset_remove.Tie as tie
@@ -10,7 +10,7 @@ pub iset-remove-spec : {M : Type 1} → statement M
 iset-remove-spec =
     tie.close
     (tie.spec
-    (λ c. (search short-number, search short-handed, search short-left, search short-left))
+    (λ c. search short-exit)
     (λ c κs. search needs)
     (λ c. search needs)
     (λ c κs. search needs)
@@ -18,18 +18,8 @@ iset-remove-spec =
     (λ c κs. search needs)
     (λ c. search needs)
     (λ c. search needs)
-    (λ c. (
-      search (made-number removePaper removeReply),
-      search (refused-handed removePaper removeReply, number-pos),
-      search made-left,
-      search made-left,
-    ))
+    (λ c. search (refused-change removeAnswer removeReply, number-pos))
     (λ c. search needs)
     (λ c. search needs)
     (λ c. search needs)
-    (λ c. (
-      search (made-number removePaper removeReply),
-      search (done-handed removePaper removeReply),
-      search made-left,
-      search made-left,
-    )))
+    (λ c. search (done-change removeAnswer removeReply)))

@@ -3,7 +3,7 @@ use crate::lookups::query;
 use crate::lookups::query::Kind;
 use crate::lookups::reply::Reply;
 use iset::Map;
-use iset::lookup::Emptied;
+use iset::lookup::Drain;
 use iter::Cursor;
 use iter::drain::Drained;
 
@@ -28,10 +28,10 @@ fn refused(no: u64, given: Cursor) -> Reply {
     )
 }
 
-fn reply_of(a: Emptied, given: Cursor) -> Reply {
+fn reply_of(a: Drain, given: Cursor) -> Reply {
     match a {
-        Emptied::Done(done) => reply(0, done),
-        Emptied::Refused(why) => refused(why.number(), given),
+        Drain::Done(done) => reply(0, done),
+        Drain::Refused(why) => refused(why.number(), given),
     }
 }
 

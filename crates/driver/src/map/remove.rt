@@ -1,12 +1,12 @@
 // `remove SLOT`: one entry goes.
 use crate::map::reply::Reply;
 use iset::Map;
-use iset::remove::Gone;
 use iset::remove::Removal;
+use iset::remove::Removed;
 use words::ix::U;
 
 // The value, the map and the pairs, as numbers.
-fn numbers_of(g: Gone) -> [u64; 9] {
+fn numbers_of(g: Removed) -> [u64; 9] {
     let m = g.map;
     let p = g.pairs;
     let first = p.first;
@@ -25,7 +25,7 @@ fn numbers_of(g: Gone) -> [u64; 9] {
     ]
 }
 
-fn removed(g: Gone) -> Reply {
+fn removed(g: Removed) -> Reply {
     let m = g.map;
     Reply {
         no: 0,

@@ -1,7 +1,7 @@
 use Prim.Native.Nat.{ℕ}
 use Rattle.iter.specs.declared.Cursor.{Cursor}
 use Rattle.capi.specs.Replies.{freshReply}
-use Rattle.capi.proofs.Laws.{short-number, short-handed, made-number, done-handed}
+use Rattle.capi.proofs.Laws.{short-exit, done-answer}
 use borrow.Author.Needs.{needs}
 use Rattle.capi.proofs.lookup.iset_fresh.Statement.{statement}
 use Rattle.capi.proofs.lookup.iset_fresh.Tie as tie
@@ -10,8 +10,8 @@ pub iset-fresh-spec : {M : Type 1} → statement M
 iset-fresh-spec =
     tie.close
     (tie.spec
-    (λ c. (search short-number, search short-handed))
+    (λ c. search short-exit)
     (λ c κs. search needs)
     (λ c κs. search needs)
     (λ c. search needs)
-    (λ c. (search (made-number (λ (g : ℕ) (d : Cursor). d) freshReply 0), search (done-handed (λ (g : ℕ) (d : Cursor). d) freshReply 0))))
+    (λ c. search (done-answer (λ (g : ℕ) (d : Cursor). d) freshReply 0)))

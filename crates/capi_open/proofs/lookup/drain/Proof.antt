@@ -1,7 +1,7 @@
 use Rattle.words.proofs.Refusals.{number-pos}
-use Rattle.iset.specs.Lookup.{drainPaper}
+use Rattle.iset.specs.Lookup.{drainAnswer}
 use Rattle.capi.specs.Replies.{drainReply}
-use Rattle.capi.proofs.Laws.{made-number, refused-handed, done-handed}
+use Rattle.capi.proofs.Laws.{refused-output, done-output}
 use borrow.Author.Needs.{needs}
 use Rattle.capi_open.proofs.lookup.drain.Statement.{statement}
 use Rattle.capi_open.proofs.lookup.drain.Tie as tie
@@ -16,7 +16,7 @@ drain-spec =
     (λ c. search needs)
     (λ c κs. search needs)
     (λ c. search needs)
-    (λ c. (search (made-number drainPaper drainReply), search (refused-handed drainPaper drainReply, number-pos), search needs))
+    (λ c. search (refused-output drainAnswer drainReply, number-pos))
     (λ c. search needs)
     (λ c. search needs)
-    (λ c. (search (made-number drainPaper drainReply), search (done-handed drainPaper drainReply), search needs)))
+    (λ c. search (done-output drainAnswer drainReply)))

@@ -1,8 +1,8 @@
 use Prim.Native.Nat.{ℕ}
 use Rattle.words.proofs.Refusals.{number-pos}
-use Rattle.iset.specs.Plain.{plainPaper}
+use Rattle.iset.specs.Plain.{plainAnswer}
 use Rattle.capi.specs.Replies.{plainReply}
-use Rattle.capi.proofs.Laws.{made-number, refused-handed, done-handed}
+use Rattle.capi.proofs.Laws.{refused-output, done-output}
 use borrow.Author.Needs.{needs}
 use Rattle.capi_open.proofs.scan.looked.Statement.{statement}
 use Rattle.capi_open.proofs.scan.looked.Tie as tie
@@ -17,11 +17,7 @@ looked-spec =
     (λ c. search needs)
     (λ c κs. search needs)
     (λ c. search needs)
-    (λ c. (
-      search (made-number (λ (g : ℕ). plainPaper) plainReply 0),
-      search (refused-handed (λ (g : ℕ). plainPaper) plainReply 0, number-pos),
-      search needs,
-    ))
+    (λ c. search (refused-output (λ (g : ℕ). plainAnswer) plainReply 0, number-pos))
     (λ c. search needs)
     (λ c. search needs)
-    (λ c. (search (made-number (λ (g : ℕ). plainPaper) plainReply 0), search (done-handed (λ (g : ℕ). plainPaper) plainReply 0), search needs)))
+    (λ c. search (done-output (λ (g : ℕ). plainAnswer) plainReply 0)))

@@ -1,11 +1,11 @@
-use Rattle.iset.specs.Build.{buildRule, buildNodes, buildColour}
+use Rattle.iset.specs.Build.{buildCall}
 use Rattle.iset.proofs.Laws.{let-through, turned-away, refused-build, done-build, built-few, built-list, built-words, built-bytes}
 use borrow.Author.Needs.{needs}
 use Rattle.iset.proofs.Map.build.Statement.{statement}
 use Rattle.iset.proofs.Map.build.Tie as tie
 
 pub build-spec : {M : Type 1} → statement M
-unfolding buildColour buildNodes buildRule
+unfolding buildCall
 build-spec =
     tie.close
     (tie.spec
@@ -15,5 +15,5 @@ build-spec =
     (λ c κs. (search built-few, search built-list, search built-words, search built-bytes))
     (λ c. search needs)
     (λ c. search needs)
-    (λ c. (search (let-through, done-build), search let-through, search let-through))
-    (λ c. (search (turned-away, refused-build), search turned-away, search turned-away)))
+    (λ c. search (let-through, done-build))
+    (λ c. search (turned-away, refused-build)))

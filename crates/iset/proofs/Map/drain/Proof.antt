@@ -1,4 +1,4 @@
-use Rattle.iset.proofs.Opened.{drain-through, drain-output-through, drain-away, drain-output-away}
+use Rattle.iset.proofs.Opened.{drain-through, drain-away}
 use borrow.Author.Needs.{needs}
 use Rattle.iset.proofs.Map.drain.Statement.{statement}
 use Rattle.iset.proofs.Map.drain.Tie as tie
@@ -12,5 +12,5 @@ drain-spec =
     (λ c. search needs)
     (λ c κs. search needs)
     (λ c. search needs)
-    (λ c. (search drain-through, search drain-output-through))
-    (λ c. (search drain-away, search drain-output-away)))
+    (λ c. search drain-through)
+    (λ c. search drain-away))

@@ -1,4 +1,4 @@
-use Rattle.iset.proofs.Opened.{insert-through, insert-nodes-through, insert-colours-through, insert-away, insert-nodes-away, insert-colours-away}
+use Rattle.iset.proofs.Opened.{insert-through, insert-away}
 use borrow.Author.Needs.{needs}
 use Rattle.iset.proofs.Map.insert.Statement.{statement}
 use Rattle.iset.proofs.Map.insert.Tie as tie
@@ -13,7 +13,7 @@ insert-spec =
     (λ c κs. search needs)
     (λ c. search needs)
     (λ c. search needs)
-    (λ c. (search insert-through, search insert-nodes-through, search insert-colours-through))
+    (λ c. search insert-through)
     (λ c. search needs)
     (λ c. search needs)
-    (λ c. (search insert-away, search insert-nodes-away, search insert-colours-away)))
+    (λ c. search insert-away))

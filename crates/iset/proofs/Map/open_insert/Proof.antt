@@ -1,11 +1,11 @@
 use Rattle.iset.proofs.Laws.{insertable-words, insertable-bytes, let-through, turned-away, refused-insertion}
-use Rattle.iset.specs.Insert.{openInsertCall, openInsertNodes, openInsertColours}
+use Rattle.iset.specs.Insert.{openInsertCall}
 use borrow.Author.Needs.{needs}
 use Rattle.iset.proofs.Map.open_insert.Statement.{statement}
 use Rattle.iset.proofs.Map.open_insert.Tie as tie
 
 pub open-insert-spec : {M : Type 1} → statement M
-unfolding openInsertCall openInsertColours openInsertNodes
+unfolding openInsertCall
 open-insert-spec =
     tie.close
     (tie.spec
@@ -15,7 +15,7 @@ open-insert-spec =
     (λ c κs. (search insertable-words, search insertable-bytes))
     (λ c. search needs)
     (λ c. search needs)
-    (λ c. (search let-through, search let-through, search let-through))
+    (λ c. search let-through)
     (λ c. search needs)
     (λ c. search needs)
-    (λ c. (search (turned-away, refused-insertion), search turned-away, search turned-away)))
+    (λ c. search (turned-away, refused-insertion)))

@@ -1,12 +1,12 @@
 use Rattle.iset.proofs.Laws.{let-through, turned-away}
-use Rattle.iset.proofs.Plains.{plain-words, plain-places, plain-answer, refused-plain}
-use Rattle.iset.specs.Plain.{openPlainCall, openPlainOutput}
+use Rattle.iset.proofs.Plains.{plain-words, plain-places, plain-is, refused-plain}
+use Rattle.iset.specs.Plain.{openPlainCall}
 use borrow.Author.Needs.{needs}
 use Rattle.iset.proofs.Map.open_plain.Statement.{statement}
 use Rattle.iset.proofs.Map.open_plain.Tie as tie
 
 pub open-plain-spec : {M : Type 1} → statement M
-unfolding openPlainCall openPlainOutput
+unfolding openPlainCall
 open-plain-spec =
     tie.close
     (tie.spec
@@ -15,5 +15,5 @@ open-plain-spec =
     (λ c. search needs)
     (λ c κs. (search plain-words, search plain-places))
     (λ c. search needs)
-    (λ c. (search (let-through, plain-answer), search let-through))
-    (λ c. (search (turned-away, refused-plain), search turned-away)))
+    (λ c. search (let-through, plain-is))
+    (λ c. search (turned-away, refused-plain)))

@@ -1,11 +1,11 @@
 use Rattle.iset.proofs.Laws.{removable-words, removable-bytes, removable-slot, let-through, turned-away, refused-removal}
-use Rattle.iset.specs.Remove.{openRemoveCall, openRemoveNodes, openRemoveColours}
+use Rattle.iset.specs.Remove.{openRemoveCall}
 use borrow.Author.Needs.{needs}
 use Rattle.iset.proofs.Map.open_remove.Statement.{statement}
 use Rattle.iset.proofs.Map.open_remove.Tie as tie
 
 pub open-remove-spec : {M : Type 1} → statement M
-unfolding openRemoveCall openRemoveColours openRemoveNodes
+unfolding openRemoveCall
 open-remove-spec =
     tie.close
     (tie.spec
@@ -15,7 +15,7 @@ open-remove-spec =
     (λ c κs. (search removable-words, search removable-bytes, search removable-slot))
     (λ c. search needs)
     (λ c. search needs)
-    (λ c. (search let-through, search let-through, search let-through))
+    (λ c. search let-through)
     (λ c. search needs)
     (λ c. search needs)
-    (λ c. (search (turned-away, refused-removal), search turned-away, search turned-away)))
+    (λ c. search (turned-away, refused-removal)))

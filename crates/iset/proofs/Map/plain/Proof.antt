@@ -1,4 +1,4 @@
-use Rattle.iset.proofs.Opened.{plain-through, plain-output-through, plain-away, plain-output-away}
+use Rattle.iset.proofs.Opened.{plain-through, plain-away}
 use borrow.Author.Needs.{needs}
 use Rattle.iset.proofs.Map.plain.Statement.{statement}
 use Rattle.iset.proofs.Map.plain.Tie as tie
@@ -12,5 +12,5 @@ plain-spec =
     (λ c. search needs)
     (λ c κs. search needs)
     (λ c. search needs)
-    (λ c. (search plain-through, search plain-output-through))
-    (λ c. (search plain-away, search plain-output-away)))
+    (λ c. search plain-through)
+    (λ c. search plain-away))
