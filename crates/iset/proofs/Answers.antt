@@ -19,9 +19,9 @@ use Rattle.words.specs.declared.node.Entry.{Entry}
 use Rattle.tree.specs.Tree.{slots}
 use Rattle.tree.specs.Passes.{Passes}
 use Rattle.builder_laws.specs.Built.{Built}
-use Rattle.tree_rm_laws.specs.Removed.{Removed}
+use Rattle.tree_rm_laws.specs.RemovalGuarantee.{RemovalGuarantee}
 use Rattle.tree_rm_laws.proofs.Removal.{removed}
-use Rattle.tree_in_laws.specs.Inserted.{Inserted}
+use Rattle.tree_in_laws.specs.InsertionGuarantee.{InsertionGuarantee}
 use Rattle.tree_in_laws.proofs.Insertion.{inserted}
 use Rattle.iter.specs.Lists.{those}
 use Rattle.iter.specs.Exact.{equals}
@@ -96,7 +96,7 @@ build-answers W C S e =
 -- A removal: the count is one less; value, pairs, root and what is left are those of a removal of slot s.
 pub remove-answers : (m : Map) (W C : List ℕ) (s : ℕ) → removeCall m W C s .no ≡ 0 → (P : Passes W C (m .count) (m .root))
     → (removeCall m W C s .count ≡ m .count - 1)
-    × Removed W C (m .count) (m .root) s P (removal m W C s)
+    × RemovalGuarantee W C (m .count) (m .root) s P (removal m W C s)
 unfolding removeCall removeNodes removeColours
 remove-answers m W C s e P =
     let z : removeNumber m W C s ≡ 0 = sym (remove-no m W C s) ∙ e in
@@ -109,7 +109,7 @@ pub insert-answers : (m : Map) (W C : List ℕ) (e : Entry) → insertCall m W C
     → (insertCall m W C e .slot ≡ m .count)
     × (entry (insertNodes m W C e) (insertCall m W C e .slot) ≡ e)
     × (insertCall m W C e .count ≡ m .count + 1)
-    × Inserted W C (m .count) (m .root) e P (insertion m W C e)
+    × InsertionGuarantee W C (m .count) (m .root) e P (insertion m W C e)
 unfolding insertCall insertNodes insertColours
 insert-answers m W C e i P =
     let z : insertNumber m W C e ≡ 0 = sym (insert-no m W C e) ∙ i in

@@ -14,7 +14,7 @@ use Rattle.words.specs.declared.node.Entry.{Entry}
 use Rattle.words.specs.declared.refusal.Refusal.{Refusal}
 use Rattle.words.proofs.Refusals.{number-pos}
 use Rattle.builder.specs.Input.{allProper, sorted}
-use Rattle.tree_rm_laws.specs.Remove.{Removal}
+use Rattle.tree_rm_laws.specs.Remove as rule
 use Rattle.tree_edit.specs.Store.{Store, store}
 use Rattle.tree_rm.specs.Answers.{removal}
 use Rattle.tree_rm.specs.declared.remove.Removed.{Removed}
@@ -105,16 +105,16 @@ pub refused-removal : (m : Map) (k : ℕ) (t : Checked) (z : Refusal) → checkN
 refused-removal m k t z e q = ap (λ (i : ℕ). refusedRemoval m i) (sym (ap checkNumber q) ∙ e)
 
 -- the parts of what the removal's code answers and leaves
-module _ (a : Removed) (X K : List ℕ) (R : Removal) (e : removal a X K ≡ R) where
+module _ (a : Removed) (X K : List ℕ) (R : rule.Removed) (e : removal a X K ≡ R) where
   pub removed-answer : (m : Map) (k : ℕ) → a .reach ≡ k
       → _≡_ {A = RemoveAnswer} (record { no = 0; value = a .value; count = m .count - 1; root = a .root; pairs = a .pairs; reach = a .reach }) (removeDone m R k)
   removed-answer m k f = λ t. removeDone m (e t) (f t)
 
   pub removed-words : X ≡ R .store .words
-  removed-words = ap (λ (S : Removal). S .store .words) e
+  removed-words = ap (λ (S : rule.Removed). S .store .words) e
 
   pub removed-colours : K ≡ R .store .colours
-  removed-colours = ap (λ (S : Removal). S .store .colours) e
+  removed-colours = ap (λ (S : rule.Removed). S .store .colours) e
 
 -- what the tests of an insertion leave: slices with room for one entry more
 module _ (m : Map) (W C : List ℕ) (e : Entry) (t : Checked) (f : checkNumber t ≡ openInsertNumber m W C e) (q : t ≡ Sound) where

@@ -16,7 +16,7 @@ use Rattle.tree.specs.Passes.{Passes}
 use Rattle.builder.specs.Build.{buildWords, buildColours, buildRoot}
 use Rattle.builder_laws.specs.Built.{Built}
 use Rattle.tree_edit.specs.Store.{Store, store}
-use Rattle.tree_rm_laws.specs.Remove.{Removal, removeRule}
+use Rattle.tree_rm_laws.specs.Remove.{Removed, removeRule}
 use Rattle.tree_edit.specs.Inside.{Inside}
 use Rattle.tree_rm_laws.proofs.Inside.{removed-inside}
 use Rattle.tree_in_laws.specs.Insert.{insertRule}
@@ -63,7 +63,7 @@ empty-passes W C =
       rising = record {};
       hulls = record {};
       top = refl;
-      hues = record {};
+      redBlack = record {};
     })
 
 -- a call that is refused, by the number k, or not
@@ -101,7 +101,7 @@ module _ (m : Map) (W C : List ℕ) where
     remove-sound : (s : ℕ) → Sound (answered S (remove s))
     unfolding removeCall removeNodes removeColours
     remove-sound s =
-        let R : Removal = removeRule W C (m .count) (m .root) s in
+        let R : Removed = removeRule W C (m .count) (m .root) s in
         by-number (λ (a : RemoveAnswer). a .count) (λ (a : RemoveAnswer). a .root) (removeNumber m W C s) (removeDone m R (removeReach m W C s))
         (refusedRemoval m (removeNumber m W C s)) (R .store .words) W (R .store .colours) C
         (λ e. let i : Inside (m .count) W C (R .store) = removed-inside W C (m .count) (m .root) s (removals.accepts m W C s e .1) in
