@@ -52,7 +52,7 @@ record Stands (W C : List ℕ) (n p : ℕ) (d : Interval) (k : ℕ) (a : Found) 
   found : a ≡ foundOf W C d tree
 
 leaf-well : (W C : List ℕ) → Well W C leaf
-leaf-well W C = record { proper = λ s o. absurd (omega arith); rising = tt; hulls = tt; hues = tt }
+leaf-well W C = record { proper = λ s o. absurd (omega arith); rising = tt; hulls = tt; redBlack = tt }
 
 cond-ok : (b : Bool) (x y : Found) → y .ok ≡ false → cond b x y .ok ≡ true → b ≡ true
 cond-ok true x y f e = refl
@@ -132,7 +132,7 @@ module _ (W C : List ℕ) (n r : ℕ) (small : n ≤ 65535) where
             rising = x .well .rising;
             hulls = x .well .hulls;
             top = rw (x .found) at black;
-            hues = x .well .hues;
+            redBlack = x .well .redBlack;
           }
 
   pub audit-complete : Passes W C n r → wholeOf W C n r ≡ true
@@ -142,7 +142,7 @@ module _ (W C : List ℕ) (n r : ℕ) (small : n ≤ 65535) where
         proper = λ s o. h .proper s (slot-live W C n r h s o);
         rising = h .rising;
         hulls = h .hulls;
-        hues = h .hues;
+        redBlack = h .redBlack;
       } in
       rw (survey-finds W C n small 33 U (record { start = 0; end = 0 }) r (h .tree) (h .shape)
       (once-apart W n small U r (h .tree) (h .shape) (slot-once W C n r h)) w (omega (arith, tree-low W C n r h small)))

@@ -11,13 +11,13 @@ use Rattle.bitvec.specs.Colours.{red}
 use Rattle.tree.specs.Tree.{Tree, leaf, node, slots, occ, size}
 use Rattle.tree.specs.Order.{NotAfter, RisingAt}
 use Rattle.tree.specs.Hulls.{Hulls, lowest, highest}
-use Rattle.tree.specs.Hues.{rootRed, blacks, Hues}
+use Rattle.tree.specs.RedBlack.{rootRed, blacks, RedBlack}
 use Rattle.tree.proofs.Slots.{hit-same, occ-cases}
 use Rattle.tree.proofs.Orders.{rising-left, rising-right}
 use Rattle.tree.proofs.Hulls.{low-node, high-node}
 use Rattle.audit.specs.declared.Found.{Found}
 use Rattle.audit.specs.Survey.{nodeAt, suits, combined}
-use Rattle.audit.proofs.Tests.{Tells, both, less, same, after, calm}
+use Rattle.audit.proofs.Tests.{Tells, both, less, same, after, noRedRed}
 use Rattle.audit.proofs.Ends.{firstOf, lastOf, rising-node, before-node, after-node}
 
 -- the clauses of `Passes` that are about what the slots of a tree hold
@@ -25,7 +25,7 @@ pub record Well (W C : List ℕ) (t : Tree) : Type 0 where
   pub proper : (s : ℕ) → 0 < occ s t → start W s < stop W s
   pub rising : RisingAt W (slots t)
   pub hulls : Hulls W t
-  pub hues : Hues (red C) t
+  pub redBlack : RedBlack (red C) t
 
 module _ (W C : List ℕ) where
   -- the hull of the root; d where there is none
@@ -62,20 +62,20 @@ module _ (W C : List ℕ) where
     after : NotAfter (interval W s) (firstOf W (interval W s) r)
     low : lo W s ≡ min (min (start W s) (rootHull (interval W s) l .start)) (rootHull (interval W s) r .start)
     high : hi W s ≡ max (max (stop W s) (rootHull (interval W s) l .end)) (rootHull (interval W s) r .end)
-    even : blacks (red C) l ≡ blacks (red C) r
-    calm : red C s ≡ true → (rootRed (red C) l ≡ false) × (rootRed (red C) r ≡ false)
+    equalBlacks : blacks (red C) l ≡ blacks (red C) r
+    noRedRed : red C s ≡ true → (rootRed (red C) l ≡ false) × (rootRed (red C) r ≡ false)
 
   module _ (l : Tree) (s : ℕ) (r : Tree) where
     right : Tells (suits (nodeAt W C s) (foundOf (interval W s) l) (foundOf (interval W s) r)) (Right l s r)
     right =
         let order = both (both (less (start W s) (stop W s)) (after (lastOf W (interval W s) l) (interval W s))) (after (interval W s) (firstOf W (interval W s) r)) in
         let hulls = both (same (lo W s) _) (same (hi W s) _) in
-        let hues = both (same (blacks (red C) l) (blacks (red C) r)) (calm (red C s) (rootRed (red C) l) (rootRed (red C) r)) in
-        let all = both (both order hulls) hues in
+        let redBlack = both (same (blacks (red C) l) (blacks (red C) r)) (noRedRed (red C s) (rootRed (red C) l) (rootRed (red C) r)) in
+        let all = both (both order hulls) redBlack in
         record {
           holds = λ e. let ((((a, b), c), (d, f)), (g, i)) = all .holds e in
-              record { proper = a; before = b; after = c; low = d; high = f; even = g; calm = i };
-          says = λ h. all .says ((((h .proper, h .before), h .after), (h .low, h .high)), (h .even, h .calm));
+              record { proper = a; before = b; after = c; low = d; high = f; equalBlacks = g; noRedRed = i };
+          says = λ h. all .says ((((h .proper, h .before), h .after), (h .low, h .high)), (h .equalBlacks, h .noRedRed));
         }
 
     -- a node that is right, between two trees that are well
@@ -92,7 +92,7 @@ module _ (W C : List ℕ) where
             left = x .hulls;
             right = y .hulls;
           };
-          hues = record { calm = h .calm; even = h .even; left = x .hues; right = y .hues };
+          redBlack = record { noRedRed = h .noRedRed; equalBlacks = h .equalBlacks; left = x .redBlack; right = y .redBlack };
         }
 
     module _ (h : Well W C (node l s r)) where
@@ -101,7 +101,7 @@ module _ (W C : List ℕ) where
         proper = λ a o. h .proper a (omega arith);
         rising = rising-left W (slots l) (s ∷ slots r) (h .rising);
         hulls = h .hulls .left;
-        hues = h .hues .left;
+        redBlack = h .redBlack .left;
       }
 
       pub well-right : Well W C r
@@ -109,7 +109,7 @@ module _ (W C : List ℕ) where
         proper = λ a o. h .proper a (omega arith);
         rising = rising-right W (slots l) (s ∷ slots r) (h .rising) .1;
         hulls = h .hulls .right;
-        hues = h .hues .right;
+        redBlack = h .redBlack .right;
       }
 
       pub node-suits : suits (nodeAt W C s) (foundOf (interval W s) l) (foundOf (interval W s) r) ≡ true
@@ -120,8 +120,8 @@ module _ (W C : List ℕ) where
             after = after-node W l s r (rising-right W (slots l) (s ∷ slots r) (h .rising));
             low = h .hulls .low ∙ sym (hull-is s l r .0 ∙ low-node W l s r (h .hulls .left) (h .hulls .right));
             high = h .hulls .high ∙ sym (hull-is s l r .1 ∙ high-node W l s r (h .hulls .left) (h .hulls .right));
-            even = h .hues .even;
-            calm = h .hues .calm;
+            equalBlacks = h .redBlack .equalBlacks;
+            noRedRed = h .redBlack .noRedRed;
           })
 
     -- what is then found of it

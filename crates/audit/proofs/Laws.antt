@@ -12,14 +12,14 @@ use Rattle.words.specs.Ix.{U}
 use Rattle.words.specs.Nodes.{kid, par, interval}
 use Rattle.words.specs.declared.interval.Interval.{Interval}
 use Rattle.bitvec.specs.Colours.{red}
-use Rattle.tree.specs.Hues.{dark}
+use Rattle.tree.specs.RedBlack.{blackOf}
 use Rattle.audit.specs.declared.Node.{Node}
 use Rattle.audit.specs.declared.Found.{Found}
 use Rattle.audit.specs.Survey.{nodeAt, noNodes, tied, fits, combined, childless, enters, survey}
 use Rattle.audit.proofs.Tests.{both, same, less, not-so, twins}
 
 -- a node that fits
-pub joined : (x : Node) (l r : Found) (b : Bool) (d : ℕ) → b ≡ fits x l r → b ≡ true → (d ≡ dark (x .red)) × (d ≤ 1)
+pub joined : (x : Node) (l r : Found) (b : Bool) (d : ℕ) → b ≡ fits x l r → b ≡ true → (d ≡ blackOf (x .red)) × (d ≤ 1)
     → record {
       ok = true;
       size = l .size + r .size + 1;
@@ -52,9 +52,9 @@ cond-all : {A : Type 0} (P : A → Type 0) (b : Bool) {x y : A} → P x → P y 
 cond-all P true h k = h
 cond-all P false h k = k
 
-dark-le : (b : Bool) → dark b ≤ 1
-dark-le true = omega arith
-dark-le false = omega arith
+blackOf-le : (b : Bool) → blackOf b ≤ 1
+blackOf-le true = omega arith
+blackOf-le false = omega arith
 
 -- the numbers that are found stay small, on any words
 abbrev Small : ℕ → Found → Type 0
@@ -79,7 +79,7 @@ module _ (W C : List ℕ) (n : ℕ) where
       go l r a b =
           cond-all (Small (suc h)) (eqb k U) (omega (arith, e, o))
           (cond-all (Small (suc h)) (enters W C n p k)
-          (cond-all (Small (suc h)) (fits (nodeAt W C k) l r) (omega (arith, e, o, dark-le (red C k))) (omega (arith, e, o)))
+          (cond-all (Small (suc h)) (fits (nodeAt W C k) l r) (omega (arith, e, o, blackOf-le (red C k))) (omega (arith, e, o)))
           (omega (arith, e, o)))
 
   -- so that what is added up of two subtrees fits

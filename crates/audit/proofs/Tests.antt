@@ -64,8 +64,8 @@ twins a b = record { holds = λ e q. eqb-true a U (rw (eq-eqb a b q) at e); says
     go false e h = refl
 
 -- a red node has no red child
-pub calm : (a b c : Bool) → Tells (not a || not (b || c)) (a ≡ true → (b ≡ false) × (c ≡ false))
-calm a b c = record { holds = go a b c; says = back a }
+pub noRedRed : (a b c : Bool) → Tells (not a || not (b || c)) (a ≡ true → (b ≡ false) × (c ≡ false))
+noRedRed a b c = record { holds = go a b c; says = back a }
   where
     go : (a b c : Bool) → not a || not (b || c) ≡ true → a ≡ true → (b ≡ false) × (c ≡ false)
     go true false false e q = (refl, refl)

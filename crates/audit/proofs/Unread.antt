@@ -9,10 +9,10 @@ use Rattle.words.specs.Ix.{U}
 use Rattle.words.specs.Nodes.{kid, interval}
 use Rattle.words.specs.declared.interval.Interval.{Interval}
 use Rattle.words.specs.declared.node.Field.the-variants.{Start, End, HullStart, HullEnd, Child, Parent}
-use Rattle.tree.specs.Below.{Agree, Hued}
+use Rattle.tree.specs.Below.{Agree, SameColours}
 use Rattle.audit.specs.Survey.{nodeAt, noNodes, tied, combined, survey, wholeOf}
 
-module _ (W C X D : List ℕ) (n : ℕ) (A : Agree n W X) (H : Hued n C D) where
+module _ (W C X D : List ℕ) (n : ℕ) (A : Agree n W X) (H : SameColours n C D) where
   pub survey-below : (height p : ℕ) (d : Interval) (k : ℕ) → survey W C n height p d k ≡ survey X D n height p d k
   unfolding survey
   survey-below zero p d k = refl

@@ -9,7 +9,7 @@ use Rattle.words.specs.Intervals.{proper, le, eq, extended}
 use Rattle.words.specs.Nodes.{kid, par, interval, hull}
 use Rattle.words.specs.declared.interval.Interval.{Interval}
 use Rattle.bitvec.specs.Colours.{red}
-use Rattle.tree.specs.Hues.{dark}
+use Rattle.tree.specs.RedBlack.{blackOf}
 use Rattle.audit.specs.declared.Node.{Node}
 use Rattle.audit.specs.declared.Found.{Found}
 
@@ -59,7 +59,7 @@ combined x l r =
     (record {
       ok = true;
       size = l .size + r .size + 1;
-      blacks = dark (x .red) + l .blacks;
+      blacks = blackOf (x .red) + l .blacks;
       red = x .red;
       first = l .first;
       last = r .last;

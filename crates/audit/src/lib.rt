@@ -16,7 +16,7 @@ ghost use mathlib.Core.Path.{_≡_};
 ghost use mathlib.Core.Bool.{true, false};
 ghost use Prim.Native.Nat.{_+_, _*_, _≤_, _<_};
 ghost use lib.ListN.{length};
-ghost use Rattle.tree.specs.Hues.{dark};
+ghost use Rattle.tree.specs.RedBlack.{blackOf};
 ghost use Rattle.audit.specs.Survey.{nodeAt, noNodes, tied, ordered, hulled, coloured, fits, combined, childless, survey, wholeOf};
 
 // What the check reads of a slot.
@@ -112,7 +112,7 @@ fn is_fit(x: Node, l: Found, r: Found) -> bool
 
 // What a node adds to the blacks above it.
 fn shade(red: bool) -> u64
-    ensures { λ r. ⌜ (r ≡ dark red) × (r ≤ 1) ⌝ }
+    ensures { λ r. ⌜ (r ≡ blackOf red) × (r ≤ 1) ⌝ }
 {
     if red { 0 } else { 1 }
 }

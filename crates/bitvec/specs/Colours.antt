@@ -9,13 +9,13 @@ abbrev pub red : List ℕ → ℕ → Bool
 red C s = bitAt C s
 
 -- the colour bytes with slot s made red or black
-abbrev pub dye : List ℕ → ℕ → Bool → List ℕ
-dye C s v = setBit C s v
+abbrev pub paint : List ℕ → ℕ → Bool → List ℕ
+paint C s v = setBit C s v
 
 -- a link leads to a red slot
 abbrev pub redAt : ℕ → List ℕ → ℕ → Bool
 redAt n C k = onLink n k (λ s. red C s) false
 
 -- a link that leads to a slot has it dyed
-unfoldable pub dyeAt : ℕ → List ℕ → ℕ → Bool → List ℕ
-dyeAt n C k v = onLink n k (λ s. dye C s v) C
+unfoldable pub paintAt : ℕ → List ℕ → ℕ → Bool → List ℕ
+paintAt n C k v = onLink n k (λ s. paint C s v) C

@@ -4,7 +4,7 @@ ghost use mathlib.Core.Path.{_≡_};
 ghost use mathlib.Core.Bool.{true, false, not};
 ghost use Prim.Native.Nat.{_*_, _≤_, _<_};
 ghost use lib.ListN.{length};
-ghost use Rattle.bitvec.specs.Colours.{red, redAt, dye, dyeAt};
+ghost use Rattle.bitvec.specs.Colours.{red, redAt, paint, paintAt};
 
 pub fn is_red(colours: &[u8], ix: u64) -> bool
     requires { ⌜ ix < length (now colours) * 8 ⌝ }
@@ -33,14 +33,14 @@ pub fn is_black_or_nil(colours: &[u8], count: u64, word: u64) -> bool
 
 pub fn set_red(colours: &mut [u8], ix: u64)
     requires { ⌜ ix < length (now colours) * 8 ⌝ }
-    ensures { λ _. ⌜ now (colours .exit) ≡ dye (now (colours .entry)) ix true ⌝ }
+    ensures { λ _. ⌜ now (colours .exit) ≡ paint (now (colours .entry)) ix true ⌝ }
 {
     crate::put_bit(colours, ix as usize, true);
 }
 
 pub fn set_black(colours: &mut [u8], ix: u64)
     requires { ⌜ ix < length (now colours) * 8 ⌝ }
-    ensures { λ _. ⌜ now (colours .exit) ≡ dye (now (colours .entry)) ix false ⌝ }
+    ensures { λ _. ⌜ now (colours .exit) ≡ paint (now (colours .entry)) ix false ⌝ }
 {
     crate::put_bit(colours, ix as usize, false);
 }
@@ -48,7 +48,7 @@ pub fn set_black(colours: &mut [u8], ix: u64)
 // Slot `to` gets the colour of slot `from`.
 pub fn copy_colour(colours: &mut [u8], from: u64, to: u64)
     requires { ⌜ (from < length (now colours) * 8) × (to < length (now colours) * 8) ⌝ }
-    ensures { λ _. ⌜ now (colours .exit) ≡ dye (now (colours .entry)) to (red (now (colours .entry)) from) ⌝ }
+    ensures { λ _. ⌜ now (colours .exit) ≡ paint (now (colours .entry)) to (red (now (colours .entry)) from) ⌝ }
 {
     let v = is_red(colours, from);
     crate::put_bit(colours, to as usize, v);
@@ -57,7 +57,7 @@ pub fn copy_colour(colours: &mut [u8], from: u64, to: u64)
 // A link that leads to a slot has it made black.
 pub fn set_black_at(colours: &mut [u8], count: u64, word: u64)
     requires { ⌜ count ≤ length (now colours) * 8 ⌝ }
-    ensures { λ _. ⌜ now (colours .exit) ≡ dyeAt count (now (colours .entry)) word false ⌝ }
+    ensures { λ _. ⌜ now (colours .exit) ≡ paintAt count (now (colours .entry)) word false ⌝ }
 {
     let Link::Slot(ix) = Link::new(word, count) else {
         return;

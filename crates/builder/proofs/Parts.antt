@@ -13,7 +13,7 @@ use Rattle.words.specs.Intervals.{extended}
 use Rattle.words.specs.Nodes.{put, putEntry, putHull, putNode}
 use Rattle.words.specs.declared.interval.Interval.{Interval}
 use Rattle.words.specs.declared.node.Entry.{Entry}
-use Rattle.bitvec.specs.Colours.{dye}
+use Rattle.bitvec.specs.Colours.{paint}
 use Rattle.builder.specs.Input.{intervalOf, entryOf}
 use Rattle.builder.specs.Build.{center, rootOf, spanHull, rootHull, nodeWords, spanWords, painted, levels, buildWords, buildColours, buildRoot, Lent}
 use Rattle.builder.proofs.Spans.{few-left, few-right, root-none, hull-none, hull-some, words-none, words-some, painted-none, painted-some}
@@ -143,11 +143,11 @@ module _ (S w C : List ℕ) (a b f : ℕ) (span : Lent S w C a b f) (some : a < 
       er ∙ rw (eh′, el′, eo) (sym (hull-some S g a b d some)))
       el eh
 
-  pub colours-whole : (D E F : List ℕ) → D ≡ dye C (center a b) (eqb f 1) → E ≡ painted (f - 1) D a (center a b)
+  pub colours-whole : (D E F : List ℕ) → D ≡ paint C (center a b) (eqb f 1) → E ≡ painted (f - 1) D a (center a b)
       → F ≡ painted (f - 1) E (center a b + 1) b → F ≡ painted f C a b
   colours-whole D E F ed ee ef =
       deep
-      (λ f. D ≡ dye C (center a b) (eqb f 1) → E ≡ painted (f - 1) D a (center a b) → F ≡ painted (f - 1) E (center a b + 1) b
+      (λ f. D ≡ paint C (center a b) (eqb f 1) → E ≡ painted (f - 1) D a (center a b) → F ≡ painted (f - 1) E (center a b + 1) b
       → F ≡ painted f C a b)
       (λ g few ed ee ef.
       let ee′ : E ≡ painted g D a (center a b) = rw (sub-one (suc g)) at ee in
@@ -203,7 +203,7 @@ module _ (S w C : List ℕ) (a f : ℕ) (span : Lent S w C a (a + 1) f) where
   hull-leaf d own r eo er =
       hull-whole S w C a (a + 1) f span (omega arith) d own own own r (rw mid eo) (sym (alone-left (f - 1) own)) (sym (alone-right (f - 1) own)) er
 
-  pub colours-leaf : (D : List ℕ) → D ≡ dye C a (eqb f 1) → D ≡ painted f C a (a + 1)
+  pub colours-leaf : (D : List ℕ) → D ≡ paint C a (eqb f 1) → D ≡ painted f C a (a + 1)
   colours-leaf D ed =
       colours-whole S w C a (a + 1) f span (omega arith) D D D (rw mid ed)
       (sym (painted-none (f - 1) D a (center a (a + 1)) (omega arith)))

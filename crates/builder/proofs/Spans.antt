@@ -11,7 +11,7 @@ use Rattle.words.specs.Intervals.{extended}
 use Rattle.words.specs.Nodes.{put, putEntry, putHull, putNode}
 use Rattle.words.specs.declared.interval.Interval.{Interval}
 use Rattle.words.specs.declared.node.Entry.{Entry}
-use Rattle.bitvec.specs.Colours.{dye}
+use Rattle.bitvec.specs.Colours.{paint}
 use Rattle.builder.specs.Build.{center, rootOf, spanHull, rootHull, nodeWords, rootWords, spanWords, painted}
 
 pub node-words : (e : Entry) (h : Interval) (left right up : ℕ)
@@ -60,6 +60,6 @@ painted-none zero C a b h = refl
 painted-none (suc f) C a b h = rw (le-leb b a h)
 
 pub painted-some : (f : ℕ) (C : List ℕ) (a b : ℕ) → a < b
-    → painted (suc f) C a b ≡ painted f (painted f (dye C (center a b) (eqb f 0)) a (center a b)) (center a b + 1) b
+    → painted (suc f) C a b ≡ painted f (painted f (paint C (center a b) (eqb f 0)) a (center a b)) (center a b + 1) b
 unfolding painted
 painted-some f C a b h = rw (lt-leb b a h)

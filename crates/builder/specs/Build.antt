@@ -11,7 +11,7 @@ use Rattle.words.specs.Intervals.{extended}
 use Rattle.words.specs.Nodes.{putNode}
 use Rattle.words.specs.declared.interval.Interval.{Interval}
 use Rattle.words.specs.declared.node.Entry.{Entry}
-use Rattle.bitvec.specs.Colours.{dye}
+use Rattle.bitvec.specs.Colours.{paint}
 use Rattle.builder.specs.Input.{intervalOf, entryOf}
 
 -- the root of the span [a, b)
@@ -53,7 +53,7 @@ spanWords S (suc f) a b p =
 unfoldable pub painted : ℕ → List ℕ → ℕ → ℕ → List ℕ
 painted zero C a b = C
 painted (suc f) C a b =
-    cond (leb b a) C (painted f (painted f (dye C (center a b) (eqb f 0)) a (center a b)) (center a b + 1) b)
+    cond (leb b a) C (painted f (painted f (paint C (center a b) (eqb f 0)) a (center a b)) (center a b + 1) b)
 
 -- the greatest D such that 2 ^ D ≤ m, for 0 < m < 2 ^ (g + 1)
 unfoldable pub log : ℕ → ℕ → ℕ

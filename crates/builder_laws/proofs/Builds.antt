@@ -16,7 +16,7 @@ use Rattle.words.specs.declared.node.Entry.{Entry}
 use Rattle.bitvec.specs.Colours.{red}
 use Rattle.tree.specs.Tree.{Tree, slots}
 use Rattle.tree.specs.Order.{RisingAt}
-use Rattle.tree.specs.Hues.{rootRed}
+use Rattle.tree.specs.RedBlack.{rootRed}
 use Rattle.tree.proofs.Cases.{compare}
 use Rattle.builder.specs.Input.{intervalOf, entryOf}
 use Rattle.builder.specs.Build.{spanWords, painted, log, levels, buildWords, buildColours, buildRoot}
@@ -26,7 +26,7 @@ use Rattle.builder_laws.specs.Input.{Input}
 use Rattle.builder_laws.specs.Built.{range, upTo, Greatest, Built}
 use Rattle.builder_laws.proofs.Trees.{treeOf, tree-none, slots-span, once-span}
 use Rattle.builder_laws.proofs.Words.{length-words, Good, good-span}
-use Rattle.builder_laws.proofs.Colours.{length-painted, painted-out, Dyed, dyed-span}
+use Rattle.builder_laws.proofs.Colours.{length-painted, painted-out, SpanColours, colours-span}
 
 module _ (n : ℕ) (few : n ≤ 65535) where
   bounds : (2 ^ log 16 (n + 1) ≤ n + 1) × (n + 1 < 2 ^ suc (log 16 (n + 1)))
@@ -91,13 +91,13 @@ build-passes S W C n few room bits input =
             rising = rw order (rising X S n input intervals n 0 (omega arith));
             hulls = good .hulls;
             top = top;
-            hues = dyed .hues;
+            redBlack = colours-right .redBlack;
           };
       root = root-is n;
       order = order;
       listed = rw order (map-range (entry X) (entryOf S) n 0 n holds (omega arith));
       entries = holds;
-      depths = λ D g. dyed .depths D 1 (levels-are n few D g);
+      depths = λ D g. colours-right .depths D 1 (levels-are n few D g);
       words-kept = drop-at (spanWords S f 0 n U) (drop (n * 8) W) (n * 8) len;
       words-length = simp (length-append, length-drop) (omega (arith, len));
       bits-kept = λ s h. painted-out f C 0 n s (λ x y. omega arith);
@@ -131,11 +131,11 @@ build-passes S W C n few room bits input =
     intervals : (s : ℕ) → s < n → interval X s ≡ intervalOf S s
     intervals s h = ap (λ (e : Entry). record { start = e .start; end = e .end }) (holds s h)
 
-    dyed : Dyed (red (painted f C 0 n)) f t
-    dyed = dyed-span (red (painted f C 0 n)) f 0 n C small (omega (arith, levels-full n few)) bits (λ s x y. refl)
+    colours-right : SpanColours (red (painted f C 0 n)) f t
+    colours-right = colours-span (red (painted f C 0 n)) f 0 n C small (omega (arith, levels-full n few)) bits (λ s x y. refl)
 
     top : rootRed (red (painted f C 0 n)) t ≡ false
     top =
         compare f 1
         (λ h. rw (tree-none f 0 n (omega (arith, levels-one n few h))) refl)
-        (λ h. dyed .top (λ e. omega arith))
+        (λ h. colours-right .top (λ e. omega arith))

@@ -7,17 +7,17 @@ use Rattle.audit.specs.Survey.{survey, wholeOf}
 use Rattle.builder.specs.Input.{startOf, endOf, valueOf, every, properAt, inOrder, allProper, sorted as sortedList}
 use Rattle.builder.specs.Build.{spanHull, spanWords, painted, log, levels, buildWords, buildColours, buildRoot}
 use Rattle.tree_edit.specs.Links.{adopt, setChild, redirected, removeChild, redirect, replaced, rootAfter, fixUp, leftmost}
-use Rattle.tree_edit.specs.Rotations.{turn, turn-2, turn-4}
-use Rattle.bitvec.specs.Colours.{dyeAt}
-use Rattle.tree_rm_laws.specs.Repair.{choose, turnOf, turnAt, step, repair}
-use Rattle.tree_rm_laws.specs.Pairs.{instead, emptied, home, named, lower, upper, sorted, moved}
+use Rattle.tree_edit.specs.Rotations.{rotate, rotate-2, rotate-4}
+use Rattle.bitvec.specs.Colours.{paintAt}
+use Rattle.tree_rm_laws.specs.Repair.{choose, roundOf, roundAt, round, repair}
+use Rattle.tree_rm_laws.specs.Pairs.{movedTo, emptied, home, named, lower, upper, byOldSlot, moved}
 use Rattle.tree_rm_laws.specs.Remove.{vacated, exchanged, child, restructure, handed, above, cutWords, cutRoot, copied, relinked, cleared, swapRemove, finish, removeFrom, removeRule}
 use Rattle.tree_edit.specs.Reach.{differs, upHulls}
-use Rattle.tree_rm_laws.specs.Reach.{turnOfHulls, turnAtHulls, stepHulls, repairHulls, restructureHulls, cutHulls, vacateHulls, removeHullsFrom, removeHulls}
+use Rattle.tree_rm_laws.specs.Reach.{roundOfHulls, roundAtHulls, roundHulls, repairHulls, restructureHulls, cutHulls, vacateHulls, removeHullsFrom, removeHulls}
 use Rattle.tree_in_laws.specs.Descent.{goesLeft, descend, under}
-use Rattle.tree_in_laws.specs.Mend.{rotated, outer, inner, recoloured, mendAt, mendBelow, mendStep, mend}
-use Rattle.tree_in_laws.specs.Insert.{hungNode, hungWords, hungRoot, hung, mended, insertRule}
-use Rattle.tree_in_laws.specs.Reach.{rotatedHulls, outerHulls, innerHulls, mendAtHulls, mendBelowHulls, mendStepHulls, mendHulls, mendedHulls, insertHulls}
+use Rattle.tree_in_laws.specs.InsertRepair.{rotated, outer, inner, recoloured, insertRoundAt, insertRoundBelow, insertRound, insertRepair}
+use Rattle.tree_in_laws.specs.Insert.{hungNode, hungWords, hungRoot, hung, insertAt, insertRule}
+use Rattle.tree_in_laws.specs.Reach.{rotatedHulls, outerHulls, innerHulls, insertRoundAtHulls, insertRoundBelowHulls, insertRoundHulls, insertRepairHulls, insertAtHulls, insertHulls}
 use Rattle.stack.specs.States.{stateAt, putState, top, marked, pushed, popped}
 use Rattle.iter.specs.Cursors.{upTo}
 use Rattle.iter.specs.Walk.{deeper, mark, down, move, enters, hits, seek, step as stepOf}
@@ -51,11 +51,11 @@ unfolding startOf endOf valueOf every properAt inOrder allProper sortedList span
 building = record {}
 
 repairing : Unit {0}
-unfolding adopt setChild redirected removeChild redirect replaced rootAfter fixUp turn turn-2 turn-4 dyeAt choose turnOf turnAt step repair
+unfolding adopt setChild redirected removeChild redirect replaced rootAfter fixUp rotate rotate-2 rotate-4 paintAt choose roundOf roundAt round repair
 repairing = record {}
 
 naming : Unit {0}
-unfolding instead emptied home named lower upper sorted moved
+unfolding movedTo emptied home named lower upper byOldSlot moved
 naming = record {}
 
 removing : Unit {0}
@@ -63,11 +63,11 @@ unfolding leftmost vacated exchanged child restructure handed above cutWords cut
 removing = record {}
 
 inserting : Unit {0}
-unfolding goesLeft descend under rotated outer inner recoloured mendAt mendBelow mendStep mend hungNode hungWords hungRoot hung mended insertRule
+unfolding goesLeft descend under rotated outer inner recoloured insertRoundAt insertRoundBelow insertRound insertRepair hungNode hungWords hungRoot hung insertAt insertRule
 inserting = record {}
 
 reaching : Unit {0}
-unfolding altered differs upHulls turnOfHulls turnAtHulls stepHulls repairHulls restructureHulls cutHulls vacateHulls removeHullsFrom removeHulls rotatedHulls outerHulls innerHulls mendAtHulls mendBelowHulls mendStepHulls mendHulls mendedHulls insertHulls
+unfolding altered differs upHulls roundOfHulls roundAtHulls roundHulls repairHulls restructureHulls cutHulls vacateHulls removeHullsFrom removeHulls rotatedHulls outerHulls innerHulls insertRoundAtHulls insertRoundBelowHulls insertRoundHulls insertRepairHulls insertAtHulls insertHulls
 reaching = record {}
 
 walking : Unit {0}

@@ -13,8 +13,8 @@ use Rattle.tree.specs.Tree.{hit, slots, without, times}
 use Rattle.tree.proofs.Slots.{hit-same, hit-ne, hit-cases, hit-zero, times-slots}
 use Rattle.tree.proofs.Checked.{slot-live}
 use Rattle.tree_rm_laws.specs.Names.{changed, same, tally}
-use Rattle.tree_rm_laws.specs.Remove.{Removal, removeRule}
-use Rattle.tree_rm_laws.specs.Removed.{Removed}
+use Rattle.tree_rm_laws.specs.Remove.{Removed, removeRule}
+use Rattle.tree_rm_laws.specs.RemovalGuarantee.{RemovalGuarantee}
 use Rattle.words.specs.declared.pair.Pair.{Pair}
 use Rattle.words.specs.declared.pair.Pairs.{Pairs}
 use Rattle.tree_rm_laws.proofs.PairLaws.{same-else, same-here}
@@ -109,7 +109,7 @@ module _ (m : Map) (W C : List ℕ) (s : ℕ) (e : removeNumber m W C s ≡ 0) w
   abbrev n : ℕ
   n = m .count
 
-  abbrev R : Removal
+  abbrev R : Removed
   R = removeRule W C n (m .root) s
 
   abbrev T : List ℕ
@@ -128,7 +128,7 @@ module _ (m : Map) (W C : List ℕ) (s : ℕ) (e : removeNumber m W C s ≡ 0) w
     rule-keeps : (slotAfter (R .pairs) s a < n - 1) × (entry (R .store .words) (slotAfter (R .pairs) s a) ≡ entry W a)
     unfolding slotAfter
     rule-keeps =
-        let D : Removed W C n (m .root) s (tree-before m W C s e) R = by-rule m W C s e in
+        let D : RemovalGuarantee W C n (m .root) s (tree-before m W C s e) R = by-rule m W C s e in
         let (b, o, p, f) = went a W (R .store .words) (without s T) (slots (D .passes .tree)) (D .entries) kept-once in
         let q : moved (R .pairs .first) a (moved (R .pairs .second) a (moved (R .pairs .third) a a)) ≡ b =
         read-back a (R .pairs) b (λ c. D .pairs .exact a c h ∙ f c) in

@@ -19,9 +19,9 @@ use Rattle.words.specs.declared.node.Entry.{Entry}
 use Rattle.tree.specs.Tree.{slots}
 use Rattle.tree.specs.Passes.{Passes}
 use Rattle.builder_laws.specs.Built.{Built}
-use Rattle.tree_rm_laws.specs.Removed.{Removed}
+use Rattle.tree_rm_laws.specs.RemovalGuarantee.{RemovalGuarantee}
 use Rattle.tree_rm_laws.proofs.Removal.{removed}
-use Rattle.tree_in_laws.specs.Inserted.{Inserted}
+use Rattle.tree_in_laws.specs.InsertionGuarantee.{InsertionGuarantee}
 use Rattle.tree_in_laws.proofs.Insertion.{inserted}
 use Rattle.iter.specs.Lists.{those}
 use Rattle.iter.specs.Exact.{equals}
@@ -42,9 +42,9 @@ use Rattle.iset.specs.Plain.{PlainAnswer, plainAnswer, plainCall}
 use Rattle.iset.specs.Demands.{removal, insertion}
 use Rattle.iset.specs.declared.Map.{Map}
 use Rattle.iset.specs.declared.build.Built.the-variants as built
-use Rattle.iset.specs.declared.remove.Removed as gone
+use Rattle.iset.specs.declared.remove.RemovalGuarantee as gone
 use Rattle.iset.specs.declared.remove.Removal.the-variants as removed-as
-use Rattle.iset.specs.declared.insert.Inserted as added
+use Rattle.iset.specs.declared.insert.InsertionGuarantee as added
 use Rattle.iset.specs.declared.insert.Insertion.the-variants as inserted-as
 use Rattle.iset.specs.declared.lookup.Started.the-variants as started
 use Rattle.iset.specs.declared.lookup.Stepped.the-variants as stepped
@@ -98,7 +98,7 @@ build-answers W C S e =
 -- A removal: the count is one less; value, pairs, root and what is left are those of a removal of slot s.
 pub remove-answers : (m : Map) (W C : List ℕ) (s : ℕ) → removeCall m W C s .answer .no ≡ 0 → (P : Passes W C (m .count) (m .root))
     → (removeCall m W C s .answer .map .count ≡ m .count - 1)
-    × Removed W C (m .count) (m .root) s P (removal m W C s)
+    × RemovalGuarantee W C (m .count) (m .root) s P (removal m W C s)
 unfolding removeCall
 remove-answers m W C s e P =
     let z : removeNumber m W C s ≡ 0 = sym (remove-no m W C s) ∙ e in
@@ -111,7 +111,7 @@ pub insert-answers : (m : Map) (W C : List ℕ) (e : Entry) → insertCall m W C
     → (insertCall m W C e .answer .slot ≡ m .count)
     × (entry (insertCall m W C e .words) (insertCall m W C e .answer .slot) ≡ e)
     × (insertCall m W C e .answer .map .count ≡ m .count + 1)
-    × Inserted W C (m .count) (m .root) e P (insertion m W C e)
+    × InsertionGuarantee W C (m .count) (m .root) e P (insertion m W C e)
 unfolding insertCall
 insert-answers m W C e i P =
     let z : insertNumber m W C e ≡ 0 = sym (insert-no m W C e) ∙ i in
@@ -139,13 +139,13 @@ pub build-done : (κs : Lfts 3) (a : K.Dens κs build-kinds.ps) (r : K.resT buil
 build-done κs a r s p m e = ap (λ (c : Change BuildAnswer). c .answer) (sym p) ∙ ap buildAnswer e
 
 pub remove-done : (κs : Lfts 2) (a : K.Dens κs remove-kinds.ps) (r : K.resT remove-kinds.r κs .Denot) (s : AtExit (K.endedOf 2 remove-kinds.ps remove-kinds.r) κs)
-    → remove-reads.Post κs a r s → (g : gone.Removed) → r ≡ removed-as.Done g
+    → remove-reads.Post κs a r s → (g : gone.RemovalGuarantee) → r ≡ removed-as.Done g
     → removeCall (a .0) (now (a .1 .0)) (now (a .1 .1 .0)) (a .1 .1 .1 .0) .answer
     ≡ record { no = 0; value = g .value; map = g .map; pairs = g .pairs; reach = g .reach }
 remove-done κs a r s p g e = ap (λ (c : Change RemoveAnswer). c .answer) (sym p) ∙ ap (removeAnswer (a .0)) e
 
 pub insert-done : (κs : Lfts 2) (a : K.Dens κs insert-kinds.ps) (r : K.resT insert-kinds.r κs .Denot) (s : AtExit (K.endedOf 2 insert-kinds.ps insert-kinds.r) κs)
-    → insert-reads.Post κs a r s → (g : added.Inserted) → r ≡ inserted-as.Done g
+    → insert-reads.Post κs a r s → (g : added.InsertionGuarantee) → r ≡ inserted-as.Done g
     → insertCall (a .0) (now (a .1 .0)) (now (a .1 .1 .0)) (record { start = a .1 .1 .1 .0; end = a .1 .1 .1 .1 .0; value = a .1 .1 .1 .1 .1 .0 }) .answer
     ≡ record { no = 0; slot = g .slot; map = g .map; reach = g .reach }
 insert-done κs a r s p g e = ap (λ (c : Change InsertAnswer). c .answer) (sym p) ∙ ap (insertAnswer (a .0)) e

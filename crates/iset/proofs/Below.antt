@@ -19,7 +19,7 @@ use Rattle.tree_rm_laws.specs.Remove.{removeRule}
 use Rattle.tree.specs.Below.{Agree}
 use Rattle.tree_edit.specs.Below.{Alike}
 use Rattle.tree_edit.proofs.Below.{link-same}
-use Rattle.tree_rm_laws.proofs.Below.{SameRemoval, removed-below}
+use Rattle.tree_rm_laws.proofs.Below.{SameRemoved, removed-below}
 use Rattle.tree_rm_laws.proofs.Below as removal
 use Rattle.tree_in_laws.specs.Insert.{insertRule}
 use Rattle.tree_in_laws.proofs.Below.{inserted-below}
@@ -220,7 +220,7 @@ module _ (m : Map) (W C X D : List ℕ) (s : SameBelow (m .count) W C X D) where
     same-removeNumber : removeNumber m W C t ≡ removeNumber m X D t
     same-removeNumber = rw (remove-order m W C t, remove-order m X D t, check-below m W C X D s)
 
-    rule-below : removeNumber m W C t ≡ 0 → SameRemoval n (removeRule W C n (m .root) t) (removeRule X D n (m .root) t)
+    rule-below : removeNumber m W C t ≡ 0 → SameRemoved n (removeRule W C n (m .root) t) (removeRule X D n (m .root) t)
     rule-below e =
         let h : m .count ≤ room (length W) (length C) = check-zero m W C (removals.accepts m W C t e .0) .0 in
         removed-below W X C D n (m .root) t (omega arith) (removals.accepts m W C t e .1) (s .words) (s .colours)

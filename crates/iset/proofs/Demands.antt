@@ -8,14 +8,14 @@ use borrow.Author.Tests.{eq-eqb}
 use Rattle.words.specs.Nodes.{room}
 use Rattle.words.specs.declared.node.Entry.{Entry}
 use Rattle.tree_edit.specs.Reach.{Follows}
-use Rattle.tree_rm_laws.specs.Remove.{Removal, removeRule}
+use Rattle.tree_rm_laws.specs.Remove.{Removed, removeRule}
 use Rattle.tree_rm_laws.specs.With.{removeWith}
 use Rattle.tree_rm_laws.proofs.Enough as removal-numbers
 use Rattle.tree_rm_laws.proofs.Reached as removal-hulls
 use Rattle.tree_in_laws.specs.Descent.{under}
 use Rattle.tree_in_laws.specs.Insert.{own, hungWords, insertRule}
 use Rattle.tree_in_laws.specs.Reach.{insertHulls}
-use Rattle.tree_in_laws.specs.Inserted.{insertWith}
+use Rattle.tree_in_laws.specs.InsertionGuarantee.{insertWith}
 use Rattle.tree_in_laws.proofs.Insertion as insertion-numbers
 use Rattle.tree_in_laws.proofs.Reached as insertion-hulls
 use Rattle.iset.specs.Changes.{Change}
@@ -59,12 +59,12 @@ module _ (m : Map) (W C : List ℕ) (s : ℕ) (e : removeNumber m W C s ≡ 0) w
   unfolding removeCall
   removal-is = rw (eq-eqb (removeNumber m W C s) 0 e)
 
-  pub remove-enough : (turns links hulls : ℕ) → 36 ≤ turns → 32 ≤ links → 32 ≤ hulls
-      → removal m W C s ≡ removeWith turns links hulls W C (m .count) (m .root) s
-  remove-enough turns links hulls i j k =
+  pub remove-enough : (rounds links hulls : ℕ) → 36 ≤ rounds → 32 ≤ links → 32 ≤ hulls
+      → removal m W C s ≡ removeWith rounds links hulls W C (m .count) (m .root) s
+  remove-enough rounds links hulls i j k =
       removal-is
       ∙ sym (removal-numbers.enough W C (m .count) (m .root) s (omega (arith, fits)) (omega (arith, fits)) (omega (arith, fits))
-      (removals.accepts m W C s e .1) (removals.tree-before m W C s e) turns links hulls i j k)
+      (removals.accepts m W C s e .1) (removals.tree-before m W C s e) rounds links hulls i j k)
 
   remove-sum : removeCall m W C s .answer .reach ≡ removeReach m W C s
   unfolding removeCall
@@ -79,12 +79,12 @@ module _ (m : Map) (W C : List ℕ) (x : Entry) (e : insertNumber m W C x ≡ 0)
   unfolding insertCall
   insertion-is = rw (eq-eqb (insertNumber m W C x) 0 e)
 
-  pub insert-enough : (levels turns hulls : ℕ) → 32 ≤ levels → 32 ≤ turns → 32 ≤ hulls
-      → insertion m W C x ≡ insertWith levels turns hulls W C (m .count) (m .root) x
-  insert-enough levels turns hulls i j k =
+  pub insert-enough : (levels rounds hulls : ℕ) → 32 ≤ levels → 32 ≤ rounds → 32 ≤ hulls
+      → insertion m W C x ≡ insertWith levels rounds hulls W C (m .count) (m .root) x
+  insert-enough levels rounds hulls i j k =
       insertion-is
       ∙ sym (insertion-numbers.enough W C (m .count) (m .root) x (omega (arith, roomy)) (omega (arith, roomy)) (omega (arith, roomy))
-      (insertions.accepts m W C x e .2) (insertions.tree-before m W C x e) levels turns hulls i j k)
+      (insertions.accepts m W C x e .2) (insertions.tree-before m W C x e) levels rounds hulls i j k)
 
   insert-sum : insertCall m W C x .answer .reach ≡ insertReach m W C x
   unfolding insertCall
@@ -113,7 +113,7 @@ request-9 m W C =
       remove-sum = λ s e. remove-sum m W C s (sym (remove-no m W C s) ∙ e);
       remove-hulls = λ s e. removal-hulls.reached W C (m .count) (m .root) s;
       remove-moves = λ s e.
-          ap (λ (R : Removal). R .store) (removal-is m W C s (sym (remove-no m W C s) ∙ e)) ∙ removal-hulls.cut-then-moved W C (m .count) (m .root) s;
+          ap (λ (R : Removed). R .store) (removal-is m W C s (sym (remove-no m W C s) ∙ e)) ∙ removal-hulls.cut-then-moved W C (m .count) (m .root) s;
       remove-none = λ s d. ap (λ (a : Change RemoveAnswer). a .answer .reach) (remove-leaves m W C s d);
       insert-sum = λ x e. insert-sum m W C x (sym (insert-no m W C x) ∙ e);
       insert-hangs = λ x e.

@@ -12,7 +12,7 @@ use Rattle.words.specs.Nodes.{room}
 use Rattle.words.specs.declared.node.Entry.{Entry}
 use Rattle.tree.specs.Passes.{Passes}
 use Rattle.tree_in_laws.specs.Insert.{insertRule}
-use Rattle.tree_in_laws.specs.Inserted.{Inserted}
+use Rattle.tree_in_laws.specs.InsertionGuarantee.{InsertionGuarantee}
 use Rattle.tree_in_laws.proofs.Insertion.{inserted}
 use Rattle.iset.specs.Check.{first, checkRule}
 use Rattle.iset.specs.Insert.{fullNumber, openInsertNumber, roomThenCheck, insertNumber}
@@ -73,7 +73,7 @@ module _ (m : Map) (W C : List ℕ) (e : Entry) where
   tree-before z = check-zero m W C (accepts z .1) .1
 
   -- what the rule gives; `inserts` of Demands says it of the call
-  pub by-rule : (z : insertNumber m W C e ≡ 0) → Inserted W C (m .count) (m .root) e (tree-before z) (insertRule W C (m .count) (m .root) e)
+  pub by-rule : (z : insertNumber m W C e ≡ 0) → InsertionGuarantee W C (m .count) (m .root) e (tree-before z) (insertRule W C (m .count) (m .root) e)
   by-rule z =
       let h : m .count < held = accepts z .0 in
       inserted W C (m .count) (m .root) e (omega arith) (omega arith) (omega arith) (accepts z .2) (tree-before z)

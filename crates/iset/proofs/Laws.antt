@@ -13,7 +13,7 @@ use Rattle.words.specs.declared.node.Entry.{Entry}
 use Rattle.words.specs.declared.refusal.Refusal.{Refusal}
 use Rattle.words.proofs.Refusals.{number-pos}
 use Rattle.builder.specs.Input.{allProper, sorted}
-use Rattle.tree_rm_laws.specs.Remove.{Removal}
+use Rattle.tree_rm_laws.specs.Remove as rule
 use Rattle.tree_edit.specs.Store.{Store, store}
 use Rattle.tree_rm.specs.Answers.{removal}
 use Rattle.tree_rm.specs.declared.remove.Removed.{Removed}
@@ -113,7 +113,7 @@ module _ (m : Map) (W C : List ℕ) (s : ℕ) (t : Checked) (e : checkNumber t �
   removable-slot = removable .1
 
 -- what the removal's code answers and leaves
-pub removed-slot : (a : Removed) (X K : List ℕ) (R : Removal) → removal a X K ≡ R → (m : Map) (k : ℕ) → a .reach ≡ k
+pub removed-slot : (a : Removed) (X K : List ℕ) (R : rule.Removed) → removal a X K ≡ R → (m : Map) (k : ℕ) → a .reach ≡ k
     → _≡_ {A = Change RemoveAnswer}
     (change (record { no = 0; value = a .value; map = record { count = m .count - 1; root = a .root }; pairs = a .pairs; reach = a .reach }) X K)
     (change (removeDone m R k) (R .store .words) (R .store .colours))

@@ -11,7 +11,7 @@ use borrow.Author.Tests.{ltb-true, lt-ltb, le-ltb, ne-eqb}
 use Rattle.words.specs.Nodes.{room}
 use Rattle.tree.specs.Passes.{Passes}
 use Rattle.tree_rm_laws.specs.Remove.{removeRule}
-use Rattle.tree_rm_laws.specs.Removed.{Removed}
+use Rattle.tree_rm_laws.specs.RemovalGuarantee.{RemovalGuarantee}
 use Rattle.tree_rm_laws.proofs.Removal.{removed}
 use Rattle.iset.specs.Check.{countNumber, checkRule}
 use Rattle.iset.specs.Remove.{openRemoveNumber, removeNumber}
@@ -54,7 +54,7 @@ module _ (m : Map) (W C : List ℕ) (s : ℕ) where
   tree-before e = check-zero m W C (accepts e .0) .1
 
   -- what the rule gives; `removes` of Demands says it of the call
-  pub by-rule : (e : removeNumber m W C s ≡ 0) → Removed W C (m .count) (m .root) s (tree-before e) (removeRule W C (m .count) (m .root) s)
+  pub by-rule : (e : removeNumber m W C s ≡ 0) → RemovalGuarantee W C (m .count) (m .root) s (tree-before e) (removeRule W C (m .count) (m .root) s)
   by-rule e =
       let h : m .count ≤ room (length W) (length C) = check-zero m W C (accepts e .0) .0 in
       removed W C (m .count) (m .root) s (omega arith) (omega arith) (omega arith) (accepts e .1) (tree-before e)

@@ -15,7 +15,7 @@ use Rattle.tree.specs.Passes.{Passes}
 use Rattle.builder.specs.Build.{buildWords, buildColours, buildRoot}
 use Rattle.tree_edit.specs.Store.{Store, store}
 use Rattle.tree_edit.specs.Inside.{Inside}
-use Rattle.tree_rm_laws.specs.Remove.{Removal, removeRule}
+use Rattle.tree_rm_laws.specs.Remove.{Removed, removeRule}
 use Rattle.tree_rm_laws.proofs.Inside.{removed-inside}
 use Rattle.tree_in_laws.specs.Insert.{insertRule}
 use Rattle.tree_changes.specs.Sequence.{Change, run, total, TakesAll}
@@ -63,7 +63,7 @@ empty-passes W C =
       rising = record {};
       hulls = record {};
       top = refl;
-      hues = record {};
+      redBlack = record {};
     })
 
 -- the store passes
@@ -99,7 +99,7 @@ module _ (m : Map) (W C : List ℕ) where
     remove-sound : (s : ℕ) → Sound (answered S (remove s))
     unfolding removeCall
     remove-sound s =
-        let R : Removal = removeRule W C (m .count) (m .root) s in
+        let R : Removed = removeRule W C (m .count) (m .root) s in
         by-number (λ (a : RemoveAnswer). a .map) (removeNumber m W C s) (removeSlot m W C s) (change (refusedRemoval m (removeNumber m W C s)) W C)
         (λ e. let i : Inside (m .count) W C (R .store) = removed-inside W C (m .count) (m .root) s (removals.accepts m W C s e .1) in
         zero-check (record { count = m .count - 1; root = R .store .root }) (R .store .words) (R .store .colours)

@@ -11,15 +11,15 @@ use Rattle.words.specs.declared.interval.Span.{Span}
 use Rattle.words.specs.declared.node.Entry.{Entry}
 use Rattle.tree.specs.Passes.{Passes}
 use Rattle.builder_laws.specs.Built.{Built}
-use Rattle.tree_rm_laws.specs.Remove.{vacated, Removal}
+use Rattle.tree_rm_laws.specs.Remove.{vacated, Removed}
 use Rattle.tree_edit.specs.Store.{Store, store}
 use Rattle.tree_edit.specs.Reach.{changes, Follows}
 use Rattle.tree_rm_laws.specs.Reach.{removeHulls, cutFrom, lastStep}
-use Rattle.tree_rm_laws.specs.Removed.{Removed}
+use Rattle.tree_rm_laws.specs.RemovalGuarantee.{RemovalGuarantee}
 use Rattle.tree_rm_laws.specs.With.{removeWith}
 use Rattle.tree_in_laws.specs.Descent.{under}
 use Rattle.tree_in_laws.specs.Insert.{own, hungWords}
-use Rattle.tree_in_laws.specs.Inserted.{Inserted, insertWith}
+use Rattle.tree_in_laws.specs.InsertionGuarantee.{InsertionGuarantee, insertWith}
 use Rattle.tree_in_laws.specs.Reach.{insertHulls}
 use Rattle.iter.specs.declared.Cursor.{Cursor}
 use Rattle.iter.specs.declared.rules.Query.{Query}
@@ -60,7 +60,7 @@ pub record Demand1 (m : Map) (W C : List ℕ) : Type 0 where
       → plainCall m W C q out ≡ output (refusedPlain (plainCall m W C q out .answer .no)) out
 
 -- What `Map::remove` answers and leaves, in the form of the rule of removal; what `Map::insert` leaves, in that of insertion.
-abbrev pub removal : Map → List ℕ → List ℕ → ℕ → Removal
+abbrev pub removal : Map → List ℕ → List ℕ → ℕ → Removed
 removal m W C s =
     let r : Change RemoveAnswer = removeCall m W C s in
     record { store = store (r .words) (r .colours) (r .answer .map .root); value = r .answer .value; pairs = r .answer .pairs }
@@ -77,18 +77,18 @@ pub record Demand2 (m : Map) (W C : List ℕ) : Type 0 where
       × Built S W C (length S / 3) (buildCall W C S .words) (buildCall W C S .colours) (buildCall W C S .answer .map .root)
   -- a removal's store passes, with the other entries in their order; value and pairs are those of the removed and of the moved entries
   pub removes : (s : ℕ) → removeCall m W C s .answer .no ≡ 0 → (P : Passes W C (m .count) (m .root))
-      → (removeCall m W C s .answer .map .count ≡ m .count - 1) × Removed W C (m .count) (m .root) s P (removal m W C s)
+      → (removeCall m W C s .answer .map .count ≡ m .count - 1) × RemovalGuarantee W C (m .count) (m .root) s P (removal m W C s)
   -- an insertion's store passes, with every old entry in its slot and the new one, after its equals, in the slot that is named: the old count
   pub inserts : (e : Entry) → insertCall m W C e .answer .no ≡ 0 → (P : Passes W C (m .count) (m .root))
       → (insertCall m W C e .answer .slot ≡ m .count)
       × (entry (insertCall m W C e .words) (insertCall m W C e .answer .slot) ≡ e)
       × (insertCall m W C e .answer .map .count ≡ m .count + 1)
-      × Inserted W C (m .count) (m .root) e P (insertion m W C e)
+      × InsertionGuarantee W C (m .count) (m .root) e P (insertion m W C e)
   -- the numbers at which the rules stop counting never decide: any greater ones come to the same
-  pub remove-enough : (s : ℕ) → removeCall m W C s .answer .no ≡ 0 → (turns links hulls : ℕ) → 36 ≤ turns → 32 ≤ links → 32 ≤ hulls
-      → removal m W C s ≡ removeWith turns links hulls W C (m .count) (m .root) s
-  pub insert-enough : (e : Entry) → insertCall m W C e .answer .no ≡ 0 → (levels turns hulls : ℕ) → 32 ≤ levels → 32 ≤ turns → 32 ≤ hulls
-      → insertion m W C e ≡ insertWith levels turns hulls W C (m .count) (m .root) e
+  pub remove-enough : (s : ℕ) → removeCall m W C s .answer .no ≡ 0 → (rounds links hulls : ℕ) → 36 ≤ rounds → 32 ≤ links → 32 ≤ hulls
+      → removal m W C s ≡ removeWith rounds links hulls W C (m .count) (m .root) s
+  pub insert-enough : (e : Entry) → insertCall m W C e .answer .no ≡ 0 → (levels rounds hulls : ℕ) → 32 ≤ levels → 32 ≤ rounds → 32 ≤ hulls
+      → insertion m W C e ≡ insertWith levels rounds hulls W C (m .count) (m .root) e
 
 -- Demand 3, of any lookup by `Map::step` and `Map::drain` from the fresh cursor, in any mixture and with any limits, on an unchanged store that passes; the
 -- range is no BadRange, the interval no BadInterval. specs/Runs has the two records.

@@ -19,7 +19,7 @@ use Rattle.tree.proofs.Frames.{go-down}
 use Rattle.tree.proofs.Checked.{tree-size, tree-low, slot-once}
 use Rattle.tree_edit.specs.Links.{leftmost}
 use Rattle.tree_edit.proofs.Links.{on-slot, on-none}
-use Rattle.tree_edit.proofs.Turns.{side-of}
+use Rattle.tree_edit.proofs.Rotations.{side-of}
 use Rattle.iter.specs.Cursors.{ended, fresh}
 use Rattle.iter.specs.Drains.{drain}
 use Rattle.iter.specs.Exact.{equals, exact, findFrom}

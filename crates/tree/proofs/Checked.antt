@@ -29,7 +29,7 @@ module _ (W C : List ℕ) (n r : ℕ) (h : Passes W C n r) where
 
   -- "With 65,535 nodes at most it is at most 32."
   pub tree-low : n ≤ 65535 → height (h .tree) ≤ 32
-  tree-low small = height-32 (red C) (h .tree) (h .hues) (h .top) (omega (arith, tree-size))
+  tree-low small = height-32 (red C) (h .tree) (h .redBlack) (h .top) (omega (arith, tree-size))
 
   -- "count 0 means root U and the reverse"
   pub empty-root : n ≡ 0 → r ≡ U

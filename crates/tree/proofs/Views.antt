@@ -8,7 +8,7 @@ use Rattle.words.specs.Nodes.{start, stop, lo, hi, value, interval, hull, entry
 use Rattle.words.specs.declared.interval.Interval.{Interval}
 use Rattle.tree.specs.Tree.{Tree, leaf, node, slots, occ}
 use Rattle.tree.specs.Hulls.{gather, Hulls}
-use Rattle.tree.specs.Hues.{rootRed, blacks, Hues}
+use Rattle.tree.specs.RedBlack.{rootRed, blacks, RedBlack}
 use Rattle.tree.specs.View.{Datum, datum, view}
 use Rattle.tree.proofs.Slots.{hit-same}
 
@@ -101,12 +101,12 @@ module _ (W : List ℕ) (K : ℕ → Bool) (X : List ℕ) (L : ℕ → Bool) whe
         right = q (h .right);
       })
 
-  pub hues-view : (u t : Tree) → view X L u ≡ view W K t → Hues K t → Hues L u
-  hues-view =
-      view-induct (λ u t. Hues K t → Hues L u) (λ h. tt) (λ l s r l′ s′ r′ e x y p q h.
+  pub redBlack-view : (u t : Tree) → view X L u ≡ view W K t → RedBlack K t → RedBlack L u
+  redBlack-view =
+      view-induct (λ u t. RedBlack K t → RedBlack L u) (λ h. tt) (λ l s r l′ s′ r′ e x y p q h.
       record {
-        calm = λ i. let c = h .calm (sym (datum-red s s′ e) ∙ i) in (rootRed-view l l′ x ∙ c .0, rootRed-view r r′ y ∙ c .1);
-        even = blacks-view l l′ x ∙ h .even ∙ sym (blacks-view r r′ y);
+        noRedRed = λ i. let c = h .noRedRed (sym (datum-red s s′ e) ∙ i) in (rootRed-view l l′ x ∙ c .0, rootRed-view r r′ y ∙ c .1);
+        equalBlacks = blacks-view l l′ x ∙ h .equalBlacks ∙ sym (blacks-view r r′ y);
         left = p (h .left);
         right = q (h .right);
       })

@@ -12,5 +12,5 @@ abbrev pub Agree : ℕ → List ℕ → List ℕ → Type 0
 Agree n W X = (length W ≡ length X) × ((f : Field) (a : ℕ) → a < n → word W f a ≡ word X f a)
 
 -- colours as long as one another, with the same colour for each slot below n
-abbrev pub Hued : ℕ → List ℕ → List ℕ → Type 0
-Hued n C D = (length C ≡ length D) × ((a : ℕ) → a < n → red C a ≡ red D a)
+abbrev pub SameColours : ℕ → List ℕ → List ℕ → Type 0
+SameColours n C D = (length C ≡ length D) × ((a : ℕ) → a < n → red C a ≡ red D a)

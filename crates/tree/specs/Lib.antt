@@ -2,7 +2,7 @@ pub mod Tree
 pub mod Zipper
 pub mod Order
 pub mod Hulls
-pub mod Hues
+pub mod RedBlack
 pub mod Passes
 pub mod View
 pub mod Below

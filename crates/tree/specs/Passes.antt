@@ -9,7 +9,7 @@ use Rattle.bitvec.specs.Colours.{red}
 use Rattle.tree.specs.Tree.{Tree, slots, occ, Shape}
 use Rattle.tree.specs.Order.{RisingAt}
 use Rattle.tree.specs.Hulls.{Hulls}
-use Rattle.tree.specs.Hues.{rootRed, Hues}
+use Rattle.tree.specs.RedBlack.{rootRed, RedBlack}
 
 -- "count 0 means root U and the reverse" follows: `empty-root` and `root-empty` of proofs/Checked. That two trees never pass for
 -- one store is `unique` there, and that the tree is low is `tree-low`.
@@ -30,4 +30,4 @@ pub record Passes (W C : List ℕ) (n r : ℕ) : Type 0 where
   -- "the root is black"
   pub top : rootRed (red C) tree ≡ false
   -- "no red node has a red child; every way down to U passes equally many blacks"
-  pub hues : Hues (red C) tree
+  pub redBlack : RedBlack (red C) tree

@@ -16,14 +16,14 @@ use Rattle.words.specs.declared.node.Entry.{Entry}
 use Rattle.words.specs.declared.node.Field.{Field}
 use Rattle.words.specs.declared.node.Field.the-variants.{Start, End, Value, HullStart, HullEnd, Child, Parent}
 use Rattle.words.proofs.Nodes.{length-put}
-use Rattle.bitvec.specs.Colours.{red, redAt, dye}
+use Rattle.bitvec.specs.Colours.{red, redAt, paint}
 use Rattle.bitvec.proofs.Bytes.{length-setBit, bitAt-same, bitAt-other}
 use Rattle.tree_edit.specs.Links.{adopt, setChild, redirected, redirect, replaced, rootAfter, fixUp}
-use Rattle.tree_edit.specs.Rotations.{turn, turn-2, turn-4}
+use Rattle.tree_edit.specs.Rotations.{rotate, rotate-2, rotate-4}
 use Rattle.tree_edit.specs.Rounds.{Next, done, again, ending}
 use Rattle.tree_edit.specs.Store.{Store}
 use Rattle.tree_edit.specs.Reach.{Work, differs, changes, bothHulls, upHulls, onward}
-use Rattle.tree.specs.Below.{Agree, Hued}
+use Rattle.tree.specs.Below.{Agree, SameColours}
 use Rattle.tree_edit.proofs.Reached.{changes-append}
 
 -- one word is written in both lists
@@ -47,16 +47,16 @@ module _ (n : ℕ) where
       go false i = h (leb-false n k i)
 
   -- the colours: a bit is written in both
-  pub hued-dye : (C D : List ℕ) (s : ℕ) (v : Bool) → n ≤ length C * 8 → s < n → Hued n C D → Hued n (dye C s v) (dye D s v)
-  hued-dye C D s v bits h H = (length-setBit C s v ∙ H .0 ∙ sym (length-setBit D s v), λ a l. go a l (eqb a s) refl)
+  pub sameColours-paint : (C D : List ℕ) (s : ℕ) (v : Bool) → n ≤ length C * 8 → s < n → SameColours n C D → SameColours n (paint C s v) (paint D s v)
+  sameColours-paint C D s v bits h H = (length-setBit C s v ∙ H .0 ∙ sym (length-setBit D s v), λ a l. go a l (eqb a s) refl)
     where
-      go : (a : ℕ) → a < n → (t : Bool) → eqb a s ≡ t → red (dye C s v) a ≡ red (dye D s v) a
+      go : (a : ℕ) → a < n → (t : Bool) → eqb a s ≡ t → red (paint C s v) a ≡ red (paint D s v) a
       go a l true e =
           let i : a ≡ s = eqb-true a s e in
           rw i (bitAt-same C s v (omega arith) ∙ sym (bitAt-same D s v (omega (arith, H .0))))
       go a l false e = bitAt-other C s v a (eqb-false a s e) ∙ H .1 a l ∙ sym (bitAt-other D s v a (eqb-false a s e))
 
-  pub same-redAt : (C D : List ℕ) (k : ℕ) → Hued n C D → redAt n C k ≡ redAt n D k
+  pub same-redAt : (C D : List ℕ) (k : ℕ) → SameColours n C D → redAt n C k ≡ redAt n D k
   same-redAt C D k H = link-same {A = Bool} (λ x y. x ≡ y) k (λ s. red C s) (λ s. red D s) false false (λ h. H .1 k h) refl
 
   -- the words: the same is written in both
@@ -153,30 +153,30 @@ module _ (n : ℕ) where
   same-rootAfter W X r old new h A = rw (A .1 Parent old h)
 
   module _ (W X : List ℕ) (b : Bool) (P S : ℕ) (lp : P < n) (ls : S < n) (A : Agree n W X) where
-    pub agree-turn : Agree n (turn n W b P S) (turn n X b P S)
-    unfolding turn
-    agree-turn =
+    pub agree-rotate : Agree n (rotate n W b P S) (rotate n X b P S)
+    unfolding rotate
+    agree-rotate =
         rw (A .1 (Child b) S ls)
         (agree-setChild _ _ S P b (agree-setChild _ _ P (kid X b S) (not b) (agree-replaced W X P S lp A)))
 
-    pub agree-turn-2 : Agree n (turn-2 n W b P S) (turn-2 n X b P S)
-    unfolding turn-2
-    agree-turn-2 =
+    pub agree-rotate-2 : Agree n (rotate-2 n W b P S) (rotate-2 n X b P S)
+    unfolding rotate-2
+    agree-rotate-2 =
         rw (A .1 (Child b) S ls)
         (agree-setChild _ _ P (kid X b S) (not b) (agree-setChild _ _ S P b (agree-replaced W X P S lp A)))
 
-    pub agree-turn-4 : (c : ℕ) → c < n → Agree n (turn-4 n W b P S c) (turn-4 n X b P S c)
-    unfolding turn-4
-    agree-turn-4 c lc =
+    pub agree-rotate-4 : (c : ℕ) → c < n → Agree n (rotate-4 n W b P S c) (rotate-4 n X b P S c)
+    unfolding rotate-4
+    agree-rotate-4 c lc =
         rw (A .1 (Child (not b)) c lc)
         (agree-setChild _ _ P c (not b) (agree-setChild _ _ c S (not b) (agree-setChild W X S (kid X (not b) c) b A)))
 
   -- colours that agree, with room for n of them
   abbrev pub Both : List ℕ → List ℕ → Type 0
-  Both C D = (n ≤ length C * 8) × Hued n C D
+  Both C D = (n ≤ length C * 8) × SameColours n C D
 
-  pub both-dye : (C D : List ℕ) (s : ℕ) (v : Bool) → s < n → Both C D → Both (dye C s v) (dye D s v)
-  both-dye C D s v h B = (rw length-setBit (B .0), hued-dye C D s v (B .0) h (B .1))
+  pub both-paint : (C D : List ℕ) (s : ℕ) (v : Bool) → s < n → Both C D → Both (paint C s v) (paint D s v)
+  both-paint C D s v h B = (rw length-setBit (B .0), sameColours-paint C D s v (B .0) h (B .1))
 
   -- what a turn of a loop comes to
   abbrev pub SameNext : Next → Next → Type 0

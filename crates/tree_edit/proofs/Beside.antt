@@ -67,9 +67,9 @@ hulls-by W (frame b s far ∷ c) t h =
     ((q, x), p)
 
 -- a turn: the parent P and then the sibling S are above the place
-pub by-turn : (W X : List ℕ) (b : Bool) (P S : ℕ) (C D : Tree) (i c : List Frame) → ((a : ℕ) → Kept W X a)
+pub by-rotate : (W X : List ℕ) (b : Bool) (P S : ℕ) (C D : Tree) (i c : List Frame) → ((a : ℕ) → Kept W X a)
     → HullsBy W (i ++ (frame b P (bin b C S D) ∷ c)) → HullsBy X (i ++ (frame b P C ∷ frame b S D ∷ c))
-by-turn W X b P S C D i c f h =
+by-rotate W X b P S C D i c f h =
     let (u, v) = by-right W i (frame b P (bin b C S D) ∷ c) h in
     let (x, y) = open-hull W b C S D u in
     by-same W X (i ++ (frame b P C ∷ frame b S D ∷ c)) (λ a o. f a)

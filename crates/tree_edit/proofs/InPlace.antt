@@ -4,14 +4,14 @@ use mathlib.Core.List.{List}
 use Prim.Native.Nat.{ℕ}
 use Rattle.words.specs.Nodes.{entry}
 use Rattle.tree_edit.specs.Store.{Store, store}
-use Rattle.tree_edit.proofs.Low.{Low, low-refl, Dyed, dyed-refl}
+use Rattle.tree_edit.proofs.Low.{Low, low-refl, LowColours, lowColours-refl}
 
 module _ (n : ℕ) where
   -- what the repair leaves: writes below n, and every entry where it was
-  pub record Mended (W C : List ℕ) (S : Store) : Type 0 where
+  pub record InPlace (W C : List ℕ) (S : Store) : Type 0 where
     pub words-in : Low n W (S .words)
-    pub colours-in : Dyed n C (S .colours)
+    pub colours-in : LowColours n C (S .colours)
     pub entries : (a : ℕ) → entry (S .words) a ≡ entry W a
 
-  pub mended-refl : (W C : List ℕ) (r : ℕ) → Mended W C (store W C r)
-  mended-refl W C r = record { words-in = low-refl n W; colours-in = dyed-refl n C; entries = λ a. refl }
+  pub in-place-refl : (W C : List ℕ) (r : ℕ) → InPlace W C (store W C r)
+  in-place-refl W C r = record { words-in = low-refl n W; colours-in = lowColours-refl n C; entries = λ a. refl }

@@ -1,11 +1,11 @@
 pub mod Links
 pub mod Carried
 pub mod Beside
-pub mod Walk
+pub mod Upward
 pub mod Stand
-pub mod Turns
+pub mod Rotations
 pub mod Rows
-pub mod Paint
+pub mod Colours
 pub mod Fits
 pub mod Low
 pub mod InPlace

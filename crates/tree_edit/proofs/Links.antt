@@ -14,7 +14,7 @@ use Rattle.words.proofs.Nodes.{length-put, word-put, word-put-slot, word-put-fi
 use Rattle.words.specs.declared.node.Field.{Field}
 use Rattle.words.specs.declared.node.Field.the-variants.{Child, Parent}
 use Rattle.tree_edit.specs.Links.{adopt, setChild, redirected, redirect, replaced}
-use Rattle.tree_edit.specs.Rotations.{turn, turn-2, turn-4}
+use Rattle.tree_edit.specs.Rotations.{rotate, rotate-2, rotate-4}
 use Rattle.tree_edit.proofs.Carried.{Kept}
 
 -- a link word by cases, and what it comes to on a slot and on none
@@ -168,26 +168,26 @@ module _ (n : ℕ) (W : List ℕ) (old new : ℕ) where
 
 -- the turns of the repair
 module _ (n : ℕ) (W : List ℕ) (b : Bool) (P S : ℕ) where
-  pub length-turn : length (turn n W b P S) ≡ length W
-  unfolding turn
-  length-turn = simp (length-setChild, length-replaced)
+  pub length-rotate : length (rotate n W b P S) ≡ length W
+  unfolding rotate
+  length-rotate = simp (length-setChild, length-replaced)
 
-  pub length-turn-2 : length (turn-2 n W b P S) ≡ length W
-  unfolding turn-2
-  length-turn-2 = simp (length-setChild, length-replaced)
+  pub length-rotate-2 : length (rotate-2 n W b P S) ≡ length W
+  unfolding rotate-2
+  length-rotate-2 = simp (length-setChild, length-replaced)
 
-  pub length-turn-4 : (c : ℕ) → length (turn-4 n W b P S c) ≡ length W
-  unfolding turn-4
-  length-turn-4 c = simp length-setChild
+  pub length-rotate-4 : (c : ℕ) → length (rotate-4 n W b P S c) ≡ length W
+  unfolding rotate-4
+  length-rotate-4 c = simp length-setChild
 
-  pub kept-turn : (a : ℕ) → Kept W (turn n W b P S) a
-  unfolding turn
-  kept-turn a g q = kept-setChild n _ _ _ _ a g q ∙ kept-setChild n _ _ _ _ a g q ∙ kept-replaced n W P S a g q
+  pub kept-rotate : (a : ℕ) → Kept W (rotate n W b P S) a
+  unfolding rotate
+  kept-rotate a g q = kept-setChild n _ _ _ _ a g q ∙ kept-setChild n _ _ _ _ a g q ∙ kept-replaced n W P S a g q
 
-  pub kept-turn-2 : (a : ℕ) → Kept W (turn-2 n W b P S) a
-  unfolding turn-2
-  kept-turn-2 a g q = kept-setChild n _ _ _ _ a g q ∙ kept-setChild n _ _ _ _ a g q ∙ kept-replaced n W P S a g q
+  pub kept-rotate-2 : (a : ℕ) → Kept W (rotate-2 n W b P S) a
+  unfolding rotate-2
+  kept-rotate-2 a g q = kept-setChild n _ _ _ _ a g q ∙ kept-setChild n _ _ _ _ a g q ∙ kept-replaced n W P S a g q
 
-  pub kept-turn-4 : (c a : ℕ) → Kept W (turn-4 n W b P S c) a
-  unfolding turn-4
-  kept-turn-4 c a g q = kept-setChild n _ _ _ _ a g q ∙ kept-setChild n _ _ _ _ a g q ∙ kept-setChild n W _ _ _ a g q
+  pub kept-rotate-4 : (c a : ℕ) → Kept W (rotate-4 n W b P S c) a
+  unfolding rotate-4
+  kept-rotate-4 c a g q = kept-setChild n _ _ _ _ a g q ∙ kept-setChild n _ _ _ _ a g q ∙ kept-setChild n W _ _ _ a g q

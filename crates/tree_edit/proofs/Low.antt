@@ -13,10 +13,10 @@ use Rattle.words.specs.declared.interval.Interval.{Interval}
 use Rattle.words.specs.declared.node.Entry.{Entry}
 use Rattle.words.specs.declared.node.Field.{Field}
 use Rattle.words.specs.declared.node.Field.the-variants.{Child, Parent}
-use Rattle.bitvec.specs.Colours.{red, dye}
+use Rattle.bitvec.specs.Colours.{red, paint}
 use Rattle.bitvec.proofs.Bytes.{length-setBit, bitAt-other}
 use Rattle.tree_edit.specs.Links.{adopt, setChild, redirected, redirect, replaced, fixUp}
-use Rattle.tree_edit.specs.Rotations.{turn, turn-2, turn-4}
+use Rattle.tree_edit.specs.Rotations.{rotate, rotate-2, rotate-4}
 use Rattle.tree_edit.proofs.Links.{by-link}
 
 -- the words X come from W by writes to slots below n
@@ -75,25 +75,25 @@ module _ (n : ℕ) where
   low-three W X Y Z p q r = low-trans W X Z p (low-trans X Y Z q r)
 
   module _ (W : List ℕ) (b : Bool) (P S : ℕ) (lp : P < n) (ls : S < n) where
-    pub low-turn : Low n W (turn n W b P S)
-    unfolding turn
-    low-turn = low-three W _ _ _ (low-replaced W P S ls) (low-setChild _ P _ _ lp) (low-setChild _ S _ _ ls)
+    pub low-rotate : Low n W (rotate n W b P S)
+    unfolding rotate
+    low-rotate = low-three W _ _ _ (low-replaced W P S ls) (low-setChild _ P _ _ lp) (low-setChild _ S _ _ ls)
 
-    pub low-turn-2 : Low n W (turn-2 n W b P S)
-    unfolding turn-2
-    low-turn-2 = low-three W _ _ _ (low-replaced W P S ls) (low-setChild _ S _ _ ls) (low-setChild _ P _ _ lp)
+    pub low-rotate-2 : Low n W (rotate-2 n W b P S)
+    unfolding rotate-2
+    low-rotate-2 = low-three W _ _ _ (low-replaced W P S ls) (low-setChild _ S _ _ ls) (low-setChild _ P _ _ lp)
 
-    pub low-turn-4 : (c : ℕ) → c < n → Low n W (turn-4 n W b P S c)
-    unfolding turn-4
-    low-turn-4 c lc =
+    pub low-rotate-4 : (c : ℕ) → c < n → Low n W (rotate-4 n W b P S c)
+    unfolding rotate-4
+    low-rotate-4 c lc =
         low-three W _ _ _ (low-setChild W S _ _ ls) (low-setChild _ c _ _ lc) (low-setChild _ P _ _ lp)
 
   -- the colours D come from C by writes to bits below n
-  abbrev pub Dyed : List ℕ → List ℕ → Type 0
-  Dyed C D = (length D ≡ length C) × ((a : ℕ) → n ≤ a → red D a ≡ red C a)
+  abbrev pub LowColours : List ℕ → List ℕ → Type 0
+  LowColours C D = (length D ≡ length C) × ((a : ℕ) → n ≤ a → red D a ≡ red C a)
 
-  pub dyed-refl : (C : List ℕ) → Dyed C C
-  dyed-refl C = (refl, λ a h. refl)
+  pub lowColours-refl : (C : List ℕ) → LowColours C C
+  lowColours-refl C = (refl, λ a h. refl)
 
-  pub dyed : (C D : List ℕ) (s : ℕ) (v : Bool) → s < n → Dyed C D → Dyed C (dye D s v)
-  dyed C D s v h p = (length-setBit D s v ∙ p .0, λ a u. bitAt-other D s v a (omega arith) ∙ p .1 a u)
+  pub low-paint : (C D : List ℕ) (s : ℕ) (v : Bool) → s < n → LowColours C D → LowColours C (paint D s v)
+  low-paint C D s v h p = (length-setBit D s v ∙ p .0, λ a u. bitAt-other D s v a (omega arith) ∙ p .1 a u)

@@ -21,9 +21,9 @@ slots-plug (frame b s far ∷ c) t u e = slots-plug c (bin b t s far) (bin b u s
     go true = rw e
     go false = rw e
 
-pub turned-slots : (b : Bool) (P S : ℕ) (c : List Frame) (N C D : Tree)
+pub rotated-slots : (b : Bool) (P S : ℕ) (c : List Frame) (N C D : Tree)
     → slots (plug (frame b P C ∷ frame b S D ∷ c) N) ≡ slots (plug (frame b P (bin b C S D) ∷ c) N)
-turned-slots b P S c N C D = slots-plug c (bin b (bin b N P C) S D) (bin b N P (bin b C S D)) (go b)
+rotated-slots b P S c N C D = slots-plug c (bin b (bin b N P C) S D) (bin b N P (bin b C S D)) (go b)
   where
     go : (b : Bool) → slots (bin b (bin b N P C) S D) ≡ slots (bin b N P (bin b C S D))
     go true = simp append-assoc

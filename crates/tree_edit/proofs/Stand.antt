@@ -10,7 +10,7 @@ use Rattle.tree.specs.Tree.{Tree, occ, Shape}
 use Rattle.tree.specs.Zipper.{bin, Frame, occs, Above, frame}
 use Rattle.tree.proofs.Slots.{occ-bin}
 use Rattle.tree.proofs.Frames.{keep, above-keep, go-up, go-down}
-use Rattle.tree_edit.proofs.Walk.{same-fix}
+use Rattle.tree_edit.proofs.Upward.{same-fix}
 
 pub record Stand (W : List ℕ) (n r ix p : ℕ) (c : List Frame) (t : Tree) : Type 0 where
   pub small : n ≤ 65535

@@ -7,12 +7,12 @@ use Rattle.tree_edit.specs.Links.{setChild, replaced}
 
 -- A node stands on the side b of its parent P (`true`: left), its sibling is S: S turns into the place of P. The two writes below it
 -- stand in the one order in the fifth case and in the other in the second.
-unfoldable pub turn : ℕ → List ℕ → Bool → ℕ → ℕ → List ℕ
-turn n W b P S = setChild n (setChild n (replaced n W P S) P (kid W b S) (not b)) S P b
+unfoldable pub rotate : ℕ → List ℕ → Bool → ℕ → ℕ → List ℕ
+rotate n W b P S = setChild n (setChild n (replaced n W P S) P (kid W b S) (not b)) S P b
 
-unfoldable pub turn-2 : ℕ → List ℕ → Bool → ℕ → ℕ → List ℕ
-turn-2 n W b P S = setChild n (setChild n (replaced n W P S) S P b) P (kid W b S) (not b)
+unfoldable pub rotate-2 : ℕ → List ℕ → Bool → ℕ → ℕ → List ℕ
+rotate-2 n W b P S = setChild n (setChild n (replaced n W P S) S P b) P (kid W b S) (not b)
 
 -- the fourth case: the close nephew c turns into the place of S below P
-unfoldable pub turn-4 : ℕ → List ℕ → Bool → ℕ → ℕ → ℕ → List ℕ
-turn-4 n W b P S c = setChild n (setChild n (setChild n W S (kid W (not b) c) b) c S (not b)) P c (not b)
+unfoldable pub rotate-4 : ℕ → List ℕ → Bool → ℕ → ℕ → ℕ → List ℕ
+rotate-4 n W b P S c = setChild n (setChild n (setChild n W S (kid W (not b) c) b) c S (not b)) P c (not b)

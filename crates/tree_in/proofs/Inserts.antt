@@ -12,7 +12,7 @@ use Rattle.words.specs.declared.ix.Link.{Link}
 use Rattle.words.specs.declared.ix.Link.the-variants.{Slot, Nil}
 use Rattle.words.specs.declared.node.Entry.{Entry}
 use Rattle.words.proofs.Laws.{linked, slot-live}
-use Rattle.bitvec.specs.Colours.{dye}
+use Rattle.bitvec.specs.Colours.{paint}
 use Rattle.tree_edit.specs.Links.{fixUp}
 use Rattle.tree_edit.specs.Store.{Store, store}
 use Rattle.tree_edit.specs.Rounds.{ending}
@@ -20,10 +20,10 @@ use Rattle.tree_edit.specs.Reach.{changes, upHulls}
 use Rattle.tree_edit.proofs.Reached.{changes-append, changes-le, up-most}
 use Rattle.tree_links.proofs.LinkLaws.{read-linked, read-unlinked}
 use Rattle.tree_in_laws.specs.Descent.{goesLeft, descend, under}
-use Rattle.tree_in_laws.specs.Insert.{own, hungNode, hungWords, hungRoot, hung, mended, insertRule}
-use Rattle.tree_in_laws.specs.Mend.{mend}
-use Rattle.tree_in_laws.specs.Reach.{mendHulls, mendedHulls, insertHulls}
-use Rattle.tree_in_laws.proofs.Reached.{mend-most}
+use Rattle.tree_in_laws.specs.Insert.{own, hungNode, hungWords, hungRoot, hung, insertAt, insertRule}
+use Rattle.tree_in_laws.specs.InsertRepair.{insertRepair}
+use Rattle.tree_in_laws.specs.Reach.{insertRepairHulls, insertAtHulls, insertHulls}
+use Rattle.tree_in_laws.proofs.Reached.{insertRepair-most}
 
 -- one step of the way down
 module _ (n : ℕ) (W : List ℕ) (x : Interval) (t k : ℕ) where
@@ -64,31 +64,31 @@ unfolding hungWords
 hung-words W X Y n e i p s v l d q f g h j =
     linked Y n p s l (λ (k : ℕ). putKid (hungNode W n e p) (goesLeft W (own e) k) k n) (hungNode W n e p) d q (rw (← f, ← g, ← h) j)
 
-pub hung-is : (W C X D : List ℕ) (n r q : ℕ) (e : Entry) (p : ℕ) → D ≡ dye C n true → q ≡ hungRoot n r p → X ≡ hungWords W n e p
+pub hung-is : (W C X D : List ℕ) (n r q : ℕ) (e : Entry) (p : ℕ) → D ≡ paint C n true → q ≡ hungRoot n r p → X ≡ hungWords W n e p
     → store X D q ≡ hung W C n r e p
 unfolding hung
 hung-is W C X D n r q e p f g h = rw (← f, ← g, ← h)
 
 -- the whole insertion
-pub mended-is : (W C X D Y : List ℕ) (n r q x : ℕ) → store X D q ≡ ending (mend n 32 W C r x) → Y ≡ fixUp n 32 X x
-    → store Y D q ≡ mended (store W C r) n x
-unfolding mended
-mended-is W C X D Y n r q x e f = rw (← e, ← f)
+pub insertAt-is : (W C X D Y : List ℕ) (n r q x : ℕ) → store X D q ≡ ending (insertRepair n 32 W C r x) → Y ≡ fixUp n 32 X x
+    → store Y D q ≡ insertAt (store W C r) n x
+unfolding insertAt
+insertAt-is W C X D Y n r q x e f = rw (← e, ← f)
 
-module _ (n : ℕ) (W C : List ℕ) (r x j : ℕ) (e : j ≡ changes n (mendHulls n 32 W C r x)) (X : List ℕ) (k : ℕ) (f : k ≡ changes n (upHulls n 32 X x)) where
-  pub mended-changes : (D : List ℕ) (q : ℕ) → store X D q ≡ ending (mend n 32 W C r x) → j + k ≡ changes n (mendedHulls (store W C r) n x)
-  unfolding mendedHulls
-  mended-changes D q g = rw (← g, changes-append n (mendHulls n 32 W C r x) (upHulls n 32 X x), ← e, ← f)
+module _ (n : ℕ) (W C : List ℕ) (r x j : ℕ) (e : j ≡ changes n (insertRepairHulls n 32 W C r x)) (X : List ℕ) (k : ℕ) (f : k ≡ changes n (upHulls n 32 X x)) where
+  pub insertAt-changes : (D : List ℕ) (q : ℕ) → store X D q ≡ ending (insertRepair n 32 W C r x) → j + k ≡ changes n (insertAtHulls (store W C r) n x)
+  unfolding insertAtHulls
+  insertAt-changes D q g = rw (← g, changes-append n (insertRepairHulls n 32 W C r x) (upHulls n 32 X x), ← e, ← f)
 
-  pub mended-fits : j + k < 18446744073709551616
-  mended-fits = omega (arith, mend-most n 32 W C r x, changes-le n (upHulls n 32 X x), up-most n 32 X x)
+  pub insertAt-fits : j + k < 18446744073709551616
+  insertAt-fits = omega (arith, insertRepair-most n 32 W C r x, changes-le n (upHulls n 32 X x), up-most n 32 X x)
 
 pub insert-changes : (W C X D : List ℕ) (n r q p : ℕ) (e : Entry) (i : Interval) (k : ℕ) → i ≡ own e → p ≡ under n W r i
-    → store X D q ≡ hung W C n r e p → k ≡ changes (n + 1) (mendedHulls (store X D q) (n + 1) n) → k ≡ changes (n + 1) (insertHulls W C n r e)
+    → store X D q ≡ hung W C n r e p → k ≡ changes (n + 1) (insertAtHulls (store X D q) (n + 1) n) → k ≡ changes (n + 1) (insertHulls W C n r e)
 unfolding insertHulls
 insert-changes W C X D n r q p e i k f g h j = rw (← f, ← g, ← h) j
 
 pub insert-is : (W C X D : List ℕ) (n r q p : ℕ) (e : Entry) (i : Interval) (S : Store) → i ≡ own e → p ≡ under n W r i
-    → store X D q ≡ hung W C n r e p → S ≡ mended (store X D q) (n + 1) n → S ≡ insertRule W C n r e
+    → store X D q ≡ hung W C n r e p → S ≡ insertAt (store X D q) (n + 1) n → S ≡ insertRule W C n r e
 unfolding insertRule
 insert-is W C X D n r q p e i S f g h j = rw (← f, ← g, ← h) j

@@ -1,3 +1,3 @@
 pub mod Inserts
-pub mod Mends
+pub mod InsertRounds
 pub mod Determined

@@ -20,8 +20,8 @@ ghost use Prim.Native.Nat.{_+_, _*_, _<_, _≤_};
 ghost use lib.ListN.{length};
 ghost use Rattle.tree_edit.specs.Store.{store};
 ghost use Rattle.tree_edit.specs.Reach.{changes};
-ghost use Rattle.tree_in_laws.specs.Insert.{own, hungNode, hungWords, hungRoot, hung, mended, insertRule};
-ghost use Rattle.tree_in_laws.specs.Reach.{mendedHulls, insertHulls};
+ghost use Rattle.tree_in_laws.specs.Insert.{own, hungNode, hungWords, hungRoot, hung, insertAt, insertRule};
+ghost use Rattle.tree_in_laws.specs.Reach.{insertAtHulls, insertHulls};
 
 // The interval of an entry.
 fn interval_in(entry: Entry) -> Interval
@@ -76,8 +76,8 @@ fn insert_at(
 // The repair from the new node, and then its hull and those of all above it.
 fn mend_from(nodes: &mut [u64], colours: &mut [u8], count: u64, root: u64, index: u64) -> Repaired
     requires { ⌜ (count * 8 ≤ length (now nodes)) × (count ≤ length (now colours) * 8) × (index < count) ⌝ }
-    ensures { λ r. ⌜ (store (now (nodes .exit)) (now (colours .exit)) (r .root) ≡ mended (store (now (nodes .entry)) (now (colours .entry)) root) count index)
-        × (r .reach ≡ changes count (mendedHulls (store (now (nodes .entry)) (now (colours .entry)) root) count index)) ⌝ }
+    ensures { λ r. ⌜ (store (now (nodes .exit)) (now (colours .exit)) (r .root) ≡ insertAt (store (now (nodes .entry)) (now (colours .entry)) root) count index)
+        × (r .reach ≡ changes count (insertAtHulls (store (now (nodes .entry)) (now (colours .entry)) root) count index)) ⌝ }
 {
     let repaired = insert_repair(nodes, colours, count, root, index);
     let changed = fix_intervals_up(nodes, count, index);

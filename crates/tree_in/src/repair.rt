@@ -3,10 +3,10 @@ use bitvec::colours::is_black_or_nil;
 use bitvec::colours::is_red;
 use bitvec::colours::set_black;
 use bitvec::colours::set_red;
+use tree_links::Next;
 use tree_links::Repaired;
-use tree_links::Turn;
 use tree_links::rework_both;
-use tree_links::turn_up;
+use tree_links::rotate_up;
 use words::ix::Link;
 use words::node::child_of;
 use words::node::parent_of;
@@ -16,14 +16,14 @@ ghost use Prim.Native.Nat.{_+_, _*_, _<_, _≤_};
 ghost use lib.ListN.{length};
 ghost use lib.Dec.{eqb};
 ghost use Rattle.words.specs.Nodes.{kid};
-ghost use Rattle.bitvec.specs.Colours.{dye};
+ghost use Rattle.bitvec.specs.Colours.{paint};
 ghost use Rattle.tree_edit.specs.Links.{rootAfter};
 ghost use Rattle.tree_edit.specs.Store.{store};
 ghost use Rattle.tree_edit.specs.Rounds.{ending};
 ghost use Rattle.tree_edit.specs.Reach.{changes};
 ghost use Rattle.tree_links.specs.Answers.{next, reach};
-ghost use Rattle.tree_in_laws.specs.Mend.{rotated, outer, inner, mendAt, mendBelow, mendStep, mend};
-ghost use Rattle.tree_in_laws.specs.Reach.{rotatedHulls, outerHulls, innerHulls, mendAtHulls, mendBelowHulls, mendStepHulls, mendHulls};
+ghost use Rattle.tree_in_laws.specs.InsertRepair.{rotated, outer, inner, insertRoundAt, insertRoundBelow, insertRound, insertRepair};
+ghost use Rattle.tree_in_laws.specs.Reach.{rotatedHulls, outerHulls, innerHulls, insertRoundAtHulls, insertRoundBelowHulls, insertRoundHulls, insertRepairHulls};
 
 // The link word of the sibling of the child on that side.
 fn sibling(nodes: &[u64], parent: u64, left_side: bool) -> u64
@@ -47,7 +47,7 @@ fn rotate(
     ensures { λ r. ⌜ (r .root ≡ rootAfter count (now (nodes .entry)) root index up) × (now (nodes .exit) ≡ rotated count (now (nodes .entry)) «left_side» index up)
         × (r .reach ≡ changes count (rotatedHulls count (now (nodes .entry)) «left_side» index up)) ⌝ }
 {
-    let top = turn_up(nodes, count, root, left_side, index, up);
+    let top = rotate_up(nodes, count, root, left_side, index, up);
     let changed = rework_both(nodes, count, index, up);
     Repaired {
         root: top,
@@ -66,15 +66,15 @@ fn rotate_outer(
     parent: u64,
     grandparent: u64,
     before: u64,
-) -> Turn
+) -> Next
     requires { ⌜ (count * 8 ≤ length (now nodes)) × (count ≤ length (now colours) * 8) × (parent < count) × (grandparent < count) × (before ≤ 2) ⌝ }
     ensures { λ r. ⌜ (next r (now (nodes .exit)) (now (colours .exit)) ≡ outer count (now (nodes .entry)) (now (colours .entry)) root «left_side» parent grandparent)
         × (reach r ≡ before + changes count (outerHulls count (now (nodes .entry)) «left_side» parent grandparent)) ⌝ }
 {
-    let turned = rotate(nodes, count, root, !left_side, grandparent, parent);
+    let rotated = rotate(nodes, count, root, !left_side, grandparent, parent);
     set_black(colours, parent);
     set_red(colours, grandparent);
-    Turn::Done(turned.root, before + turned.reach)
+    Next::Done(rotated.root, before + rotated.reach)
 }
 
 // The slot `index` is the child of its parent on the other side: it comes up over the parent first. The root stays, since
@@ -88,7 +88,7 @@ fn rotate_inner(
     left_side: bool,
     parent: u64,
     grandparent: u64,
-) -> Turn
+) -> Next
     requires { ⌜ (count * 8 ≤ length (now nodes)) × (count ≤ length (now colours) * 8) × (index < count) × (parent < count) × (grandparent < count) ⌝ }
     ensures { λ r. ⌜ (next r (now (nodes .exit)) (now (colours .exit)) ≡ inner count (now (nodes .entry)) (now (colours .entry)) root index «left_side» parent grandparent)
         × (reach r ≡ changes count (innerHulls count (now (nodes .entry)) index «left_side» parent grandparent)) ⌝ }
@@ -109,7 +109,7 @@ fn rotate_inner(
 // Parent and uncle become black, the grandparent red.
 fn recolour(colours: &mut [u8], parent: u64, uncle: u64, grandparent: u64)
     requires { ⌜ (parent < length (now colours) * 8) × (uncle < length (now colours) * 8) × (grandparent < length (now colours) * 8) ⌝ }
-    ensures { λ _. ⌜ now (colours .exit) ≡ dye (dye (dye (now (colours .entry)) parent false) uncle false) grandparent true ⌝ }
+    ensures { λ _. ⌜ now (colours .exit) ≡ paint (paint (paint (now (colours .entry)) parent false) uncle false) grandparent true ⌝ }
 {
     set_black(colours, parent);
     set_black(colours, uncle);
@@ -117,7 +117,7 @@ fn recolour(colours: &mut [u8], parent: u64, uncle: u64, grandparent: u64)
 }
 
 // One turn where the uncle is not red.
-fn turn_rotated(
+fn round_rotated(
     nodes: &mut [u64],
     colours: &mut [u8],
     count: u64,
@@ -126,7 +126,7 @@ fn turn_rotated(
     left_side: bool,
     parent: u64,
     grandparent: u64,
-) -> Turn
+) -> Next
     requires { ⌜ (count * 8 ≤ length (now nodes)) × (count ≤ length (now colours) * 8) × (index < count) × (parent < count) × (grandparent < count) ⌝ }
     ensures { λ r. ⌜ (next r (now (nodes .exit)) (now (colours .exit))
         ≡ cond (eqb (kid (now (nodes .entry)) (not «left_side») parent) index)
@@ -161,7 +161,7 @@ fn turn_rotated(
 }
 
 // One turn, with the grandparent at hand and the side of it that the parent is on.
-fn turn_at(
+fn round_at(
     nodes: &mut [u64],
     colours: &mut [u8],
     count: u64,
@@ -170,14 +170,14 @@ fn turn_at(
     parent: u64,
     grandparent: u64,
     left_side: bool,
-) -> Turn
+) -> Next
     requires { ⌜ (count * 8 ≤ length (now nodes)) × (count ≤ length (now colours) * 8) × (index < count) × (parent < count) × (grandparent < count) ⌝ }
-    ensures { λ r. ⌜ (next r (now (nodes .exit)) (now (colours .exit)) ≡ mendAt count (now (nodes .entry)) (now (colours .entry)) root index parent grandparent «left_side»)
-        × (reach r ≡ changes count (mendAtHulls count (now (nodes .entry)) (now (colours .entry)) index parent grandparent «left_side»)) ⌝ }
+    ensures { λ r. ⌜ (next r (now (nodes .exit)) (now (colours .exit)) ≡ insertRoundAt count (now (nodes .entry)) (now (colours .entry)) root index parent grandparent «left_side»)
+        × (reach r ≡ changes count (insertRoundAtHulls count (now (nodes .entry)) (now (colours .entry)) index parent grandparent «left_side»)) ⌝ }
 {
     let uncle = sibling(nodes, grandparent, left_side);
     if is_black_or_nil(colours, count, uncle) {
-        return turn_rotated(
+        return round_rotated(
             nodes,
             colours,
             count,
@@ -189,27 +189,27 @@ fn turn_at(
         );
     }
     recolour(colours, parent, uncle, grandparent);
-    Turn::Again(root, grandparent, 0)
+    Next::Again(root, grandparent, 0)
 }
 
 // One turn below a red parent. In a store that passes the check it has a parent too, since the root is black.
-fn turn_below(
+fn round_below(
     nodes: &mut [u64],
     colours: &mut [u8],
     count: u64,
     root: u64,
     index: u64,
     parent: u64,
-) -> Turn
+) -> Next
     requires { ⌜ (count * 8 ≤ length (now nodes)) × (count ≤ length (now colours) * 8) × (index < count) × (parent < count) ⌝ }
-    ensures { λ r. ⌜ (next r (now (nodes .exit)) (now (colours .exit)) ≡ mendBelow count (now (nodes .entry)) (now (colours .entry)) root index parent)
-        × (reach r ≡ changes count (mendBelowHulls count (now (nodes .entry)) (now (colours .entry)) index parent)) ⌝ }
+    ensures { λ r. ⌜ (next r (now (nodes .exit)) (now (colours .exit)) ≡ insertRoundBelow count (now (nodes .entry)) (now (colours .entry)) root index parent)
+        × (reach r ≡ changes count (insertRoundBelowHulls count (now (nodes .entry)) (now (colours .entry)) index parent)) ⌝ }
 {
     let Link::Slot(grandparent) = Link::new(parent_of(nodes, parent), count) else {
-        return Turn::Done(root, 0);
+        return Next::Done(root, 0);
     };
     let left_side = child_of(nodes, grandparent, true) == parent;
-    turn_at(
+    round_at(
         nodes,
         colours,
         count,
@@ -222,19 +222,19 @@ fn turn_below(
 }
 
 // One turn of the loop, at the red slot `index`.
-fn one_turn(nodes: &mut [u64], colours: &mut [u8], count: u64, root: u64, index: u64) -> Turn
+fn one_round(nodes: &mut [u64], colours: &mut [u8], count: u64, root: u64, index: u64) -> Next
     requires { ⌜ (count * 8 ≤ length (now nodes)) × (count ≤ length (now colours) * 8) × (index < count) ⌝ }
-    ensures { λ r. ⌜ (next r (now (nodes .exit)) (now (colours .exit)) ≡ mendStep count (now (nodes .entry)) (now (colours .entry)) root index)
-        × (reach r ≡ changes count (mendStepHulls count (now (nodes .entry)) (now (colours .entry)) index)) ⌝ }
+    ensures { λ r. ⌜ (next r (now (nodes .exit)) (now (colours .exit)) ≡ insertRound count (now (nodes .entry)) (now (colours .entry)) root index)
+        × (reach r ≡ changes count (insertRoundHulls count (now (nodes .entry)) (now (colours .entry)) index)) ⌝ }
 {
     let Link::Slot(parent) = Link::new(parent_of(nodes, index), count) else {
         set_black(colours, index);
-        return Turn::Done(root, 0);
+        return Next::Done(root, 0);
     };
     if is_red(colours, parent) {
-        return turn_below(nodes, colours, count, root, index, parent);
+        return round_below(nodes, colours, count, root, index, parent);
     }
-    Turn::Done(root, 0)
+    Next::Done(root, 0)
 }
 
 // Repairs the tree from the red slot `index` upward. Each turn that goes on goes up two levels, so in a store that passes the
@@ -247,26 +247,26 @@ pub(crate) fn insert_repair(
     index: u64,
 ) -> Repaired
     requires { ⌜ (count * 8 ≤ length (now nodes)) × (count ≤ length (now colours) * 8) × (index < count) ⌝ }
-    ensures { λ r. ⌜ (store (now (nodes .exit)) (now (colours .exit)) (r .root) ≡ ending (mend count 32 (now (nodes .entry)) (now (colours .entry)) root index))
-        × (r .reach ≡ changes count (mendHulls count 32 (now (nodes .entry)) (now (colours .entry)) root index)) ⌝ }
+    ensures { λ r. ⌜ (store (now (nodes .exit)) (now (colours .exit)) (r .root) ≡ ending (insertRepair count 32 (now (nodes .entry)) (now (colours .entry)) root index))
+        × (r .reach ≡ changes count (insertRepairHulls count 32 (now (nodes .entry)) (now (colours .entry)) root index)) ⌝ }
 {
     let mut at = index;
     let mut top = root;
     let mut reach: u64 = 0;
-    let mut turns: u64 = 32;
-    while turns > 0 {
-        match one_turn(nodes, colours, count, top, at) {
-            Turn::Done(r, k) => {
+    let mut rounds: u64 = 32;
+    while rounds > 0 {
+        match one_round(nodes, colours, count, top, at) {
+            Next::Done(r, k) => {
                 return Repaired {
                     root: r,
                     reach: reach + k,
                 };
             }
-            Turn::Again(r, i, k) => {
+            Next::Again(r, i, k) => {
                 top = r;
                 at = i;
                 reach += k;
-                turns -= 1;
+                rounds -= 1;
             }
         }
     }

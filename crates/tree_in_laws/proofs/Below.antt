@@ -14,34 +14,34 @@ use Rattle.words.specs.declared.node.Entry.{Entry}
 use Rattle.words.specs.declared.node.Field.{Field}
 use Rattle.words.specs.declared.node.Field.the-variants.{Start, End, Value, HullStart, HullEnd, Child, Parent}
 use Rattle.words.proofs.Nodes.{entry-putNode, hull-putNode, kid-putNode, par-putNode}
-use Rattle.bitvec.specs.Colours.{red, redAt, dye}
+use Rattle.bitvec.specs.Colours.{red, redAt, paint}
 use Rattle.bitvec.proofs.Bytes.{length-setBit, bitAt-same, bitAt-other}
 use Rattle.tree.proofs.Cases.{compare}
-use Rattle.tree_edit.specs.Rotations.{turn}
+use Rattle.tree_edit.specs.Rotations.{rotate}
 use Rattle.tree_edit.specs.Rounds.{Next, done, again, goOn, ending}
 use Rattle.tree_edit.specs.Reach.{Work, changes, upHulls}
-use Rattle.tree.specs.Below.{Agree, Hued}
+use Rattle.tree.specs.Below.{Agree, SameColours}
 use Rattle.tree_edit.specs.Below.{Alike}
-use Rattle.tree_edit.proofs.Paint.{red-slot}
-use Rattle.tree_edit.proofs.Below.{link-same, same-redAt, agree-put, agree-putNode, agree-fix, agree-fixUp, agree-turn, same-rootAfter, Both, both-dye, SameNext, AlikeIn, same-ending, Sums, sums-append, sums-both, sums-up, sums-onward}
+use Rattle.tree_edit.proofs.Colours.{red-slot}
+use Rattle.tree_edit.proofs.Below.{link-same, same-redAt, agree-put, agree-putNode, agree-fix, agree-fixUp, agree-rotate, same-rootAfter, Both, both-paint, SameNext, AlikeIn, same-ending, Sums, sums-append, sums-both, sums-up, sums-onward}
 use Rattle.tree_in_laws.specs.Descent.{goesLeft, descend, under}
-use Rattle.tree_in_laws.specs.Mend.{rotated, outer, inner, recoloured, mendAt, mendBelow, mendStep, mend}
-use Rattle.tree_in_laws.specs.Insert.{own, hungNode, hungWords, hungRoot, hung, mended, insertRule}
-use Rattle.tree_in_laws.specs.Reach.{rotatedHulls, outerHulls, innerHulls, mendAtHulls, mendBelowHulls, mendStepHulls, mendHulls, mendedHulls, insertHulls}
+use Rattle.tree_in_laws.specs.InsertRepair.{rotated, outer, inner, recoloured, insertRoundAt, insertRoundBelow, insertRound, insertRepair}
+use Rattle.tree_in_laws.specs.Insert.{own, hungNode, hungWords, hungRoot, hung, insertAt, insertRule}
+use Rattle.tree_in_laws.specs.Reach.{rotatedHulls, outerHulls, innerHulls, insertRoundAtHulls, insertRoundBelowHulls, insertRoundHulls, insertRepairHulls, insertAtHulls, insertHulls}
 
 -- the repair of n entries
 module _ (n : ℕ) where
   module _ (W X : List ℕ) (A : Agree n W X) where
     agree-rotated : (b : Bool) (P S : ℕ) → P < n → S < n → Agree n (rotated n W b P S) (rotated n X b P S)
     unfolding rotated
-    agree-rotated b P S lp ls = agree-fix n _ _ S ls (agree-fix n _ _ P lp (agree-turn n W X b P S lp ls A))
+    agree-rotated b P S lp ls = agree-fix n _ _ S ls (agree-fix n _ _ P lp (agree-rotate n W X b P S lp ls A))
 
   module _ (W X C D : List ℕ) (A : Agree n W X) (B : Both n C D) where
     same-outer : (r : ℕ) (b : Bool) (P G : ℕ) → P < n → G < n → SameNext n (outer n W C r b P G) (outer n X D r b P G)
     unfolding outer
     same-outer r b P G lp lg = (
       agree-rotated W X A (not b) G P lg lp,
-      both-dye n (dye C P false) (dye D P false) G true lg (both-dye n C D P false lp B),
+      both-paint n (paint C P false) (paint D P false) G true lg (both-paint n C D P false lp B),
       same-rootAfter n W X r G P lg A,
     )
 
@@ -49,7 +49,7 @@ module _ (n : ℕ) where
     unfolding recoloured
     same-recoloured r P u G lp lu lg = (
       A,
-      both-dye n _ _ G true lg (both-dye n (dye C P false) (dye D P false) u false lu (both-dye n C D P false lp B)),
+      both-paint n _ _ G true lg (both-paint n (paint C P false) (paint D P false) u false lu (both-paint n C D P false lp B)),
       refl,
       refl,
       lg,
@@ -62,9 +62,9 @@ module _ (n : ℕ) where
       same-outer (rotated n W b P x) (rotated n X b P x) C D (agree-rotated W X A b P x lp lx) B r b x G lx lg
 
   module _ (W X C D : List ℕ) (A : Agree n W X) (B : Both n C D) (r x : ℕ) (lx : x < n) where
-    same-mendAt : (P G : ℕ) (b : Bool) → P < n → G < n → SameNext n (mendAt n W C r x P G b) (mendAt n X D r x P G b)
-    unfolding mendAt
-    same-mendAt P G b lp lg =
+    same-insertRoundAt : (P G : ℕ) (b : Bool) → P < n → G < n → SameNext n (insertRoundAt n W C r x P G b) (insertRoundAt n X D r x P G b)
+    unfolding insertRoundAt
+    same-insertRoundAt P G b lp lg =
         rw (A .1 (Child (not b)) G lg, A .1 (Child (not b)) P lp, same-redAt n C D (kid X (not b) G) (B .1))
         (go (redAt n D (kid X (not b) G)) (eqb (kid X (not b) P) x) refl)
       where
@@ -75,32 +75,32 @@ module _ (n : ℕ) where
         go false true e = same-inner W X C D A B r x b P G lx lp lg
         go false false e = same-outer W X C D A B r b P G lp lg
 
-    same-mendBelow : (P : ℕ) → P < n → SameNext n (mendBelow n W C r x P) (mendBelow n X D r x P)
-    unfolding mendBelow
-    same-mendBelow P lp =
+    same-insertRoundBelow : (P : ℕ) → P < n → SameNext n (insertRoundBelow n W C r x P) (insertRoundBelow n X D r x P)
+    unfolding insertRoundBelow
+    same-insertRoundBelow P lp =
         rw (A .1 Parent P lp)
-        (link-same n {A = Next} (SameNext n) (par X P) (λ G. mendAt n W C r x P G (eqb (kid W true G) P)) (λ G. mendAt n X D r x P G (eqb (kid X true G) P)) (done W C r) (done X D r)
-        (λ lg. rw (A .1 (Child true) (par X P) lg) (same-mendAt P (par X P) (eqb (kid X true (par X P)) P) lp lg)) (A, B, refl))
+        (link-same n {A = Next} (SameNext n) (par X P) (λ G. insertRoundAt n W C r x P G (eqb (kid W true G) P)) (λ G. insertRoundAt n X D r x P G (eqb (kid X true G) P)) (done W C r) (done X D r)
+        (λ lg. rw (A .1 (Child true) (par X P) lg) (same-insertRoundAt P (par X P) (eqb (kid X true (par X P)) P) lp lg)) (A, B, refl))
 
-    same-mendStep : SameNext n (mendStep n W C r x) (mendStep n X D r x)
-    unfolding mendStep
-    same-mendStep =
+    same-insertRound : SameNext n (insertRound n W C r x) (insertRound n X D r x)
+    unfolding insertRound
+    same-insertRound =
         rw (A .1 Parent x lx)
-        (link-same n {A = Next} (SameNext n) (par X x) (λ P. cond (red C P) (mendBelow n W C r x P) (done W C r)) (λ P. cond (red D P) (mendBelow n X D r x P) (done X D r))
-        (done W (dye C x false) r) (done X (dye D x false) r)
-        (λ lp. rw (B .1 .1 (par X x) lp) (go (par X x) lp (red D (par X x)))) (A, both-dye n C D x false lx B, refl))
+        (link-same n {A = Next} (SameNext n) (par X x) (λ P. cond (red C P) (insertRoundBelow n W C r x P) (done W C r)) (λ P. cond (red D P) (insertRoundBelow n X D r x P) (done X D r))
+        (done W (paint C x false) r) (done X (paint D x false) r)
+        (λ lp. rw (B .1 .1 (par X x) lp) (go (par X x) lp (red D (par X x)))) (A, both-paint n C D x false lx B, refl))
       where
-        go : (P : ℕ) → P < n → (t : Bool) → SameNext n (cond t (mendBelow n W C r x P) (done W C r)) (cond t (mendBelow n X D r x P) (done X D r))
-        go P lp true = same-mendBelow P lp
+        go : (P : ℕ) → P < n → (t : Bool) → SameNext n (cond t (insertRoundBelow n W C r x P) (done W C r)) (cond t (insertRoundBelow n X D r x P) (done X D r))
+        go P lp true = same-insertRoundBelow P lp
         go P lp false = (A, B, refl)
 
-  same-mend : (turns : ℕ) (W X C D : List ℕ) (r x : ℕ) → Agree n W X → Both n C D → x < n → SameNext n (mend n turns W C r x) (mend n turns X D r x)
-  unfolding mend
-  same-mend zero W X C D r x A B l = (A, B, refl, refl, l)
-  same-mend (suc turns) W X C D r x A B l = go (same-mend turns) (mendStep n W C r x) (mendStep n X D r x) (same-mendStep W X C D A B r x l)
+  same-insertRepair : (rounds : ℕ) (W X C D : List ℕ) (r x : ℕ) → Agree n W X → Both n C D → x < n → SameNext n (insertRepair n rounds W C r x) (insertRepair n rounds X D r x)
+  unfolding insertRepair
+  same-insertRepair zero W X C D r x A B l = (A, B, refl, refl, l)
+  same-insertRepair (suc rounds) W X C D r x A B l = go (same-insertRepair rounds) (insertRound n W C r x) (insertRound n X D r x) (same-insertRound W X C D A B r x l)
     where
-      go : ((W X C D : List ℕ) (r x : ℕ) → Agree n W X → Both n C D → x < n → SameNext n (mend n turns W C r x) (mend n turns X D r x))
-          → (s t : Next) → SameNext n s t → SameNext n (goOn s (λ X D q i. mend n turns X D q i)) (goOn t (λ X D q i. mend n turns X D q i))
+      go : ((W X C D : List ℕ) (r x : ℕ) → Agree n W X → Both n C D → x < n → SameNext n (insertRepair n rounds W C r x) (insertRepair n rounds X D r x))
+          → (s t : Next) → SameNext n s t → SameNext n (goOn s (λ X D q i. insertRepair n rounds X D q i)) (goOn t (λ X D q i. insertRepair n rounds X D q i))
       go rec (done W C r) (done X D q) h = h
       go rec (done W C r) (again X D q j) h = absurd h
       go rec (again W C r i) (done X D q) h = absurd h
@@ -109,7 +109,7 @@ module _ (n : ℕ) where
   -- the hulls that are worked out: as many of them change
   sums-rotated : (W X : List ℕ) (b : Bool) (P S : ℕ) → P < n → S < n → Agree n W X → Sums n (rotatedHulls n W b P S) (rotatedHulls n X b P S)
   unfolding rotatedHulls
-  sums-rotated W X b P S lp ls A = sums-both n (turn n W b P S) (turn n X b P S) P S lp ls (agree-turn n W X b P S lp ls A)
+  sums-rotated W X b P S lp ls A = sums-both n (rotate n W b P S) (rotate n X b P S) P S lp ls (agree-rotate n W X b P S lp ls A)
 
   sums-inner : (W X : List ℕ) (x : ℕ) (b : Bool) (P G : ℕ) → x < n → P < n → G < n → Agree n W X
       → Sums n (innerHulls n W x b P G) (innerHulls n X x b P G)
@@ -119,9 +119,9 @@ module _ (n : ℕ) where
       (sums-rotated (rotated n W b P x) (rotated n X b P x) (not b) G x lg lx (agree-rotated W X A b P x lp lx))
 
   module _ (W X C D : List ℕ) (A : Agree n W X) (B : Both n C D) (x : ℕ) (lx : x < n) where
-    sums-mendAt : (P G : ℕ) (b : Bool) → P < n → G < n → Sums n (mendAtHulls n W C x P G b) (mendAtHulls n X D x P G b)
-    unfolding mendAtHulls outerHulls
-    sums-mendAt P G b lp lg =
+    sums-insertRoundAt : (P G : ℕ) (b : Bool) → P < n → G < n → Sums n (insertRoundAtHulls n W C x P G b) (insertRoundAtHulls n X D x P G b)
+    unfolding insertRoundAtHulls outerHulls
+    sums-insertRoundAt P G b lp lg =
         rw (A .1 (Child (not b)) G lg, A .1 (Child (not b)) P lp, same-redAt n C D (kid X (not b) G) (B .1))
         (go (redAt n D (kid X (not b) G)) (eqb (kid X (not b) P) x))
       where
@@ -131,30 +131,30 @@ module _ (n : ℕ) where
         go false true = sums-inner W X x b P G lx lp lg A
         go false false = sums-rotated W X (not b) G P lg lp A
 
-    sums-mendBelow : (P : ℕ) → P < n → Sums n (mendBelowHulls n W C x P) (mendBelowHulls n X D x P)
-    unfolding mendBelowHulls
-    sums-mendBelow P lp =
+    sums-insertRoundBelow : (P : ℕ) → P < n → Sums n (insertRoundBelowHulls n W C x P) (insertRoundBelowHulls n X D x P)
+    unfolding insertRoundBelowHulls
+    sums-insertRoundBelow P lp =
         rw (A .1 Parent P lp)
-        (link-same n {A = List Work} (Sums n) (par X P) (λ G. mendAtHulls n W C x P G (eqb (kid W true G) P)) (λ G. mendAtHulls n X D x P G (eqb (kid X true G) P)) [] []
-        (λ lg. rw (A .1 (Child true) (par X P) lg) (sums-mendAt P (par X P) (eqb (kid X true (par X P)) P) lp lg)) refl)
+        (link-same n {A = List Work} (Sums n) (par X P) (λ G. insertRoundAtHulls n W C x P G (eqb (kid W true G) P)) (λ G. insertRoundAtHulls n X D x P G (eqb (kid X true G) P)) [] []
+        (λ lg. rw (A .1 (Child true) (par X P) lg) (sums-insertRoundAt P (par X P) (eqb (kid X true (par X P)) P) lp lg)) refl)
 
-    sums-mendStep : Sums n (mendStepHulls n W C x) (mendStepHulls n X D x)
-    unfolding mendStepHulls
-    sums-mendStep =
+    sums-insertRound : Sums n (insertRoundHulls n W C x) (insertRoundHulls n X D x)
+    unfolding insertRoundHulls
+    sums-insertRound =
         rw (A .1 Parent x lx)
-        (link-same n {A = List Work} (Sums n) (par X x) (λ P. cond (red C P) (mendBelowHulls n W C x P) []) (λ P. cond (red D P) (mendBelowHulls n X D x P) []) [] []
+        (link-same n {A = List Work} (Sums n) (par X x) (λ P. cond (red C P) (insertRoundBelowHulls n W C x P) []) (λ P. cond (red D P) (insertRoundBelowHulls n X D x P) []) [] []
         (λ lp. rw (B .1 .1 (par X x) lp) (go (par X x) lp (red D (par X x)))) refl)
       where
-        go : (P : ℕ) → P < n → (t : Bool) → Sums n (cond t (mendBelowHulls n W C x P) []) (cond t (mendBelowHulls n X D x P) [])
-        go P lp true = sums-mendBelow P lp
+        go : (P : ℕ) → P < n → (t : Bool) → Sums n (cond t (insertRoundBelowHulls n W C x P) []) (cond t (insertRoundBelowHulls n X D x P) [])
+        go P lp true = sums-insertRoundBelow P lp
         go P lp false = refl
 
-  sums-mend : (turns : ℕ) (W X C D : List ℕ) (r x : ℕ) → Agree n W X → Both n C D → x < n → Sums n (mendHulls n turns W C r x) (mendHulls n turns X D r x)
-  unfolding mendHulls
-  sums-mend zero W X C D r x A B l = refl
-  sums-mend (suc turns) W X C D r x A B l =
-      sums-append n (mendStepHulls n W C x) _ (mendStepHulls n X D x) _ (sums-mendStep W X C D A B x l)
-      (sums-onward n (λ X D q i. mendHulls n turns X D q i) (sums-mend turns) (mendStep n W C r x) (mendStep n X D r x) (same-mendStep W X C D A B r x l))
+  sums-insertRepair : (rounds : ℕ) (W X C D : List ℕ) (r x : ℕ) → Agree n W X → Both n C D → x < n → Sums n (insertRepairHulls n rounds W C r x) (insertRepairHulls n rounds X D r x)
+  unfolding insertRepairHulls
+  sums-insertRepair zero W X C D r x A B l = refl
+  sums-insertRepair (suc rounds) W X C D r x A B l =
+      sums-append n (insertRoundHulls n W C x) _ (insertRoundHulls n X D x) _ (sums-insertRound W X C D A B x l)
+      (sums-onward n (λ X D q i. insertRepairHulls n rounds X D q i) (sums-insertRepair rounds) (insertRound n W C r x) (insertRound n X D r x) (same-insertRound W X C D A B r x l))
 
   -- the way down
   module _ (W X : List ℕ) (A : Agree n W X) (x : Interval) where
@@ -191,7 +191,7 @@ same-node W X s e h left right up m k HullEnd =
 same-node W X s e h left right up m k (Child b) = kid-putNode W s e h left right up b m ∙ sym (kid-putNode X s e h left right up b k)
 same-node W X s e h left right up m k Parent = par-putNode W s e h left right up m ∙ sym (par-putNode X s e h left right up k)
 
-module _ (W X C D : List ℕ) (n r : ℕ) (e : Entry) (room : (n + 1) * 8 ≤ length W) (bits : n + 1 ≤ length C * 8) (A : Agree n W X) (H : Hued n C D) where
+module _ (W X C D : List ℕ) (n r : ℕ) (e : Entry) (room : (n + 1) * 8 ≤ length W) (bits : n + 1 ≤ length C * 8) (A : Agree n W X) (H : SameColours n C D) where
   -- one slot more, where that is written too
   agree-hungNode : (p : ℕ) → Agree (n + 1) (hungNode W n e p) (hungNode X n e p)
   unfolding hungNode
@@ -211,7 +211,7 @@ module _ (W X C D : List ℕ) (n r : ℕ) (e : Entry) (room : (n + 1) * 8 ≤ le
       (agree-put (n + 1) (hungNode W n e p) (hungNode X n e p) (agree-hungNode p) (Child (goesLeft X (own e) p)) p n))
       (agree-hungNode p)
 
-  both-hung : Both (n + 1) (dye C n true) (dye D n true)
+  both-hung : Both (n + 1) (paint C n true) (paint D n true)
   both-hung = (
     rw length-setBit bits,
     (
@@ -224,32 +224,32 @@ module _ (W X C D : List ℕ) (n r : ℕ) (e : Entry) (room : (n + 1) * 8 ≤ le
 
   -- after the repair
   same-repaired : (p : ℕ)
-      → AlikeIn (n + 1) (ending (mend (n + 1) 32 (hungWords W n e p) (dye C n true) (hungRoot n r p) n))
-      (ending (mend (n + 1) 32 (hungWords X n e p) (dye D n true) (hungRoot n r p) n))
+      → AlikeIn (n + 1) (ending (insertRepair (n + 1) 32 (hungWords W n e p) (paint C n true) (hungRoot n r p) n))
+      (ending (insertRepair (n + 1) 32 (hungWords X n e p) (paint D n true) (hungRoot n r p) n))
   same-repaired p =
-      same-ending (n + 1) (mend (n + 1) 32 (hungWords W n e p) (dye C n true) (hungRoot n r p) n)
-      (mend (n + 1) 32 (hungWords X n e p) (dye D n true) (hungRoot n r p) n)
-      (same-mend (n + 1) 32 (hungWords W n e p) (hungWords X n e p) (dye C n true) (dye D n true) (hungRoot n r p) n (agree-hungWords p) both-hung (omega arith))
+      same-ending (n + 1) (insertRepair (n + 1) 32 (hungWords W n e p) (paint C n true) (hungRoot n r p) n)
+      (insertRepair (n + 1) 32 (hungWords X n e p) (paint D n true) (hungRoot n r p) n)
+      (same-insertRepair (n + 1) 32 (hungWords W n e p) (hungWords X n e p) (paint C n true) (paint D n true) (hungRoot n r p) n (agree-hungWords p) both-hung (omega arith))
 
-  same-mended : (p : ℕ) → Alike (n + 1) (mended (hung W C n r e p) (n + 1) n) (mended (hung X D n r e p) (n + 1) n)
-  unfolding mended hung
-  same-mended p = let m = same-repaired p in (agree-fixUp (n + 1) 32 _ _ n (m .0), m .1 .1, m .2)
+  same-insertAt : (p : ℕ) → Alike (n + 1) (insertAt (hung W C n r e p) (n + 1) n) (insertAt (hung X D n r e p) (n + 1) n)
+  unfolding insertAt hung
+  same-insertAt p = let m = same-repaired p in (agree-fixUp (n + 1) 32 _ _ n (m .0), m .1 .1, m .2)
 
-  sums-mended : (p : ℕ) → Sums (n + 1) (mendedHulls (hung W C n r e p) (n + 1) n) (mendedHulls (hung X D n r e p) (n + 1) n)
-  unfolding mendedHulls hung
-  sums-mended p =
+  sums-insertAt : (p : ℕ) → Sums (n + 1) (insertAtHulls (hung W C n r e p) (n + 1) n) (insertAtHulls (hung X D n r e p) (n + 1) n)
+  unfolding insertAtHulls hung
+  sums-insertAt p =
       let Y : List ℕ = hungWords W n e p in
       let Z : List ℕ = hungWords X n e p in
       let q : ℕ = hungRoot n r p in
-      sums-append (n + 1) (mendHulls (n + 1) 32 Y (dye C n true) q n) (upHulls (n + 1) 32 (ending (mend (n + 1) 32 Y (dye C n true) q n) .words) n)
-      (mendHulls (n + 1) 32 Z (dye D n true) q n) (upHulls (n + 1) 32 (ending (mend (n + 1) 32 Z (dye D n true) q n) .words) n)
-      (sums-mend (n + 1) 32 (hungWords W n e p) (hungWords X n e p) (dye C n true) (dye D n true) (hungRoot n r p) n (agree-hungWords p) both-hung (omega arith))
+      sums-append (n + 1) (insertRepairHulls (n + 1) 32 Y (paint C n true) q n) (upHulls (n + 1) 32 (ending (insertRepair (n + 1) 32 Y (paint C n true) q n) .words) n)
+      (insertRepairHulls (n + 1) 32 Z (paint D n true) q n) (upHulls (n + 1) 32 (ending (insertRepair (n + 1) 32 Z (paint D n true) q n) .words) n)
+      (sums-insertRepair (n + 1) 32 (hungWords W n e p) (hungWords X n e p) (paint C n true) (paint D n true) (hungRoot n r p) n (agree-hungWords p) both-hung (omega arith))
       (sums-up (n + 1) 32 _ _ n (same-repaired p .0))
 
   pub inserted-below : Alike (n + 1) (insertRule W C n r e) (insertRule X D n r e)
   unfolding insertRule
-  inserted-below = rw (same-under n W X A (own e) r) (same-mended (under n X r (own e)))
+  inserted-below = rw (same-under n W X A (own e) r) (same-insertAt (under n X r (own e)))
 
   pub reach-below : changes (n + 1) (insertHulls W C n r e) ≡ changes (n + 1) (insertHulls X D n r e)
   unfolding insertHulls
-  reach-below = rw (same-under n W X A (own e) r) (sums-mended (under n X r (own e)))
+  reach-below = rw (same-under n W X A (own e) r) (sums-insertAt (under n X r (own e)))

@@ -11,7 +11,7 @@ use Rattle.tree.specs.Order.{NotAfter, Next, Rising}
 use Rattle.tree.specs.Tree.{times}
 use Rattle.tree.proofs.Slots.{hit-same}
 use Rattle.tree.proofs.Orders.{le-sound, le-not, Before}
-use Rattle.tree_in_laws.specs.Inserted.{only, notGreater, greater}
+use Rattle.tree_in_laws.specs.InsertionGuarantee.{only, notGreater, greater}
 
 module _ (p : ℕ → Bool) where
   only-append : (A B : List ℕ) → only p (A ++ B) ≡ only p A ++ only p B

@@ -10,7 +10,7 @@ use Rattle.tree.proofs.Cases.{compare}
 use Rattle.tree_edit.specs.Rounds.{Next, done, again, goOn}
 use Rattle.tree_edit.proofs.Links.{on-slot, on-none}
 use Rattle.tree_in_laws.specs.Descent.{goesLeft, descend}
-use Rattle.tree_in_laws.specs.Mend.{mendStep, mend}
+use Rattle.tree_in_laws.specs.InsertRepair.{insertRound, insertRepair}
 use Rattle.tree_in_laws.proofs.Ways.{no-link}
 
 -- the way down, where it ended at a slot with nothing on the side to go to
@@ -31,14 +31,14 @@ abbrev pub Ended : Next → Type 0
 Ended (done W C r) = Unit {0}
 Ended (again W C r x) = ⊥
 
-pub mend-more : (n turns m : ℕ) (W C : List ℕ) (r x : ℕ) → turns ≤ m → Ended (mend n turns W C r x) → mend n m W C r x ≡ mend n turns W C r x
-unfolding mend
-mend-more n zero m W C r x h e = absurd e
-mend-more n (suc turns) zero W C r x h e = absurd (omega arith)
-mend-more n (suc turns) (suc m) W C r x h e = go (λ W C r x. mend-more n turns m W C r x (omega arith)) (mendStep n W C r x) e
+pub insertRepair-more : (n rounds m : ℕ) (W C : List ℕ) (r x : ℕ) → rounds ≤ m → Ended (insertRepair n rounds W C r x) → insertRepair n m W C r x ≡ insertRepair n rounds W C r x
+unfolding insertRepair
+insertRepair-more n zero m W C r x h e = absurd e
+insertRepair-more n (suc rounds) zero W C r x h e = absurd (omega arith)
+insertRepair-more n (suc rounds) (suc m) W C r x h e = go (λ W C r x. insertRepair-more n rounds m W C r x (omega arith)) (insertRound n W C r x) e
   where
-    go : ((W C : List ℕ) (r x : ℕ) → Ended (mend n turns W C r x) → mend n m W C r x ≡ mend n turns W C r x)
-        → (s : Next) → Ended (goOn s (λ X D q i. mend n turns X D q i))
-        → goOn s (λ X D q i. mend n m X D q i) ≡ goOn s (λ X D q i. mend n turns X D q i)
+    go : ((W C : List ℕ) (r x : ℕ) → Ended (insertRepair n rounds W C r x) → insertRepair n m W C r x ≡ insertRepair n rounds W C r x)
+        → (s : Next) → Ended (goOn s (λ X D q i. insertRepair n rounds X D q i))
+        → goOn s (λ X D q i. insertRepair n m X D q i) ≡ goOn s (λ X D q i. insertRepair n rounds X D q i)
     go rec (done W C r) e = refl
     go rec (again W C r x) e = rec W C r x e

@@ -8,13 +8,13 @@ use Rattle.words.specs.Nodes.{word, put, putEntry, putHull, joined, hullOf, alt
 use Rattle.words.specs.declared.node.Entry.{Entry}
 use Rattle.bitvec.specs.Bits.{bit, put as putBit, bitAt, setBit}
 use Rattle.tree_edit.specs.Links.{adopt, setChild, redirected, redirect, replaced, rootAfter, fixUp}
-use Rattle.tree_edit.specs.Rotations.{turn}
+use Rattle.tree_edit.specs.Rotations.{rotate}
 use Rattle.tree_edit.specs.Store.{Store, store}
 use Rattle.tree_edit.specs.Reach.{differs, changes, upHulls}
 use Rattle.tree_in_laws.specs.Descent.{goesLeft, descend, under}
-use Rattle.tree_in_laws.specs.Mend.{rotated, outer, inner, recoloured, mendAt, mendBelow, mendStep, mend}
-use Rattle.tree_in_laws.specs.Insert.{hungNode, hungWords, hungRoot, hung, mended, insertRule}
-use Rattle.tree_in_laws.specs.Reach.{rotatedHulls, outerHulls, innerHulls, mendAtHulls, mendBelowHulls, mendStepHulls, mendHulls, mendedHulls, insertHulls}
+use Rattle.tree_in_laws.specs.InsertRepair.{rotated, outer, inner, recoloured, insertRoundAt, insertRoundBelow, insertRound, insertRepair}
+use Rattle.tree_in_laws.specs.Insert.{hungNode, hungWords, hungRoot, hung, insertAt, insertRule}
+use Rattle.tree_in_laws.specs.Reach.{rotatedHulls, outerHulls, innerHulls, insertRoundAtHulls, insertRoundBelowHulls, insertRoundHulls, insertRepairHulls, insertAtHulls, insertHulls}
 
 -- what the rows compute with
 reading : Unit {0}
@@ -22,15 +22,15 @@ unfolding onLink word put putEntry putHull joined hullOf fix putNode bit putBit 
 reading = record {}
 
 linking : Unit {0}
-unfolding adopt setChild redirected redirect replaced rootAfter fixUp turn
+unfolding adopt setChild redirected redirect replaced rootAfter fixUp rotate
 linking = record {}
 
 inserting : Unit {0}
-unfolding goesLeft descend under rotated outer inner recoloured mendAt mendBelow mendStep mend hungNode hungWords hungRoot hung mended insertRule
+unfolding goesLeft descend under rotated outer inner recoloured insertRoundAt insertRoundBelow insertRound insertRepair hungNode hungWords hungRoot hung insertAt insertRule
 inserting = record {}
 
 reaching : Unit {0}
-unfolding altered differs upHulls rotatedHulls outerHulls innerHulls mendAtHulls mendBelowHulls mendStepHulls mendHulls mendedHulls insertHulls
+unfolding altered differs upHulls rotatedHulls outerHulls innerHulls insertRoundAtHulls insertRoundBelowHulls insertRoundHulls insertRepairHulls insertAtHulls insertHulls
 reaching = record {}
 
 abbrev entryOf : ℕ → ℕ → ℕ → Entry

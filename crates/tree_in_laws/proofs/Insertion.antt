@@ -12,7 +12,7 @@ use Rattle.words.specs.Ix.{U}
 use Rattle.words.specs.Nodes.{start, stop, interval, entry}
 use Rattle.words.specs.declared.interval.Interval.{Interval}
 use Rattle.words.specs.declared.node.Entry.{Entry}
-use Rattle.bitvec.specs.Colours.{red, dye}
+use Rattle.bitvec.specs.Colours.{red, paint}
 use Rattle.bitvec.proofs.Bytes.{length-setBit}
 use Rattle.tree.specs.Tree.{Tree, leaf, node, slots, hit, occ, size, height, Shape, times}
 use Rattle.tree.specs.Zipper.{Frame, frame, plug, occs, Above}
@@ -28,24 +28,24 @@ use Rattle.tree.proofs.Checked.{slot-live, slot-once, tree-size}
 use Rattle.tree_edit.specs.Links.{fixUp}
 use Rattle.tree_edit.specs.Rounds.{Next, done, again, ending}
 use Rattle.tree_edit.specs.Store.{Store}
-use Rattle.tree_edit.proofs.Walk.{fixUp-more, walk}
-use Rattle.tree_edit.proofs.Paint.{paint, paint-same, red-dye}
+use Rattle.tree_edit.proofs.Upward.{fixUp-more, hulls-upward}
+use Rattle.tree_edit.proofs.Colours.{withColour, withColour-same, red-paint}
 use Rattle.tree_edit.proofs.Fits.{plug-fits}
 use Rattle.tree_edit.proofs.Beside.{HullsBy, occs-parts, by-same, hulls-by}
 use Rattle.tree_edit.proofs.Rows.{map-same}
 use Rattle.tree_in_laws.specs.Descent.{under}
-use Rattle.tree_in_laws.specs.Mend.{mend}
-use Rattle.tree_in_laws.specs.Insert.{own, hungWords, hungRoot, hung, mended, insertRule}
-use Rattle.tree_in_laws.specs.Inserted.{notGreater, greater, Inserted, insertWith}
+use Rattle.tree_in_laws.specs.InsertRepair.{insertRepair}
+use Rattle.tree_in_laws.specs.Insert.{own, hungWords, hungRoot, hung, insertAt, insertRule}
+use Rattle.tree_in_laws.specs.InsertionGuarantee.{notGreater, greater, InsertionGuarantee, insertWith}
 use Rattle.tree_in_laws.proofs.Ways.{front, back, slots-way, front-le, back-gt}
 use Rattle.tree_in_laws.proofs.Between.{first-part, second-part, rising-between, upto-map, before-map}
-use Rattle.tree_in_laws.proofs.Enough.{Ended, mend-more}
+use Rattle.tree_in_laws.proofs.Enough.{Ended, insertRepair-more}
 use Rattle.tree_in_laws.proofs.Partly.{partly-hulls, partly-way}
-use Rattle.tree_in_laws.proofs.Reds.{Dark, reddened, paint-fits}
+use Rattle.tree_in_laws.proofs.Reds.{BlackRoot, reddened, withColour-fits}
 use Rattle.tree_in_laws.proofs.HungWords.{kept-hung}
 use Rattle.tree_in_laws.proofs.Hang.{Hung, hangs, under-more}
-use Rattle.tree_in_laws.proofs.Loop.{Held, Settled, rooted}
-use Rattle.tree_in_laws.proofs.Mends.{Finished, mends}
+use Rattle.tree_in_laws.proofs.Loop.{LoopInvariant, Settled, rooted}
+use Rattle.tree_in_laws.proofs.InsertRepaired.{Finished, insertRepaired}
 use Rattle.tree_in_laws.proofs.Inside.{entry-stays, entry-comes}
 
 -- what is left when the repair is at its end
@@ -66,7 +66,7 @@ module _ (n z : ℕ) (base W : List ℕ) (K : ℕ → Bool) (r : ℕ) (small : n
   short : (c : List Frame) (t : Tree) → u ≡ plug c t → length c ≤ 32
   short c t e =
       let s : size u ≤ n = size-le n u (λ a o. shape-live W n U r u a (h .shape) o) (h .once) in
-      let l : height u ≤ 32 = height-32 K u (h .hues) (h .top) (omega arith) in
+      let l : height u ≤ 32 = height-32 K u (h .redBlack) (h .top) (omega arith) in
       omega (arith, way-height c t, ap height e)
 
   -- the way from z up
@@ -102,7 +102,7 @@ module _ (n z : ℕ) (base W : List ℕ) (K : ℕ → Bool) (r : ℕ) (small : n
       let y : Way = way o in
       let one = y .one in
       let (g, p) = partly-way W z (y .q) (node (y .l) z (y .k)) one (omega (arith, hit-same z)) (rw (y .is) at (h .partly)) in
-      let i = walk 32 W n r (frame true z (y .k) ∷ y .q) z (y .link) (y .l) small (h .room) (short (frame true z (y .k) ∷ y .q) (y .l) (y .is))
+      let i = hulls-upward 32 W n r (frame true z (y .k) ∷ y .q) z (y .link) (y .l) small (h .room) (short (frame true z (y .k) ∷ y .q) (y .l) (y .is))
       (λ a. omega (arith, one a)) (y .above) (y .below)
       (partly-hulls W z (y .l) (p .1) (omega (arith, one z, hit-same z)))
       (partly-hulls W z (y .k) (p .2) (omega (arith, one z, hit-same z)), g) in
@@ -129,7 +129,7 @@ module _ (W C : List ℕ) (n r : ℕ) (e : Entry) (small : n + 1 ≤ 65535) (fit
   X = hungWords W n e p
 
   abbrev Y : List ℕ
-  Y = dye C n true
+  Y = paint C n true
 
   abbrev q : ℕ
   q = hungRoot n r p
@@ -138,7 +138,7 @@ module _ (W C : List ℕ) (n r : ℕ) (e : Entry) (small : n + 1 ≤ 65535) (fit
   live = slot-live W C n r h
 
   low : height t ≤ 30
-  low = height-30 (red C) t (h .hues) (h .top) (omega (arith, tree-size W C n r h))
+  low = height-30 (red C) t (h .redBlack) (h .top) (omega (arith, tree-size W C n r h))
 
   hang : Hung W n x t X q
   hang = hangs W n r e small fit t (h .shape) (slot-once W C n r h) (omega (arith, low)) (h .rising)
@@ -162,14 +162,14 @@ module _ (W C : List ℕ) (n r : ℕ) (e : Entry) (small : n + 1 ≤ 65535) (fit
   off : (a : ℕ) → 0 < occs a c → a ≢ n
   off a o = let l : a < n = live a (omega (arith, occs-are a)) in omega arith
 
-  colours : red Y ≡ paint (red C) n true
-  colours = red-dye C n true (omega arith)
+  colours : red Y ≡ withColour (red C) n true
+  colours = red-paint C n true (omega arith)
 
-  held : Held (n + 1) n base X (red Y) q n (hang .p) c new 0
-  held =
-      let f = plug-fits (red C) c leaf (rw (hang .tree-is) at (h .hues)) (rw (hang .tree-is) at (h .top)) .0 in
+  invariant : LoopInvariant (n + 1) n base X (red Y) q n (hang .p) c new 0
+  invariant =
+      let f = plug-fits (red C) c leaf (rw (hang .tree-is) at (h .redBlack)) (rw (hang .tree-is) at (h .top)) .0 in
       let g : HullsBy W c = hulls-by W c leaf (rw (hang .tree-is) at (h .hulls)) .0 in
-      let k : red Y n ≡ true = rw colours (paint-same (red C) n true) in
+      let k : red Y n ≡ true = rw colours (withColour-same (red C) n true) in
       record {
         placed = record {
           stand = hang .stand;
@@ -180,23 +180,23 @@ module _ (W C : List ℕ) (n r : ℕ) (e : Entry) (small : n + 1 ≤ 65535) (fit
         };
         root = rooted true leaf n leaf;
         red = k;
-        even = reddened (red Y) 0 true leaf n leaf k bare bare;
-        fits = rw colours (paint-fits (red C) n true c 0 false not-yet f);
+        equalBlacks = reddened (red Y) 0 true leaf n leaf k bare bare;
+        fits = rw colours (withColour-fits (red C) n true c 0 false not-yet f);
       }
     where
-      bare : Dark (red (dye C n true)) 0 leaf
-      bare = record { even = record { hues = tt; count = refl }; black = refl }
+      bare : BlackRoot (red (paint C n true)) 0 leaf
+      bare = record { equalBlacks = record { redBlack = tt; count = refl }; black = refl }
 
   short-way : length c < 32
   short-way = omega (arith, low, way-height c leaf, ap height (hang .tree-is))
 
   abbrev end : Next
-  end = mend (n + 1) 32 X Y q n
+  end = insertRepair (n + 1) 32 X Y q n
 
   finished : Finished (n + 1) n base end
   finished =
-      mends 32 (n + 1) n base X Y q n (rw length-setBit bits)
-      (record { c = c; t = new; m = 0; p = hang .p; held = held; short = short-way })
+      insertRepaired 32 (n + 1) n base X Y q n (rw length-setBit bits)
+      (record { c = c; t = new; m = 0; p = hang .p; invariant = invariant; short = short-way })
 
   settled : Settled (n + 1) n base (ending end .words) (red (ending end .colours)) (ending end .root)
   settled = settled-of (n + 1) n base end finished
@@ -271,7 +271,7 @@ module _ (W C : List ℕ) (n r : ℕ) (e : Entry) (small : n + 1 ≤ 65535) (fit
   there = omega (arith, once n (omega arith))
 
   passes : Passes (S .words) (S .colours) (n + 1) (S .root)
-  unfolding insertRule mended hung
+  unfolding insertRule insertAt hung
   passes =
       let (u, s) = walked (n + 1) n base (ending end .words) (red (ending end .colours)) (ending end .root) small settled there in
       record {
@@ -282,10 +282,10 @@ module _ (W C : List ℕ) (n r : ℕ) (e : Entry) (small : n + 1 ≤ 65535) (fit
         rising = rising;
         hulls = u;
         top = settled .top;
-        hues = settled .hues;
+        redBlack = settled .redBlack;
       }
 
-  pub inserted : Inserted W C n r e h (insertRule W C n r e)
+  pub inserted : InsertionGuarantee W C n r e h (insertRule W C n r e)
   unfolding passes
   inserted =
       record {
@@ -299,11 +299,11 @@ module _ (W C : List ℕ) (n r : ℕ) (e : Entry) (small : n + 1 ≤ 65535) (fit
       }
 
   -- the rule's numbers suffice: any greater ones come to the same
-  pub enough : (levels turns height : ℕ) → 32 ≤ levels → 32 ≤ turns → 32 ≤ height → insertWith levels turns height W C n r e ≡ insertRule W C n r e
-  unfolding insertWith insertRule mended hung
-  enough levels turns height i j k =
+  pub enough : (levels rounds height : ℕ) → 32 ≤ levels → 32 ≤ rounds → 32 ≤ height → insertWith levels rounds height W C n r e ≡ insertRule W C n r e
+  unfolding insertWith insertRule insertAt hung
+  enough levels rounds height i j k =
       rw (
         under-more W n r e small fit t (h .shape) (omega (arith, low)) (h .rising) levels i,
-        mend-more (n + 1) 32 turns X Y q n j (ended-of (n + 1) n base end finished),
+        insertRepair-more (n + 1) 32 rounds X Y q n j (ended-of (n + 1) n base end finished),
         walk-more (n + 1) n base (ending end .words) (red (ending end .colours)) (ending end .root) small settled there height k,
       ) refl

@@ -11,25 +11,25 @@ use Rattle.words.specs.Ix.{U}
 use Rattle.words.specs.Nodes.{kid, par, entry, fix}
 use Rattle.words.specs.declared.node.Entry.{Entry}
 use Rattle.words.specs.declared.node.Field.the-variants.{Child}
-use Rattle.bitvec.specs.Colours.{red, dye, redAt}
-use Rattle.tree_edit.specs.Rotations.{turn}
+use Rattle.bitvec.specs.Colours.{red, paint, redAt}
+use Rattle.tree_edit.specs.Rotations.{rotate}
 use Rattle.tree_edit.specs.Rounds.{Next, done, again, goOn, ending}
 use Rattle.tree_edit.specs.Store.{Store, store}
 use Rattle.tree_edit.specs.Inside.{Inside}
 use Rattle.tree_edit.proofs.Carried.{kept-entry}
-use Rattle.tree_edit.proofs.Links.{by-link, kept-turn}
-use Rattle.tree_edit.proofs.Walk.{entry-fix, entry-fixUp}
-use Rattle.tree_edit.proofs.Low.{Low, low-trans, low-three, low-put, low-putNode, low-fix, low-fixUp, low-turn, dyed, dyed-refl}
-use Rattle.tree_edit.proofs.InPlace.{Mended, mended-refl}
-use Rattle.tree_edit.proofs.Paint.{red-slot}
+use Rattle.tree_edit.proofs.Links.{by-link, kept-rotate}
+use Rattle.tree_edit.proofs.Upward.{entry-fix, entry-fixUp}
+use Rattle.tree_edit.proofs.Low.{Low, low-trans, low-three, low-put, low-putNode, low-fix, low-fixUp, low-rotate, low-paint, lowColours-refl}
+use Rattle.tree_edit.proofs.InPlace.{InPlace, in-place-refl}
+use Rattle.tree_edit.proofs.Colours.{red-slot}
 use Rattle.tree_in_laws.specs.Descent.{goesLeft, under}
-use Rattle.tree_in_laws.specs.Mend.{rotated, outer, inner, recoloured, mendAt, mendBelow, mendStep, mend}
-use Rattle.tree_in_laws.specs.Insert.{own, hungNode, hungWords, hung, mended, insertRule}
+use Rattle.tree_in_laws.specs.InsertRepair.{rotated, outer, inner, recoloured, insertRoundAt, insertRoundBelow, insertRound, insertRepair}
+use Rattle.tree_in_laws.specs.Insert.{own, hungNode, hungWords, hung, insertAt, insertRule}
 use Rattle.tree_in_laws.proofs.HungWords.{by-hung, kept-hung, entry-hung}
 
 module _ (n : ℕ) where
   -- one after the other
-  steady-trans : (W C : List ℕ) (S T : Store) → Mended n W C S → Mended n (S .words) (S .colours) T → Mended n W C T
+  steady-trans : (W C : List ℕ) (S T : Store) → InPlace n W C S → InPlace n (S .words) (S .colours) T → InPlace n W C T
   steady-trans W C S T f g =
       record {
         words-in = low-trans n W (S .words) (T .words) (f .words-in) (g .words-in);
@@ -38,39 +38,39 @@ module _ (n : ℕ) where
       }
 
   -- words rotated at P, and nothing dyed
-  steady-rotated : (W C : List ℕ) (r : ℕ) (b : Bool) (P S : ℕ) → P < n → S < n → Mended n W C (store (rotated n W b P S) C r)
+  steady-rotated : (W C : List ℕ) (r : ℕ) (b : Bool) (P S : ℕ) → P < n → S < n → InPlace n W C (store (rotated n W b P S) C r)
   unfolding rotated
   steady-rotated W C r b P S lp ls =
-      let X : List ℕ = turn n W b P S in
+      let X : List ℕ = rotate n W b P S in
       record {
-        words-in = low-three n W X _ _ (low-turn n W b P S lp ls) (low-fix n X P lp) (low-fix n (fix n X P) S ls);
-        colours-in = dyed-refl n C;
-        entries = λ a. entry-fix n (fix n X P) S a ∙ entry-fix n X P a ∙ kept-entry W X a (kept-turn n W b P S a);
+        words-in = low-three n W X _ _ (low-rotate n W b P S lp ls) (low-fix n X P lp) (low-fix n (fix n X P) S ls);
+        colours-in = lowColours-refl n C;
+        entries = λ a. entry-fix n (fix n X P) S a ∙ entry-fix n X P a ∙ kept-entry W X a (kept-rotate n W b P S a);
       }
 
-  steady-dye : (W C D : List ℕ) (r q s : ℕ) (v : Bool) → s < n → Mended n W C (store W D r) → Mended n W C (store W (dye D s v) q)
-  steady-dye W C D r q s v h m = record { words-in = m .words-in; colours-in = dyed n C D s v h (m .colours-in); entries = m .entries }
+  steady-paint : (W C D : List ℕ) (r q s : ℕ) (v : Bool) → s < n → InPlace n W C (store W D r) → InPlace n W C (store W (paint D s v) q)
+  steady-paint W C D r q s v h m = record { words-in = m .words-in; colours-in = low-paint n C D s v h (m .colours-in); entries = m .entries }
 
-  steady-two : (W C : List ℕ) (r s a : ℕ) (v w : Bool) → s < n → a < n → Mended n W C (store W (dye (dye C s v) a w) r)
-  steady-two W C r s a v w p q = steady-dye W C (dye C s v) r r a w q (steady-dye W C C r r s v p (mended-refl n W C r))
+  steady-two : (W C : List ℕ) (r s a : ℕ) (v w : Bool) → s < n → a < n → InPlace n W C (store W (paint (paint C s v) a w) r)
+  steady-two W C r s a v w p q = steady-paint W C (paint C s v) r r a w q (steady-paint W C C r r s v p (in-place-refl n W C r))
 
-  steady-outer : (W C : List ℕ) (r : ℕ) (b : Bool) (P G : ℕ) → P < n → G < n → Mended n W C (ending (outer n W C r b P G))
+  steady-outer : (W C : List ℕ) (r : ℕ) (b : Bool) (P G : ℕ) → P < n → G < n → InPlace n W C (ending (outer n W C r b P G))
   unfolding outer
   steady-outer W C r b P G lp lg =
       steady-trans W C (store (rotated n W (not b) G P) C r) _ (steady-rotated W C r (not b) G P lg lp) (steady-two _ C _ P G false true lp lg)
 
-  steady-inner : (W C : List ℕ) (r x : ℕ) (b : Bool) (P G : ℕ) → x < n → P < n → G < n → Mended n W C (ending (inner n W C r x b P G))
+  steady-inner : (W C : List ℕ) (r x : ℕ) (b : Bool) (P G : ℕ) → x < n → P < n → G < n → InPlace n W C (ending (inner n W C r x b P G))
   unfolding inner
   steady-inner W C r x b P G lx lp lg =
       steady-trans W C (store (rotated n W b P x) C r) _ (steady-rotated W C r b P x lp lx) (steady-outer (rotated n W b P x) C r b x G lx lg)
 
   -- a step, and where the loop goes on
   abbrev Steady : List ℕ → List ℕ → Next → Type 0
-  Steady W C (done X D q) = Mended n W C (store X D q)
-  Steady W C (again X D q x) = Mended n W C (store X D q) × (x < n)
+  Steady W C (done X D q) = InPlace n W C (store X D q)
+  Steady W C (again X D q x) = InPlace n W C (store X D q) × (x < n)
 
-  steady-at : (W C : List ℕ) (r x P G : ℕ) (b : Bool) → x < n → P < n → G < n → Steady W C (mendAt n W C r x P G b)
-  unfolding mendAt recoloured outer inner
+  steady-at : (W C : List ℕ) (r x P G : ℕ) (b : Bool) → x < n → P < n → G < n → Steady W C (insertRoundAt n W C r x P G b)
+  unfolding insertRoundAt recoloured outer inner
   steady-at W C r x P G b lx lp lg = go (redAt n C (kid W (not b) G)) refl (eqb (kid W (not b) P) x)
     where
       u : ℕ
@@ -78,33 +78,33 @@ module _ (n : ℕ) where
 
       go : (k : Bool) → redAt n C u ≡ k → (i : Bool)
           → Steady W C (cond k (recoloured W C r P u G) (cond i (inner n W C r x b P G) (outer n W C r b P G)))
-      go true e i = (steady-dye W C _ r r G true lg (steady-two W C r P u false false lp (red-slot n C u e)), lg)
+      go true e i = (steady-paint W C _ r r G true lg (steady-two W C r P u false false lp (red-slot n C u e)), lg)
       go false e true = steady-inner W C r x b P G lx lp lg
       go false e false = steady-outer W C r b P G lp lg
 
-  steady-step : (W C : List ℕ) (r x : ℕ) → x < n → Steady W C (mendStep n W C r x)
-  unfolding mendStep mendBelow
-  steady-step W C r x lx =
-      by-link n (par W x) (λ s. Steady W C s) (λ P. cond (red C P) (mendBelow n W C r x P) (done W C r)) (done W (dye C x false) r)
+  steady-round : (W C : List ℕ) (r x : ℕ) → x < n → Steady W C (insertRound n W C r x)
+  unfolding insertRound insertRoundBelow
+  steady-round W C r x lx =
+      by-link n (par W x) (λ s. Steady W C s) (λ P. cond (red C P) (insertRoundBelow n W C r x P) (done W C r)) (done W (paint C x false) r)
       (λ lp. go (par W x) lp (red C (par W x)))
-      (λ u. steady-dye W C C r r x false lx (mended-refl n W C r))
+      (λ u. steady-paint W C C r r x false lx (in-place-refl n W C r))
     where
-      go : (P : ℕ) → P < n → (k : Bool) → Steady W C (cond k (mendBelow n W C r x P) (done W C r))
+      go : (P : ℕ) → P < n → (k : Bool) → Steady W C (cond k (insertRoundBelow n W C r x P) (done W C r))
       go P lp true =
-          by-link n (par W P) (λ s. Steady W C s) (λ G. mendAt n W C r x P G (eqb (kid W true G) P)) (done W C r)
+          by-link n (par W P) (λ s. Steady W C s) (λ G. insertRoundAt n W C r x P G (eqb (kid W true G) P)) (done W C r)
           (λ lg. steady-at W C r x P (par W P) (eqb (kid W true (par W P)) P) lx lp lg)
-          (λ u. mended-refl n W C r)
-      go P lp false = mended-refl n W C r
+          (λ u. in-place-refl n W C r)
+      go P lp false = in-place-refl n W C r
 
-  steady : (turns : ℕ) (W C : List ℕ) (r x : ℕ) → x < n → Mended n W C (ending (mend n turns W C r x))
-  unfolding mend
-  steady zero W C r x lx = mended-refl n W C r
-  steady (suc turns) W C r x lx = go (steady turns) (mendStep n W C r x) (steady-step W C r x lx)
+  steady : (rounds : ℕ) (W C : List ℕ) (r x : ℕ) → x < n → InPlace n W C (ending (insertRepair n rounds W C r x))
+  unfolding insertRepair
+  steady zero W C r x lx = in-place-refl n W C r
+  steady (suc rounds) W C r x lx = go (steady rounds) (insertRound n W C r x) (steady-round W C r x lx)
     where
-      go : ((X D : List ℕ) (q i : ℕ) → i < n → Mended n X D (ending (mend n turns X D q i))) → (s : Next) → Steady W C s
-          → Mended n W C (ending (goOn s (λ X D q i. mend n turns X D q i)))
+      go : ((X D : List ℕ) (q i : ℕ) → i < n → InPlace n X D (ending (insertRepair n rounds X D q i))) → (s : Next) → Steady W C s
+          → InPlace n W C (ending (goOn s (λ X D q i. insertRepair n rounds X D q i)))
       go rec (done X D q) m = m
-      go rec (again X D q i) m = steady-trans W C (store X D q) (ending (mend n turns X D q i)) (m .0) (rec X D q i (m .1))
+      go rec (again X D q i) m = steady-trans W C (store X D q) (ending (insertRepair n rounds X D q i)) (m .0) (rec X D q i (m .1))
 
 -- the whole of it, where p is the slot to hang under
 module _ (W C : List ℕ) (n r : ℕ) (e : Entry) where
@@ -115,7 +115,7 @@ module _ (W C : List ℕ) (n r : ℕ) (e : Entry) where
   X = hungWords W n e p
 
   abbrev S : Store
-  S = ending (mend (n + 1) 32 X (dye C n true) (hung W C n r e p .root) n)
+  S = ending (insertRepair (n + 1) 32 X (paint C n true) (hung W C n r e p .root) n)
 
   low-hung : Low (n + 1) W X
   unfolding hungNode
@@ -124,16 +124,16 @@ module _ (W C : List ℕ) (n r : ℕ) (e : Entry) where
       by-hung W n e p (λ Y. Low (n + 1) W Y)
       (λ h. low-trans (n + 1) W (hungNode W n e p) _ z (low-put (n + 1) _ (Child (goesLeft W (own e) p)) p n (omega arith))) z
 
-  repaired : Mended (n + 1) X (dye C n true) S
-  repaired = steady (n + 1) 32 X (dye C n true) _ n (omega arith)
+  repaired : InPlace (n + 1) X (paint C n true) S
+  repaired = steady (n + 1) 32 X (paint C n true) _ n (omega arith)
 
   -- lengths stay, and what lies above the new slot
   pub inserted-inside : Inside (n + 1) W C (insertRule W C n r e)
-  unfolding insertRule mended hung
+  unfolding insertRule insertAt hung
   inserted-inside =
       let l : Low (n + 1) W (insertRule W C n r e .words) =
       low-three (n + 1) W X (S .words) _ low-hung (repaired .words-in) (low-fixUp (n + 1) 32 (S .words) n) in
-      let d = dyed (n + 1) C C n true (omega arith) (dyed-refl (n + 1) C) in
+      let d = low-paint (n + 1) C C n true (omega arith) (lowColours-refl (n + 1) C) in
       record {
         words-length = l .0;
         colours-length = repaired .colours-in .0 ∙ d .0;
@@ -142,7 +142,7 @@ module _ (W C : List ℕ) (n r : ℕ) (e : Entry) where
       }
 
   entries-are : (a : ℕ) → entry (insertRule W C n r e .words) a ≡ entry X a
-  unfolding insertRule mended hung
+  unfolding insertRule insertAt hung
   entries-are a = entry-fixUp (n + 1) 32 (S .words) n a ∙ repaired .entries a
 
   -- "no old slot moves", and the new entry is in slot n

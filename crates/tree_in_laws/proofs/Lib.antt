@@ -5,7 +5,7 @@ pub mod Partly
 pub mod Rotate
 pub mod Reds
 pub mod Loop
-pub mod Mends
+pub mod InsertRepaired
 pub mod Enough
 pub mod HungWords
 pub mod Hang

@@ -14,7 +14,7 @@ use Rattle.tree.proofs.Slots.{hit-same, apart, occ-bin}
 use Rattle.tree.proofs.Frames.{open-bin, keep}
 use Rattle.tree_edit.proofs.Carried.{Kept}
 use Rattle.tree_edit.proofs.Beside.{HullsBy, hulls-same}
-use Rattle.tree_edit.proofs.Walk.{same-fix, fix-bin}
+use Rattle.tree_edit.proofs.Upward.{same-fix, fix-bin}
 
 abbrev pub Partly : List ℕ → ℕ → Tree → Type 0
 Partly W z leaf = Unit {0}
@@ -83,8 +83,8 @@ module _ (X : List ℕ) (n z p k : ℕ) (b : Bool) (P S : ℕ) (t C D : Tree) (s
   no-S : occ S (bin b t P C) ≡ 0
   no-S = omega (arith, occ-bin S b t P C, one S, hit-same S)
 
-  pub partly-turned : Partly X z t → Partly X z C → Partly X z D → Partly (fix n Y S) z (bin b (bin b t P C) S D)
-  partly-turned pt pc pd =
+  pub partly-rotated : Partly X z t → Partly X z C → Partly X z D → Partly (fix n Y S) z (bin b (bin b t P C) S D)
+  partly-rotated pt pc pd =
       let yt : Partly Y z t = partly-fix n X z P t (no-P t (λ a. omega arith)) pt in
       let yc : Partly Y z C = partly-fix n X z P C (no-P C (λ a. omega arith)) pc in
       let yd : Partly Y z D = partly-fix n X z P D (no-P D (λ a. omega arith)) pd in

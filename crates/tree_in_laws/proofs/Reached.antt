@@ -12,26 +12,26 @@ use Rattle.words.specs.Nodes.{kid, par, hull, putKid}
 use Rattle.words.specs.declared.node.Field.the-variants.{Child}
 use Rattle.words.proofs.Nodes.{word-put-field, inLinks, hull-putNode}
 use Rattle.words.specs.declared.node.Entry.{Entry}
-use Rattle.bitvec.specs.Colours.{red, redAt, dye}
-use Rattle.tree_edit.specs.Rotations.{turn}
+use Rattle.bitvec.specs.Colours.{red, redAt, paint}
+use Rattle.tree_edit.specs.Rotations.{rotate}
 use Rattle.tree_edit.specs.Rounds.{Next, done, again, goOn, ending}
 use Rattle.tree_edit.specs.Store.{Store}
 use Rattle.tree_edit.specs.Reach.{changes, onward, upHulls, Follows}
-use Rattle.tree_edit.proofs.Links.{by-link, kept-turn}
+use Rattle.tree_edit.proofs.Links.{by-link, kept-rotate}
 use Rattle.tree_edit.proofs.Reached.{kept-hull, kept-stays, then, follows-up, changes-append, changes-le}
 use Rattle.tree_in_laws.specs.Descent.{goesLeft, under}
-use Rattle.tree_in_laws.specs.Mend.{rotated, outer, inner, recoloured, mendAt, mendBelow, mendStep, mend}
-use Rattle.tree_in_laws.specs.Insert.{own, hungNode, hungWords, hungRoot, hung, mended, insertRule}
+use Rattle.tree_in_laws.specs.InsertRepair.{rotated, outer, inner, recoloured, insertRoundAt, insertRoundBelow, insertRound, insertRepair}
+use Rattle.tree_in_laws.specs.Insert.{own, hungNode, hungWords, hungRoot, hung, insertAt, insertRule}
 use Rattle.tree_in_laws.proofs.HungWords.{by-hung, kept-hung}
-use Rattle.tree_in_laws.specs.Reach.{rotatedHulls, outerHulls, innerHulls, mendAtHulls, mendBelowHulls, mendStepHulls, mendHulls, mendedHulls, insertHulls}
+use Rattle.tree_in_laws.specs.Reach.{rotatedHulls, outerHulls, innerHulls, insertRoundAtHulls, insertRoundBelowHulls, insertRoundHulls, insertRepairHulls, insertAtHulls, insertHulls}
 
 module _ (n : ℕ) where
   follows-rotated : (W : List ℕ) (b : Bool) (P S : ℕ) → Follows n W (rotatedHulls n W b P S) (rotated n W b P S)
   unfolding rotatedHulls rotated
-  follows-rotated W b P S = (kept-stays W (turn n W b P S) (kept-turn n W b P S), (λ a. refl, λ a. refl))
+  follows-rotated W b P S = (kept-stays W (rotate n W b P S) (kept-rotate n W b P S), (λ a. refl, λ a. refl))
 
-  follows-at : (W C : List ℕ) (r x P G : ℕ) (b : Bool) → Follows n W (mendAtHulls n W C x P G b) (ending (mendAt n W C r x P G b) .words)
-  unfolding mendAtHulls innerHulls outerHulls mendAt recoloured inner outer
+  follows-at : (W C : List ℕ) (r x P G : ℕ) (b : Bool) → Follows n W (insertRoundAtHulls n W C x P G b) (ending (insertRoundAt n W C r x P G b) .words)
+  unfolding insertRoundAtHulls innerHulls outerHulls insertRoundAt recoloured inner outer
   follows-at W C r x P G b = go (redAt n C (kid W (not b) G)) (eqb (kid W (not b) P) x)
     where
       go : (i j : Bool)
@@ -43,31 +43,31 @@ module _ (n : ℕ) where
           (follows-rotated W b P x) (follows-rotated (rotated n W b P x) (not b) G x)
       go false false = follows-rotated W (not b) G P
 
-  follows-step : (W C : List ℕ) (r x : ℕ) → Follows n W (mendStepHulls n W C x) (ending (mendStep n W C r x) .words)
-  unfolding mendStepHulls mendBelowHulls mendStep mendBelow onLink
-  follows-step W C r x = go (leb n (par W x)) (red C (par W x)) (leb n (par W (par W x)))
+  follows-round : (W C : List ℕ) (r x : ℕ) → Follows n W (insertRoundHulls n W C x) (ending (insertRound n W C r x) .words)
+  unfolding insertRoundHulls insertRoundBelowHulls insertRound insertRoundBelow onLink
+  follows-round W C r x = go (leb n (par W x)) (red C (par W x)) (leb n (par W (par W x)))
     where
       P : ℕ
       P = par W x
 
       go : (i j k : Bool)
-          → Follows n W (cond i [] (cond j (cond k [] (mendAtHulls n W C x P (par W P) (eqb (kid W true (par W P)) P))) []))
-          (ending (cond i (done W (dye C x false) r) (cond j (cond k (done W C r) (mendAt n W C r x P (par W P) (eqb (kid W true (par W P)) P))) (done W C r))) .words)
+          → Follows n W (cond i [] (cond j (cond k [] (insertRoundAtHulls n W C x P (par W P) (eqb (kid W true (par W P)) P))) []))
+          (ending (cond i (done W (paint C x false) r) (cond j (cond k (done W C r) (insertRoundAt n W C r x P (par W P) (eqb (kid W true (par W P)) P))) (done W C r))) .words)
       go true j k = λ a. refl
       go false false k = λ a. refl
       go false true true = λ a. refl
       go false true false = follows-at W C r x P (par W P) (eqb (kid W true (par W P)) P)
 
-  follows-mend : (turns : ℕ) (W C : List ℕ) (r x : ℕ) → Follows n W (mendHulls n turns W C r x) (ending (mend n turns W C r x) .words)
-  unfolding mendHulls mend
-  follows-mend zero W C r x = λ a. refl
-  follows-mend (suc turns) W C r x = go (follows-mend turns) (mendStep n W C r x) (follows-step W C r x)
+  follows-insertRepair : (rounds : ℕ) (W C : List ℕ) (r x : ℕ) → Follows n W (insertRepairHulls n rounds W C r x) (ending (insertRepair n rounds W C r x) .words)
+  unfolding insertRepairHulls insertRepair
+  follows-insertRepair zero W C r x = λ a. refl
+  follows-insertRepair (suc rounds) W C r x = go (follows-insertRepair rounds) (insertRound n W C r x) (follows-round W C r x)
     where
-      go : ((X D : List ℕ) (q i : ℕ) → Follows n X (mendHulls n turns X D q i) (ending (mend n turns X D q i) .words)) → (s : Next)
-          → Follows n W (mendStepHulls n W C x) (ending s .words)
-          → Follows n W (mendStepHulls n W C x ++ onward s (λ X D q i. mendHulls n turns X D q i)) (ending (goOn s (λ X D q i. mend n turns X D q i)) .words)
-      go rec (done X D q) f = then n W X (mendStepHulls n W C x) [] X f (λ a. refl)
-      go rec (again X D q i) f = then n W X (mendStepHulls n W C x) (mendHulls n turns X D q i) (ending (mend n turns X D q i) .words) f (rec X D q i)
+      go : ((X D : List ℕ) (q i : ℕ) → Follows n X (insertRepairHulls n rounds X D q i) (ending (insertRepair n rounds X D q i) .words)) → (s : Next)
+          → Follows n W (insertRoundHulls n W C x) (ending s .words)
+          → Follows n W (insertRoundHulls n W C x ++ onward s (λ X D q i. insertRepairHulls n rounds X D q i)) (ending (goOn s (λ X D q i. insertRepair n rounds X D q i)) .words)
+      go rec (done X D q) f = then n W X (insertRoundHulls n W C x) [] X f (λ a. refl)
+      go rec (again X D q i) f = then n W X (insertRoundHulls n W C x) (insertRepairHulls n rounds X D q i) (ending (insertRepair n rounds X D q i) .words) f (rec X D q i)
 
 -- hanging the new node leaves every old hull
 pub hung-stays : (W : List ℕ) (n : ℕ) (e : Entry) (p a : ℕ) → a ≢ n → hull (hungWords W n e p) a ≡ hull W a
@@ -85,46 +85,46 @@ hung-own W n e p fit =
 -- on any words: from the new node on, the hulls that are worked out are all that change
 pub reached : (W C : List ℕ) (n r : ℕ) (e : Entry)
     → Follows (n + 1) (hungWords W n e (under n W r (own e))) (insertHulls W C n r e) (insertRule W C n r e .words)
-unfolding insertHulls mendedHulls insertRule mended hung
+unfolding insertHulls insertAtHulls insertRule insertAt hung
 reached W C n r e =
     let p : ℕ = under n W r (own e) in
     let X : List ℕ = hungWords W n e p in
-    let t : Store = ending (mend (n + 1) 32 X (dye C n true) (hungRoot n r p) n) in
-    then (n + 1) X (t .words) (mendHulls (n + 1) 32 X (dye C n true) (hungRoot n r p) n) (upHulls (n + 1) 32 (t .words) n) (insertRule W C n r e .words)
-    (follows-mend (n + 1) 32 X (dye C n true) (hungRoot n r p) n) (follows-up (n + 1) 32 (t .words) n)
+    let t : Store = ending (insertRepair (n + 1) 32 X (paint C n true) (hungRoot n r p) n) in
+    then (n + 1) X (t .words) (insertRepairHulls (n + 1) 32 X (paint C n true) (hungRoot n r p) n) (upHulls (n + 1) 32 (t .words) n) (insertRule W C n r e .words)
+    (follows-insertRepair (n + 1) 32 X (paint C n true) (hungRoot n r p) n) (follows-up (n + 1) 32 (t .words) n)
 
 -- how much it can be, on any words: a turn works out four hulls at the most
 module _ (n : ℕ) where
-  pub mend-turn-le : (W C : List ℕ) (x : ℕ) → changes n (mendStepHulls n W C x) ≤ 4
-  unfolding mendStepHulls mendBelowHulls mendAtHulls innerHulls outerHulls rotatedHulls
-  mend-turn-le W C x = omega (arith, changes-le n (mendStepHulls n W C x), few)
+  pub insertRound-le : (W C : List ℕ) (x : ℕ) → changes n (insertRoundHulls n W C x) ≤ 4
+  unfolding insertRoundHulls insertRoundBelowHulls insertRoundAtHulls innerHulls outerHulls rotatedHulls
+  insertRound-le W C x = omega (arith, changes-le n (insertRoundHulls n W C x), few)
     where
       at : (P G : ℕ) (b i j : Bool) → length (cond i [] (cond j (innerHulls n W x b P G) (outerHulls n W b P G))) ≤ 4
       at P G b true j = omega arith
       at P G b false true = omega arith
       at P G b false false = omega arith
 
-      below : (P : ℕ) (t : Bool) → length (cond t (mendBelowHulls n W C x P) []) ≤ 4
+      below : (P : ℕ) (t : Bool) → length (cond t (insertRoundBelowHulls n W C x P) []) ≤ 4
       below P true =
-          by-link n (par W P) (λ l. length l ≤ 4) (λ G. mendAtHulls n W C x P G (eqb (kid W true G) P)) []
+          by-link n (par W P) (λ l. length l ≤ 4) (λ G. insertRoundAtHulls n W C x P G (eqb (kid W true G) P)) []
           (λ h. at P (par W P) (eqb (kid W true (par W P)) P) (redAt n C (kid W (not (eqb (kid W true (par W P)) P)) (par W P)))
           (eqb (kid W (not (eqb (kid W true (par W P)) P)) P) x))
           (λ h. omega arith)
       below P false = omega arith
 
-      few : length (mendStepHulls n W C x) ≤ 4
+      few : length (insertRoundHulls n W C x) ≤ 4
       few =
-          by-link n (par W x) (λ l. length l ≤ 4) (λ P. cond (red C P) (mendBelowHulls n W C x P) []) []
+          by-link n (par W x) (λ l. length l ≤ 4) (λ P. cond (red C P) (insertRoundBelowHulls n W C x P) []) []
           (λ h. below (par W x) (red C (par W x))) (λ h. omega arith)
 
-  pub mend-most : (turns : ℕ) (W C : List ℕ) (r x : ℕ) → changes n (mendHulls n turns W C r x) ≤ turns * 4
-  unfolding mendHulls
-  mend-most zero W C r x = omega arith
-  mend-most (suc turns) W C r x =
-      rw (changes-append n (mendStepHulls n W C x) (onward (mendStep n W C r x) (λ X D q i. mendHulls n turns X D q i)))
-      (go (mend-most turns) (mendStep n W C r x))
+  pub insertRepair-most : (rounds : ℕ) (W C : List ℕ) (r x : ℕ) → changes n (insertRepairHulls n rounds W C r x) ≤ rounds * 4
+  unfolding insertRepairHulls
+  insertRepair-most zero W C r x = omega arith
+  insertRepair-most (suc rounds) W C r x =
+      rw (changes-append n (insertRoundHulls n W C x) (onward (insertRound n W C r x) (λ X D q i. insertRepairHulls n rounds X D q i)))
+      (go (insertRepair-most rounds) (insertRound n W C r x))
     where
-      go : ((X D : List ℕ) (q i : ℕ) → changes n (mendHulls n turns X D q i) ≤ turns * 4) → (s : Next)
-          → changes n (mendStepHulls n W C x) + changes n (onward s (λ X D q i. mendHulls n turns X D q i)) ≤ suc turns * 4
-      go rec (done X D q) = omega (arith, mend-turn-le W C x)
-      go rec (again X D q i) = omega (arith, mend-turn-le W C x, rec X D q i)
+      go : ((X D : List ℕ) (q i : ℕ) → changes n (insertRepairHulls n rounds X D q i) ≤ rounds * 4) → (s : Next)
+          → changes n (insertRoundHulls n W C x) + changes n (onward s (λ X D q i. insertRepairHulls n rounds X D q i)) ≤ suc rounds * 4
+      go rec (done X D q) = omega (arith, insertRound-le W C x)
+      go rec (again X D q i) = omega (arith, insertRound-le W C x, rec X D q i)

@@ -6,12 +6,12 @@ use Rattle.words.specs.Ix.{U, onLink}
 use Rattle.words.specs.Nodes.{putKid, putNode}
 use Rattle.words.specs.declared.interval.Interval.{Interval}
 use Rattle.words.specs.declared.node.Entry.{Entry}
-use Rattle.bitvec.specs.Colours.{dye}
+use Rattle.bitvec.specs.Colours.{paint}
 use Rattle.tree_edit.specs.Links.{fixUp}
 use Rattle.tree_edit.specs.Store.{Store, store}
 use Rattle.tree_edit.specs.Rounds.{ending}
 use Rattle.tree_in_laws.specs.Descent.{goesLeft, under}
-use Rattle.tree_in_laws.specs.Mend.{mend}
+use Rattle.tree_in_laws.specs.InsertRepair.{insertRepair}
 
 -- the interval of an entry
 abbrev pub own : Entry → Interval
@@ -29,14 +29,14 @@ unfoldable pub hungRoot : ℕ → ℕ → ℕ → ℕ
 hungRoot n r p = onLink n p (λ s. r) n
 
 unfoldable pub hung : List ℕ → List ℕ → ℕ → ℕ → Entry → ℕ → Store
-hung W C n r e p = store (hungWords W n e p) (dye C n true) (hungRoot n r p)
+hung W C n r e p = store (hungWords W n e p) (paint C n true) (hungRoot n r p)
 
 -- the repair of a store of n entries from slot x, and "after the repair hulls are worked out from the new node to the root"
-unfoldable pub mended : Store → ℕ → ℕ → Store
-mended S n x =
-    let t : Store = ending (mend n 32 (S .words) (S .colours) (S .root) x) in
+unfoldable pub insertAt : Store → ℕ → ℕ → Store
+insertAt S n x =
+    let t : Store = ending (insertRepair n 32 (S .words) (S .colours) (S .root) x) in
     store (fixUp n 32 (t .words) x) (t .colours) (t .root)
 
 -- the new entry goes to slot n; the count is n + 1 then
 unfoldable pub insertRule : List ℕ → List ℕ → ℕ → ℕ → Entry → Store
-insertRule W C n r e = mended (hung W C n r e (under n W r (own e))) (n + 1) n
+insertRule W C n r e = insertAt (hung W C n r e (under n W r (own e))) (n + 1) n

@@ -1,5 +1,5 @@
 pub mod Descent
-pub mod Mend
+pub mod InsertRepair
 pub mod Insert
 pub mod Reach
-pub mod Inserted
+pub mod InsertionGuarantee

@@ -7,17 +7,17 @@ use Rattle.words.specs.Ix.{onLink}
 use Rattle.words.specs.Nodes.{kid, par}
 use Rattle.words.specs.declared.node.Entry.{Entry}
 use Rattle.bitvec.specs.Colours.{red, redAt}
-use Rattle.tree_edit.specs.Rotations.{turn}
+use Rattle.tree_edit.specs.Rotations.{rotate}
 use Rattle.tree_edit.specs.Store.{Store}
 use Rattle.tree_edit.specs.Rounds.{ending}
 use Rattle.tree_edit.specs.Reach.{Work, bothHulls, onward, upHulls}
 use Rattle.tree_in_laws.specs.Descent.{under}
-use Rattle.tree_in_laws.specs.Mend.{rotated, mendStep, mend}
+use Rattle.tree_in_laws.specs.InsertRepair.{rotated, insertRound, insertRepair}
 use Rattle.tree_in_laws.specs.Insert.{own, hung}
 
 -- "A rotation works out the hull of the node that went down, then of the one that came up"
 unfoldable pub rotatedHulls : ℕ → List ℕ → Bool → ℕ → ℕ → List Work
-rotatedHulls n W b P S = bothHulls n (turn n W b P S) P S
+rotatedHulls n W b P S = bothHulls n (rotate n W b P S) P S
 
 unfoldable pub outerHulls : ℕ → List ℕ → Bool → ℕ → ℕ → List Work
 outerHulls n W b P G = rotatedHulls n W (not b) G P
@@ -25,24 +25,24 @@ outerHulls n W b P G = rotatedHulls n W (not b) G P
 unfoldable pub innerHulls : ℕ → List ℕ → ℕ → Bool → ℕ → ℕ → List Work
 innerHulls n W x b P G = rotatedHulls n W b P x ++ outerHulls n (rotated n W b P x) b x G
 
-unfoldable pub mendAtHulls : ℕ → List ℕ → List ℕ → ℕ → ℕ → ℕ → Bool → List Work
-mendAtHulls n W C x P G b =
+unfoldable pub insertRoundAtHulls : ℕ → List ℕ → List ℕ → ℕ → ℕ → ℕ → Bool → List Work
+insertRoundAtHulls n W C x P G b =
     cond (redAt n C (kid W (not b) G)) [] (cond (eqb (kid W (not b) P) x) (innerHulls n W x b P G) (outerHulls n W b P G))
 
-unfoldable pub mendBelowHulls : ℕ → List ℕ → List ℕ → ℕ → ℕ → List Work
-mendBelowHulls n W C x P = onLink n (par W P) (λ G. mendAtHulls n W C x P G (eqb (kid W true G) P)) []
+unfoldable pub insertRoundBelowHulls : ℕ → List ℕ → List ℕ → ℕ → ℕ → List Work
+insertRoundBelowHulls n W C x P = onLink n (par W P) (λ G. insertRoundAtHulls n W C x P G (eqb (kid W true G) P)) []
 
-unfoldable pub mendStepHulls : ℕ → List ℕ → List ℕ → ℕ → List Work
-mendStepHulls n W C x = onLink n (par W x) (λ P. cond (red C P) (mendBelowHulls n W C x P) []) []
+unfoldable pub insertRoundHulls : ℕ → List ℕ → List ℕ → ℕ → List Work
+insertRoundHulls n W C x = onLink n (par W x) (λ P. cond (red C P) (insertRoundBelowHulls n W C x P) []) []
 
-unfoldable pub mendHulls : ℕ → ℕ → List ℕ → List ℕ → ℕ → ℕ → List Work
-mendHulls n zero W C r x = []
-mendHulls n (suc turns) W C r x = mendStepHulls n W C x ++ onward (mendStep n W C r x) (λ X D q i. mendHulls n turns X D q i)
+unfoldable pub insertRepairHulls : ℕ → ℕ → List ℕ → List ℕ → ℕ → ℕ → List Work
+insertRepairHulls n zero W C r x = []
+insertRepairHulls n (suc rounds) W C r x = insertRoundHulls n W C x ++ onward (insertRound n W C r x) (λ X D q i. insertRepairHulls n rounds X D q i)
 
 -- the repair, and "after the repair hulls are worked out from the new node to the root"
-unfoldable pub mendedHulls : Store → ℕ → ℕ → List Work
-mendedHulls S n x =
-    mendHulls n 32 (S .words) (S .colours) (S .root) x ++ upHulls n 32 (ending (mend n 32 (S .words) (S .colours) (S .root) x) .words) x
+unfoldable pub insertAtHulls : Store → ℕ → ℕ → List Work
+insertAtHulls S n x =
+    insertRepairHulls n 32 (S .words) (S .colours) (S .root) x ++ upHulls n 32 (ending (insertRepair n 32 (S .words) (S .colours) (S .root) x) .words) x
 
 unfoldable pub insertHulls : List ℕ → List ℕ → ℕ → ℕ → Entry → List Work
-insertHulls W C n r e = mendedHulls (hung W C n r e (under n W r (own e))) (n + 1) n
+insertHulls W C n r e = insertAtHulls (hung W C n r e (under n W r (own e))) (n + 1) n

@@ -14,8 +14,8 @@ use Rattle.tree_edit.specs.Store.{store}
 use Rattle.tree_edit.specs.Reach.{Work, changes, onward}
 use Rattle.tree_edit.proofs.Reached.{changes-append}
 use Rattle.tree_links.specs.Answers.{next, reach}
-use Rattle.tree_links.specs.declared.Turn as T
-use Rattle.tree_links.specs.declared.Turn.the-variants as ts
+use Rattle.tree_links.specs.declared.Next as T
+use Rattle.tree_links.specs.declared.Next.the-variants as ts
 use Rattle.words.specs.Nodes.{kid, par}
 use Rattle.words.specs.declared.ix.Link.{Link}
 use Rattle.words.specs.declared.ix.Link.the-variants.{Slot}
@@ -31,64 +31,64 @@ link-stays n w f W C r X D q i h e = go (leb n w) refl e
     go true p z = let y : _≡_ {A = ℕ} 0 1 = cc in absurd (omega arith)
     go false p z = h w (leb-false n w p) z
 
--- `run` is the loop over `step`, at most so many turns of it
-pub record Loop (step : List ℕ → List ℕ → ℕ → ℕ → Next) (run : ℕ → List ℕ → List ℕ → ℕ → ℕ → Next) : Type 0 where
+-- `run` is the loop over `round`, at most so many turns of it
+pub record Loop (round : List ℕ → List ℕ → ℕ → ℕ → Next) (run : ℕ → List ℕ → List ℕ → ℕ → ℕ → Next) : Type 0 where
   pub stops : (W C : List ℕ) (r ix : ℕ) → run 0 W C r ix ≡ again W C r ix
-  pub turns : (f : ℕ) (W C : List ℕ) (r ix : ℕ) → run (suc f) W C r ix ≡ goOn (step W C r ix) (λ X D q i. run f X D q i)
+  pub rounds : (f : ℕ) (W C : List ℕ) (r ix : ℕ) → run (suc f) W C r ix ≡ goOn (round W C r ix) (λ X D q i. run f X D q i)
 
-module _ (step : ℕ → List ℕ → List ℕ → ℕ → ℕ → Next) (run : ℕ → ℕ → List ℕ → List ℕ → ℕ → ℕ → Next) (loop : (n : ℕ) → Loop (step n) (run n)) where
+module _ (round : ℕ → List ℕ → List ℕ → ℕ → ℕ → Next) (run : ℕ → ℕ → List ℕ → List ℕ → ℕ → ℕ → Next) (loop : (n : ℕ) → Loop (round n) (run n)) where
   -- one turn was made
-  module _ (n f : ℕ) (N : Next) (W C : List ℕ) (r ix : ℕ) (X D : List ℕ) (t : T.Turn) (q : ℕ) where
-    turned : (g : ℕ) → N ≡ run n (suc g) W C r ix → next t X D ≡ step n W C r ix
-        → (u : T.Turn) → t ≡ u → N ≡ goOn (next u X D) (λ A B a j. run n g A B a j)
-    turned g e p u z =
-        e ∙ loop n .turns g W C r ix ∙ ap (λ (s : Next). goOn s (λ A B a j. run n g A B a j)) (sym p ∙ ap (λ (s : T.Turn). next s X D) z)
+  module _ (n f : ℕ) (N : Next) (W C : List ℕ) (r ix : ℕ) (X D : List ℕ) (t : T.Next) (q : ℕ) where
+    made : (g : ℕ) → N ≡ run n (suc g) W C r ix → next t X D ≡ round n W C r ix
+        → (u : T.Next) → t ≡ u → N ≡ goOn (next u X D) (λ A B a j. run n g A B a j)
+    made g e p u z =
+        e ∙ loop n .rounds g W C r ix ∙ ap (λ (s : Next). goOn s (λ A B a j. run n g A B a j)) (sym p ∙ ap (λ (s : T.Next). next s X D) z)
 
-    pub loop-on : (i k : ℕ) → N ≡ run n f W C r ix → next t X D ≡ step n W C r ix → t ≡ ts.Again q i k → 0 < f → N ≡ run n (f - 1) X D q i
+    pub loop-on : (i k : ℕ) → N ≡ run n f W C r ix → next t X D ≡ round n W C r ix → t ≡ ts.Again q i k → 0 < f → N ≡ run n (f - 1) X D q i
     loop-on i k e p z h = go f e h
       where
         go : (g : ℕ) → N ≡ run n g W C r ix → 0 < g → N ≡ run n (g - 1) X D q i
         go zero d j = absurd (omega arith)
-        go (suc g) d j = rw (sub-one (suc g)) (turned g d p (ts.Again q i k) z)
+        go (suc g) d j = rw (sub-one (suc g)) (made g d p (ts.Again q i k) z)
 
-    pub loop-done : (k : ℕ) → N ≡ run n f W C r ix → next t X D ≡ step n W C r ix → t ≡ ts.Done q k → 0 < f → store X D q ≡ ending N
+    pub loop-done : (k : ℕ) → N ≡ run n f W C r ix → next t X D ≡ round n W C r ix → t ≡ ts.Done q k → 0 < f → store X D q ≡ ending N
     loop-done k e p z h = go f e h
       where
         go : (g : ℕ) → N ≡ run n g W C r ix → 0 < g → store X D q ≡ ending N
         go zero d k = absurd (omega arith)
-        go (suc g) d j = sym (ap ending (turned g d p (ts.Done q k) z))
+        go (suc g) d j = sym (ap ending (made g d p (ts.Done q k) z))
 
   pub loop-none : (n f : ℕ) (N : Next) (W C : List ℕ) (r ix : ℕ) → N ≡ run n f W C r ix → f ≤ 0 → store W C r ≡ ending N
   loop-none n zero N W C r ix e h = sym (ap ending (e ∙ loop n .stops W C r ix))
   loop-none n (suc f) N W C r ix e h = absurd (omega arith)
 
 -- the loop stands at a slot
-module _ (step : ℕ → List ℕ → List ℕ → ℕ → ℕ → Next)
-    (stays : (n : ℕ) (W C : List ℕ) (r ix : ℕ) (X D : List ℕ) (q i : ℕ) → ix < n → step n W C r ix ≡ again X D q i → i < n) where
-  pub loop-stays : (n : ℕ) (W C : List ℕ) (r ix : ℕ) (X D : List ℕ) (t : T.Turn) (q i k : ℕ)
-      → t ≡ ts.Again q i k → next t X D ≡ step n W C r ix → ix < n → i < n
-  loop-stays n W C r ix X D t q i k z p h = stays n W C r ix X D q i h (sym p ∙ ap (λ (s : T.Turn). next s X D) z)
+module _ (round : ℕ → List ℕ → List ℕ → ℕ → ℕ → Next)
+    (stays : (n : ℕ) (W C : List ℕ) (r ix : ℕ) (X D : List ℕ) (q i : ℕ) → ix < n → round n W C r ix ≡ again X D q i → i < n) where
+  pub loop-stays : (n : ℕ) (W C : List ℕ) (r ix : ℕ) (X D : List ℕ) (t : T.Next) (q i k : ℕ)
+      → t ≡ ts.Again q i k → next t X D ≡ round n W C r ix → ix < n → i < n
+  loop-stays n W C r ix X D t q i k z p h = stays n W C r ix X D q i h (sym p ∙ ap (λ (s : T.Next). next s X D) z)
 
 -- The hulls that a loop works out, four a turn at the most: `hulls` those of a turn, `works` those of the loop.
-pub record Counted (n : ℕ) (step : List ℕ → List ℕ → ℕ → ℕ → Next) (hulls : List ℕ → List ℕ → ℕ → List Work)
+pub record Counted (n : ℕ) (round : List ℕ → List ℕ → ℕ → ℕ → Next) (hulls : List ℕ → List ℕ → ℕ → List Work)
     (works : ℕ → List ℕ → List ℕ → ℕ → ℕ → List Work) : Type 0 where
   pub stops : (W C : List ℕ) (r ix : ℕ) → works 0 W C r ix ≡ []
-  pub turns : (f : ℕ) (W C : List ℕ) (r ix : ℕ) → works (suc f) W C r ix ≡ hulls W C ix ++ onward (step W C r ix) (λ X D q i. works f X D q i)
+  pub rounds : (f : ℕ) (W C : List ℕ) (r ix : ℕ) → works (suc f) W C r ix ≡ hulls W C ix ++ onward (round W C r ix) (λ X D q i. works f X D q i)
   pub most : (W C : List ℕ) (ix : ℕ) → changes n (hulls W C ix) ≤ 4
 
-module _ (step : ℕ → List ℕ → List ℕ → ℕ → ℕ → Next) (hulls : ℕ → List ℕ → List ℕ → ℕ → List Work)
-    (works : ℕ → ℕ → List ℕ → List ℕ → ℕ → ℕ → List Work) (counted : (n : ℕ) → Counted n (step n) (hulls n) (works n)) where
-  module _ (n f : ℕ) (W C : List ℕ) (r ix : ℕ) (X D : List ℕ) (t : T.Turn) (R k : ℕ) (p : next t X D ≡ step n W C r ix)
+module _ (round : ℕ → List ℕ → List ℕ → ℕ → ℕ → Next) (hulls : ℕ → List ℕ → List ℕ → ℕ → List Work)
+    (works : ℕ → ℕ → List ℕ → List ℕ → ℕ → ℕ → List Work) (counted : (n : ℕ) → Counted n (round n) (hulls n) (works n)) where
+  module _ (n f : ℕ) (W C : List ℕ) (r ix : ℕ) (X D : List ℕ) (t : T.Next) (R k : ℕ) (p : next t X D ≡ round n W C r ix)
       (e : reach t ≡ changes n (hulls n W C ix)) (g : R ≡ k + changes n (works n f W C r ix)) (h : 0 < f) where
-    told : (u : T.Turn) → t ≡ u → R ≡ k + (reach u + changes n (onward (next u X D) (λ Y E q i. works n (f - 1) Y E q i)))
+    told : (u : T.Next) → t ≡ u → R ≡ k + (reach u + changes n (onward (next u X D) (λ Y E q i. works n (f - 1) Y E q i)))
     told u z = go f g h
       where
         go : (f : ℕ) → R ≡ k + changes n (works n f W C r ix) → 0 < f → R ≡ k + (reach u + changes n (onward (next u X D) (λ Y E q i. works n (f - 1) Y E q i)))
         go zero d j = absurd (omega arith)
         go (suc f) d j =
             rw (sub-one (suc f))
-            (d ∙ ap (λ (l : List Work). k + changes n l) (counted n .turns f W C r ix)
-            ∙ ap (λ (x : ℕ). k + x) (changes-append n (hulls n W C ix) (onward (step n W C r ix) (λ Y E q i. works n f Y E q i)))
+            (d ∙ ap (λ (l : List Work). k + changes n l) (counted n .rounds f W C r ix)
+            ∙ ap (λ (x : ℕ). k + x) (changes-append n (hulls n W C ix) (onward (round n W C r ix) (λ Y E q i. works n f Y E q i)))
             ∙ rw (← e, ← p, z))
 
     pub count-on : (q i j : ℕ) → t ≡ ts.Again q i j → R ≡ k + j + changes n (works n (f - 1) X D q i)
@@ -102,7 +102,7 @@ module _ (step : ℕ → List ℕ → List ℕ → ℕ → ℕ → Next) (hulls 
   count-none n (suc f) W C r ix R k e h = absurd (omega arith)
 
   -- the sum fits, and stays below four a turn
-  module _ (n : ℕ) (W C : List ℕ) (ix : ℕ) (t : T.Turn) (k f : ℕ) (e : reach t ≡ changes n (hulls n W C ix)) (m : k + 4 * f ≤ 144) (h : 0 < f) where
+  module _ (n : ℕ) (W C : List ℕ) (ix : ℕ) (t : T.Next) (k f : ℕ) (e : reach t ≡ changes n (hulls n W C ix)) (m : k + 4 * f ≤ 144) (h : 0 < f) where
     pub sum-fits : (q i j : ℕ) → t ≡ ts.Again q i j → k + j < 18446744073709551616
     sum-fits q i j z = let y : j ≤ 4 = rw (← (ap reach z), e) (counted n .most W C ix) in omega arith
 

@@ -2,15 +2,15 @@
 use mathlib.Core.List.{List}
 use Prim.Native.Nat.{ℕ}
 use Rattle.tree_edit.specs.Rounds as rule
-use Rattle.tree_links.specs.declared.Turn.{Turn}
-use Rattle.tree_links.specs.declared.Turn.the-variants.{Done, Again}
+use Rattle.tree_links.specs.declared.Next.{Next}
+use Rattle.tree_links.specs.declared.Next.the-variants.{Done, Again}
 
 -- a turn's answer, with the words and the colours that it leaves
-abbrev pub next : Turn → List ℕ → List ℕ → rule.Next
+abbrev pub next : Next → List ℕ → List ℕ → rule.Next
 next (Done r k) W C = rule.done W C r
 next (Again r ix k) W C = rule.again W C r ix
 
 -- how many hulls changed in it
-abbrev pub reach : Turn → ℕ
+abbrev pub reach : Next → ℕ
 reach (Done r k) = k
 reach (Again r ix k) = k

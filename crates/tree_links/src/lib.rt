@@ -13,11 +13,11 @@ ghost use lib.ListN.{length};
 ghost use Rattle.words.specs.Ix.{onLink};
 ghost use Rattle.words.specs.Nodes.{fix};
 ghost use Rattle.tree_edit.specs.Links.{adopt, setChild, redirected, removeChild, redirect, replaced, rootAfter, fixUp, leftmost};
-ghost use Rattle.tree_edit.specs.Rotations.{turn};
+ghost use Rattle.tree_edit.specs.Rotations.{rotate};
 ghost use Rattle.tree_edit.specs.Reach.{differs, changes, bothHulls, upHulls};
 
 // The root; where the loop goes on, the slot that it stands at; and how many hulls changed in this turn.
-pub enum Turn {
+pub enum Next {
     Done(u64, u64),
     Again(u64, u64, u64),
 }
@@ -112,7 +112,7 @@ pub fn replace_children(nodes: &mut [u64], count: u64, root: u64, old: u64, new:
 
 // The sibling turns into the place of the parent, as in case two with the last two writes in the other order: case five's
 // links, and those of a rotation after an insertion. The answer is the root.
-pub fn turn_up(
+pub fn rotate_up(
     nodes: &mut [u64],
     count: u64,
     root: u64,
@@ -121,7 +121,7 @@ pub fn turn_up(
     sibling: u64,
 ) -> u64
     requires { ⌜ (count * 8 ≤ length (now nodes)) × (parent < count) × (sibling < count) ⌝ }
-    ensures { λ r. ⌜ (r ≡ rootAfter count (now (nodes .entry)) root parent sibling) × (now (nodes .exit) ≡ turn count (now (nodes .entry)) «node_is_left» parent sibling) ⌝ }
+    ensures { λ r. ⌜ (r ≡ rootAfter count (now (nodes .entry)) root parent sibling) × (now (nodes .exit) ≡ rotate count (now (nodes .entry)) «node_is_left» parent sibling) ⌝ }
 {
     let close = child_of(nodes, sibling, node_is_left);
     let top = replace_children(nodes, count, root, parent, sibling);

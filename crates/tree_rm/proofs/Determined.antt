@@ -6,7 +6,7 @@ use contract.Lifetimes.{Lfts}
 use borrow.Fn.Kinds as K
 use denote.Triple.Clauses.{AtExit}
 use denote.Ref.{now}
-use Rattle.tree_rm_laws.specs.Remove.{Removal}
+use Rattle.tree_rm_laws.specs.Remove as rule
 use Rattle.tree_rm.specs.Answers.{removal}
 use Rattle.tree_rm.specs.declared.remove.Removed.{Removed}
 use Rattle.tree_rm.proofs.remove.remove_at.Reads as reads
@@ -15,8 +15,8 @@ use Rattle.tree_rm.proofs.remove.remove_at.Kinds as kinds
 pub removal-told : (a b : Removed) (W X C D : List ℕ) → removal a W C ≡ removal b X D → a .reach ≡ b .reach → (a ≡ b) × (W ≡ X) × (C ≡ D)
 removal-told a b W X C D e f = (
   λ t. record { value = e t .value; root = e t .store .root; pairs = e t .pairs; reach = f t },
-  ap (λ (R : Removal). R .store .words) e,
-  ap (λ (R : Removal). R .store .colours) e,
+  ap (λ (R : rule.Removed). R .store .words) e,
+  ap (λ (R : rule.Removed). R .store .colours) e,
 )
 
 pub remove-at-determined : (κs : Lfts 2) (a : K.Dens κs kinds.ps) (r r′ : K.resT kinds.r κs .Denot) (s s′ : AtExit (K.endedOf 2 kinds.ps kinds.r) κs)

@@ -13,11 +13,11 @@ use Rattle.words.specs.declared.ix.Link.{Link}
 use Rattle.words.specs.declared.ix.Link.the-variants.{Slot, Nil}
 use Rattle.words.specs.declared.node.Entry.{Entry}
 use Rattle.words.proofs.Laws.{unlinked, slot-live}
-use Rattle.bitvec.specs.Colours.{red, dye}
+use Rattle.bitvec.specs.Colours.{red, paint}
 use Rattle.words.specs.declared.pair.Pairs.{Pairs}
 use Rattle.tree_edit.specs.Links.{adopt, removeChild, redirect, fixUp, leftmost}
-use Rattle.tree_rm_laws.specs.Pairs.{instead, emptied, moved}
-use Rattle.tree_rm_laws.specs.Remove.{vacated, restructure, exchanged, child, handed, above, cutWords, cutRoot, copied, relinked, cleared, swapRemove, Removal, finish, removeFrom, removeRule}
+use Rattle.tree_rm_laws.specs.Pairs.{movedTo, emptied, moved}
+use Rattle.tree_rm_laws.specs.Remove.{vacated, restructure, exchanged, child, handed, above, cutWords, cutRoot, copied, relinked, cleared, swapRemove, Removed, finish, removeFrom, removeRule}
 use Rattle.tree_edit.specs.Store.{store}
 use Rattle.tree_edit.specs.Reach.{changes, upHulls}
 use Rattle.tree_rm_laws.specs.Reach.{cutHulls, restructureHulls, vacateHulls, removeHullsFrom, removeHulls}
@@ -109,8 +109,8 @@ module _ (n : ℕ) (W : List ℕ) (x y : ℕ) (l : Link) (e : l ≡ linkOf n y) 
 pub cut-fits : (n : ℕ) (W : List ℕ) (g v b k : ℕ) → b ≤ 144 → k ≡ changes n (cutHulls n W g v) → b + k < 18446744073709551616
 cut-fits n W g v b k h e = omega (arith, cut-most n W g v)
 
-pub mended-most : (n : ℕ) (W C : List ℕ) (r x y k : ℕ) → k ≡ changes n (restructureHulls n W C r x y) → k ≤ 144
-mended-most n W C r x y k e = omega (arith, restructure-most n W C r x y)
+pub repaired-most : (n : ℕ) (W C : List ℕ) (r x y k : ℕ) → k ≡ changes n (restructureHulls n W C r x y) → k ≤ 144
+repaired-most n W C r x y k e = omega (arith, restructure-most n W C r x y)
 
 pub sum-is : (b k x : ℕ) → k ≡ x → b + k ≡ b + x
 sum-is b k x e = rw e
@@ -122,7 +122,7 @@ unfolding vacateHulls
 vacate-changes n r x y top b k W C W₁ C₁ h i j =
     rw (← h, changes-append n (restructureHulls n W C r x y) (cutHulls n (handed n W₁ x y) (above n W₁ x y) (emptied n x y)), ← i) j
 
-pub vacate-is : (n r s x y top : ℕ) (W C W₁ C₁ : List ℕ) (R : Removal) → store W₁ C₁ top ≡ restructure n W C r x y
+pub vacate-is : (n r s x y top : ℕ) (W C W₁ C₁ : List ℕ) (R : Removed) → store W₁ C₁ top ≡ restructure n W C r x y
     → R ≡ finish (store W₁ C₁ top) n s x y → R ≡ finish (restructure n W C r x y) n s x y
 vacate-is n r s x y top W C W₁ C₁ R h i = rw (← h) i
 
@@ -150,8 +150,8 @@ pub none-moves : (n : ℕ) (W C X : List ℕ) (r z v : ℕ) → v ≡ z → X �
 unfolding swapRemove
 none-moves n W C X r z v e q = rw (eq-eqb v z e) (ap (λ (Y : List ℕ). store Y C r) q)
 
-pub last-moves : (n : ℕ) (W C W₁ W₂ C₁ : List ℕ) (r z v q : ℕ) → (v ≡ z → ⊥) → C₁ ≡ dye C v (red C z) → W₁ ≡ relinked n W z v → W₂ ≡ cleared W₁ z
-    → q ≡ instead z v r → store W₂ C₁ q ≡ swapRemove n W C r z v
+pub last-moves : (n : ℕ) (W C W₁ W₂ C₁ : List ℕ) (r z v q : ℕ) → (v ≡ z → ⊥) → C₁ ≡ paint C v (red C z) → W₁ ≡ relinked n W z v → W₂ ≡ cleared W₁ z
+    → q ≡ movedTo z v r → store W₂ C₁ q ≡ swapRemove n W C r z v
 unfolding swapRemove
 last-moves n W C W₁ W₂ C₁ r z v q h e f g i = rw (ne-eqb v z h) (cc)
 
@@ -164,11 +164,11 @@ finish-is n s x y W C W₁ W₂ C₂ r v top item q P e f g h i j =
     let k : W₁ ≡ cutWords n (handed n W x y) (above n W x y) v = rw e g in
     rw (← e, ← f, ← k, ← h, ← i, ← j)
 
-pub from-is : (n r s x y : ℕ) (W C X : List ℕ) (R : Removal) → X ≡ exchanged W s x → y ≡ child X x → R ≡ finish (restructure n X C r x y) n s x y
+pub from-is : (n r s x y : ℕ) (W C X : List ℕ) (R : Removed) → X ≡ exchanged W s x → y ≡ child X x → R ≡ finish (restructure n X C r x y) n s x y
     → R ≡ removeFrom W C n r s x
 unfolding removeFrom
 from-is n r s x y W C X R f g h = rw (← f, ← g) h
 
-pub remove-is : (n r s x : ℕ) (W C : List ℕ) (R : Removal) → x ≡ vacated n W s → R ≡ removeFrom W C n r s x → R ≡ removeRule W C n r s
+pub remove-is : (n r s x : ℕ) (W C : List ℕ) (R : Removed) → x ≡ vacated n W s → R ≡ removeFrom W C n r s x → R ≡ removeRule W C n r s
 unfolding removeRule
 remove-is n r s x W C R e i = rw (← e) i

@@ -2,9 +2,9 @@
 use mathlib.Core.List.{List}
 use Prim.Native.Nat.{ℕ}
 use Rattle.tree_edit.specs.Store.{store}
-use Rattle.tree_rm_laws.specs.Remove.{Removal}
+use Rattle.tree_rm_laws.specs.Remove as rule
 use Rattle.tree_rm.specs.declared.remove.Removed.{Removed}
 
 -- the whole answer of a removal, with the words and the colours that it leaves
-abbrev pub removal : Removed → List ℕ → List ℕ → Removal
+abbrev pub removal : Removed → List ℕ → List ℕ → rule.Removed
 removal a W C = record { store = store W C (a .root); value = a .value; pairs = a .pairs }

@@ -233,16 +233,16 @@ fn vacate(
     ensures { λ r. ⌜ (removal r (now (nodes .exit)) (now (colours .exit)) ≡ finish (restructure count (now (nodes .entry)) (now (colours .entry)) root rm child) count ix rm child)
         × (r .reach ≡ changes count (vacateHulls count (now (nodes .entry)) (now (colours .entry)) root rm child)) ⌝ }
 {
-    let mended = restructure_rm(nodes, colours, count, root, rm, child);
+    let repaired = restructure_rm(nodes, colours, count, root, rm, child);
     finish_rm(
         nodes,
         colours,
         count,
-        mended.root,
+        repaired.root,
         ix,
         rm,
         child,
-        mended.reach,
+        repaired.reach,
     )
 }
 

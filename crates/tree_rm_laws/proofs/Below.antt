@@ -11,23 +11,23 @@ use borrow.Author.Tests.{leb-false}
 use Rattle.words.specs.Ix.{U}
 use Rattle.words.specs.Nodes.{value, kid, par, hull, entry, putEntry, swap}
 use Rattle.words.specs.declared.node.Field.the-variants.{Start, End, Value, HullStart, HullEnd, Child, Parent}
-use Rattle.bitvec.specs.Colours.{red, redAt, dye, dyeAt}
+use Rattle.bitvec.specs.Colours.{red, redAt, paint, paintAt}
 use Rattle.tree_edit.specs.Links.{redirected, removeChild, fixUp, leftmost}
-use Rattle.tree_edit.specs.Rotations.{turn-4}
-use Rattle.tree_rm_laws.specs.Repair.{Case, one, two, three, four, five, choose, act, turnOf, turnAt, step, repair}
+use Rattle.tree_edit.specs.Rotations.{rotate-4}
+use Rattle.tree_rm_laws.specs.Repair.{Case, one, two, three, four, five, choose, act, roundOf, roundAt, round, repair}
 use Rattle.tree_edit.specs.Rounds.{Next, done, again, goOn, ending}
-use Rattle.tree_rm_laws.specs.Pairs.{instead, emptied}
-use Rattle.tree_rm_laws.specs.Remove.{vacated, exchanged, child, restructure, handed, above, cutWords, cutRoot, copied, relinked, cleared, swapRemove, Removal, finish, removeFrom, removeRule}
+use Rattle.tree_rm_laws.specs.Pairs.{movedTo, emptied}
+use Rattle.tree_rm_laws.specs.Remove.{vacated, exchanged, child, restructure, handed, above, cutWords, cutRoot, copied, relinked, cleared, swapRemove, Removed, finish, removeFrom, removeRule}
 use Rattle.tree_edit.specs.Store.{Store, store}
 use Rattle.tree_edit.specs.Reach.{Work, changes, upHulls}
-use Rattle.tree_rm_laws.specs.Reach.{actHulls, turnOfHulls, turnAtHulls, stepHulls, repairHulls, restructureHulls, cutHulls, vacateHulls, removeHullsFrom, removeHulls}
-use Rattle.tree.specs.Below.{Agree, Hued}
+use Rattle.tree_rm_laws.specs.Reach.{actHulls, roundOfHulls, roundAtHulls, roundHulls, repairHulls, restructureHulls, cutHulls, vacateHulls, removeHullsFrom, removeHulls}
+use Rattle.tree.specs.Below.{Agree, SameColours}
 use Rattle.tree_edit.specs.Below.{Alike}
 use Rattle.tree_rm_laws.proofs.Steps.{emptied-live}
-use Rattle.tree_edit.proofs.Paint.{red-slot}
-use Rattle.tree_rm_laws.proofs.Mended.{four-close}
+use Rattle.tree_edit.proofs.Colours.{red-slot}
+use Rattle.tree_rm_laws.proofs.RepairInPlace.{four-close}
 use Rattle.tree_rm_laws.proofs.Inside.{vacated-live}
-use Rattle.tree_edit.proofs.Below.{link-same, same-redAt, agree-putEntry, same-entry, agree-putNode, agree-fix, agree-fixUp, agree-adopt, agree-redirected, agree-redirect, same-rootAfter, agree-turn, agree-turn-2, agree-turn-4, Both, both-dye, SameNext, AlikeIn, same-ending, Sums, sums-append, sums-both, sums-up, sums-onward}
+use Rattle.tree_edit.proofs.Below.{link-same, same-redAt, agree-putEntry, same-entry, agree-putNode, agree-fix, agree-fixUp, agree-adopt, agree-redirected, agree-redirect, same-rootAfter, agree-rotate, agree-rotate-2, agree-rotate-4, Both, both-paint, SameNext, AlikeIn, same-ending, Sums, sums-append, sums-both, sums-up, sums-onward}
 
 module _ (n : ℕ) where
   agree-swap : (W X : List ℕ) (i j : ℕ) → i < n → j < n → Agree n W X → Agree n (swap W i j) (swap X i j)
@@ -39,36 +39,36 @@ module _ (n : ℕ) where
   module _ (W X C D : List ℕ) (A : Agree n W X) (B : Both n C D) where
     same-act : (k : Case) (r ix : ℕ) (b : Bool) (P S c d : ℕ) → ix < n → P < n → S < n → (k ≡ four → c < n)
         → SameNext n (act n k W C r ix b P S c d) (act n k X D r ix b P S c d)
-    unfolding dyeAt
-    same-act one r ix b P S c d li lp ls lc = (A, both-dye n C D S true ls B, refl, refl, lp)
+    unfolding paintAt
+    same-act one r ix b P S c d li lp ls lc = (A, both-paint n C D S true ls B, refl, refl, lp)
     same-act two r ix b P S c d li lp ls lc = (
-      agree-turn-2 n W X b P S lp ls A,
-      both-dye n (dye C P true) (dye D P true) S false ls (both-dye n C D P true lp B),
+      agree-rotate-2 n W X b P S lp ls A,
+      both-paint n (paint C P true) (paint D P true) S false ls (both-paint n C D P true lp B),
       same-rootAfter n W X r P S lp A,
       refl,
       li,
     )
-    same-act three r ix b P S c d li lp ls lc = (A, both-dye n (dye C P false) (dye D P false) S true ls (both-dye n C D P false lp B), refl)
+    same-act three r ix b P S c d li lp ls lc = (A, both-paint n (paint C P false) (paint D P false) S true ls (both-paint n C D P false lp B), refl)
     same-act four r ix b P S c d li lp ls lc =
         let l : c < n = lc refl in (
-          agree-fix n _ _ c l (agree-fix n (turn-4 n W b P S c) (turn-4 n X b P S c) S ls (agree-turn-4 n W X b P S lp ls A c l)),
-          both-dye n (dye C c false) (dye D c false) S true ls (both-dye n C D c false l B),
+          agree-fix n _ _ c l (agree-fix n (rotate-4 n W b P S c) (rotate-4 n X b P S c) S ls (agree-rotate-4 n W X b P S lp ls A c l)),
+          both-paint n (paint C c false) (paint D c false) S true ls (both-paint n C D c false l B),
           refl,
           refl,
           li,
         )
     same-act five r ix b P S c d li lp ls lc =
-        let E : List ℕ = dye (dye C S (red D P)) P false in
-        let F : List ℕ = dye (dye D S (red D P)) P false in
-        let o : Both n E F = both-dye n (dye C S (red D P)) (dye D S (red D P)) P false lp (both-dye n C D S (red D P) ls B) in (
-          agree-turn n W X b P S lp ls A,
-          rw (B .1 .1 P lp) (link-same n {A = List ℕ} (Both n) d (λ s. dye E s false) (λ s. dye F s false) E F (λ h. both-dye n E F d false h o) o),
+        let E : List ℕ = paint (paint C S (red D P)) P false in
+        let F : List ℕ = paint (paint D S (red D P)) P false in
+        let o : Both n E F = both-paint n (paint C S (red D P)) (paint D S (red D P)) P false lp (both-paint n C D S (red D P) ls B) in (
+          agree-rotate n W X b P S lp ls A,
+          rw (B .1 .1 P lp) (link-same n {A = List ℕ} (Both n) d (λ s. paint E s false) (λ s. paint F s false) E F (λ h. both-paint n E F d false h o) o),
           same-rootAfter n W X r P S lp A,
         )
 
-    same-turnOf : (r ix P : ℕ) (b : Bool) (S : ℕ) → ix < n → P < n → S < n → SameNext n (turnOf n W C r ix P b S) (turnOf n X D r ix P b S)
-    unfolding turnOf
-    same-turnOf r ix P b S li lp ls =
+    same-roundOf : (r ix P : ℕ) (b : Bool) (S : ℕ) → ix < n → P < n → S < n → SameNext n (roundOf n W C r ix P b S) (roundOf n X D r ix P b S)
+    unfolding roundOf
+    same-roundOf r ix P b S li lp ls =
         let k : Case = choose (red D P) (red D S) (redAt n D (kid X b S)) (redAt n D (kid X (not b) S)) in
         rw (
           A .1 (Child b) S ls,
@@ -81,27 +81,27 @@ module _ (n : ℕ) where
         (same-act k r ix b P S (kid X b S) (kid X (not b) S) li lp ls
         (λ e. red-slot n D (kid X b S) (four-close (red D P) (red D S) (redAt n D (kid X b S)) (redAt n D (kid X (not b) S)) e)))
 
-    same-turnAt : (r ix P : ℕ) (b : Bool) → ix < n → P < n → SameNext n (turnAt n W C r ix P b) (turnAt n X D r ix P b)
-    unfolding turnAt
-    same-turnAt r ix P b li lp =
+    same-roundAt : (r ix P : ℕ) (b : Bool) → ix < n → P < n → SameNext n (roundAt n W C r ix P b) (roundAt n X D r ix P b)
+    unfolding roundAt
+    same-roundAt r ix P b li lp =
         rw (A .1 (Child (not b)) P lp)
-        (link-same n {A = Next} (SameNext n) (kid X (not b) P) (λ S. turnOf n W C r ix P b S) (λ S. turnOf n X D r ix P b S) (done W C r) (done X D r)
-        (λ ls. same-turnOf r ix P b (kid X (not b) P) li lp ls) (A, B, refl))
+        (link-same n {A = Next} (SameNext n) (kid X (not b) P) (λ S. roundOf n W C r ix P b S) (λ S. roundOf n X D r ix P b S) (done W C r) (done X D r)
+        (λ ls. same-roundOf r ix P b (kid X (not b) P) li lp ls) (A, B, refl))
 
-    same-step : (r ix : ℕ) → ix < n → SameNext n (step n W C r ix) (step n X D r ix)
-    unfolding step
-    same-step r ix li =
+    same-round : (r ix : ℕ) → ix < n → SameNext n (round n W C r ix) (round n X D r ix)
+    unfolding round
+    same-round r ix li =
         rw (A .1 Parent ix li)
-        (link-same n {A = Next} (SameNext n) (par X ix) (λ P. turnAt n W C r ix P (eqb (kid W true P) ix)) (λ P. turnAt n X D r ix P (eqb (kid X true P) ix)) (done W C r) (done X D r)
-        (λ lp. rw (A .1 (Child true) (par X ix) lp) (same-turnAt r ix (par X ix) (eqb (kid X true (par X ix)) ix) li lp)) (A, B, refl))
+        (link-same n {A = Next} (SameNext n) (par X ix) (λ P. roundAt n W C r ix P (eqb (kid W true P) ix)) (λ P. roundAt n X D r ix P (eqb (kid X true P) ix)) (done W C r) (done X D r)
+        (λ lp. rw (A .1 (Child true) (par X ix) lp) (same-roundAt r ix (par X ix) (eqb (kid X true (par X ix)) ix) li lp)) (A, B, refl))
 
-  same-repair : (turns : ℕ) (W X C D : List ℕ) (r ix : ℕ) → Agree n W X → Both n C D → ix < n → SameNext n (repair n turns W C r ix) (repair n turns X D r ix)
+  same-repair : (rounds : ℕ) (W X C D : List ℕ) (r ix : ℕ) → Agree n W X → Both n C D → ix < n → SameNext n (repair n rounds W C r ix) (repair n rounds X D r ix)
   unfolding repair
   same-repair zero W X C D r ix A B l = (A, B, refl, refl, l)
-  same-repair (suc turns) W X C D r ix A B l = go (same-repair turns) (step n W C r ix) (step n X D r ix) (same-step W X C D A B r ix l)
+  same-repair (suc rounds) W X C D r ix A B l = go (same-repair rounds) (round n W C r ix) (round n X D r ix) (same-round W X C D A B r ix l)
     where
-      go : ((W X C D : List ℕ) (r ix : ℕ) → Agree n W X → Both n C D → ix < n → SameNext n (repair n turns W C r ix) (repair n turns X D r ix))
-          → (s t : Next) → SameNext n s t → SameNext n (goOn s (λ X D q i. repair n turns X D q i)) (goOn t (λ X D q i. repair n turns X D q i))
+      go : ((W X C D : List ℕ) (r ix : ℕ) → Agree n W X → Both n C D → ix < n → SameNext n (repair n rounds W C r ix) (repair n rounds X D r ix))
+          → (s t : Next) → SameNext n s t → SameNext n (goOn s (λ X D q i. repair n rounds X D q i)) (goOn t (λ X D q i. repair n rounds X D q i))
       go rec (done W C r) (done X D q) h = h
       go rec (done W C r) (again X D q j) h = absurd h
       go rec (again W C r i) (done X D q) h = absurd h
@@ -113,10 +113,10 @@ module _ (n : ℕ) where
       rw (B .1 .1 x l, same-redAt n C D y (B .1)) (go (red D x) (redAt n D y) refl)
     where
       go : (t u : Bool) → redAt n D y ≡ u
-          → AlikeIn n (cond t (store W C r) (cond u (store W (dye C y true) r) (ending (repair n 36 W C r x))))
-          (cond t (store X D r) (cond u (store X (dye D y true) r) (ending (repair n 36 X D r x))))
+          → AlikeIn n (cond t (store W C r) (cond u (store W (paint C y true) r) (ending (repair n 36 W C r x))))
+          (cond t (store X D r) (cond u (store X (paint D y true) r) (ending (repair n 36 X D r x))))
       go true u e = (A, B, refl)
-      go false true e = (A, both-dye n C D y true (red-slot n D y e) B, refl)
+      go false true e = (A, both-paint n C D y true (red-slot n D y e) B, refl)
       go false false e = same-ending n (repair n 36 W C r x) (repair n 36 X D r x) (same-repair 36 W X C D r x A B l)
 
   same-leftmost : (height : ℕ) (W X : List ℕ) (k : ℕ) → Agree n W X → k < n → leftmost n height W k ≡ leftmost n height X k
@@ -177,12 +177,12 @@ module _ (n : ℕ) where
   unfolding swapRemove
   same-swapRemove W X C D r z v A B lz lv = rw (B .1 .1 z lz) (go (eqb v z))
     where
-      go : (t : Bool) → Alike n (cond t (store (cleared W z) C r) (store (cleared (relinked n W z v) z) (dye C v (red D z)) (instead z v r)))
-          (cond t (store (cleared X z) D r) (store (cleared (relinked n X z v) z) (dye D v (red D z)) (instead z v r)))
+      go : (t : Bool) → Alike n (cond t (store (cleared W z) C r) (store (cleared (relinked n W z v) z) (paint C v (red D z)) (movedTo z v r)))
+          (cond t (store (cleared X z) D r) (store (cleared (relinked n X z v) z) (paint D v (red D z)) (movedTo z v r)))
       go true = (agree-cleared W X z A, B .1, refl)
       go false = (
         agree-cleared (relinked n W z v) (relinked n X z v) z (agree-relinked W X A z v lz),
-        both-dye n C D v (red D z) lv B .1,
+        both-paint n C D v (red D z) lv B .1,
         refl,
       )
 
@@ -192,12 +192,12 @@ module _ (n : ℕ) where
     sums-act two b P S c lp ls lc = refl
     sums-act three b P S c lp ls lc = refl
     sums-act four b P S c lp ls lc =
-        sums-both n (turn-4 n W b P S c) (turn-4 n X b P S c) S c ls (lc refl) (agree-turn-4 n W X b P S lp ls A c (lc refl))
+        sums-both n (rotate-4 n W b P S c) (rotate-4 n X b P S c) S c ls (lc refl) (agree-rotate-4 n W X b P S lp ls A c (lc refl))
     sums-act five b P S c lp ls lc = refl
 
-    sums-turnOf : (P : ℕ) (b : Bool) (S : ℕ) → P < n → S < n → Sums n (turnOfHulls n W C P b S) (turnOfHulls n X D P b S)
-    unfolding turnOfHulls
-    sums-turnOf P b S lp ls =
+    sums-roundOf : (P : ℕ) (b : Bool) (S : ℕ) → P < n → S < n → Sums n (roundOfHulls n W C P b S) (roundOfHulls n X D P b S)
+    unfolding roundOfHulls
+    sums-roundOf P b S lp ls =
         let k : Case = choose (red D P) (red D S) (redAt n D (kid X b S)) (redAt n D (kid X (not b) S)) in
         rw (
           A .1 (Child b) S ls,
@@ -210,19 +210,19 @@ module _ (n : ℕ) where
         (sums-act k b P S (kid X b S) lp ls
         (λ e. red-slot n D (kid X b S) (four-close (red D P) (red D S) (redAt n D (kid X b S)) (redAt n D (kid X (not b) S)) e)))
 
-    sums-turnAt : (P : ℕ) (b : Bool) → P < n → Sums n (turnAtHulls n W C P b) (turnAtHulls n X D P b)
-    unfolding turnAtHulls
-    sums-turnAt P b lp =
+    sums-roundAt : (P : ℕ) (b : Bool) → P < n → Sums n (roundAtHulls n W C P b) (roundAtHulls n X D P b)
+    unfolding roundAtHulls
+    sums-roundAt P b lp =
         rw (A .1 (Child (not b)) P lp)
-        (link-same n {A = List Work} (Sums n) (kid X (not b) P) (λ S. turnOfHulls n W C P b S) (λ S. turnOfHulls n X D P b S) [] []
-        (λ ls. sums-turnOf P b (kid X (not b) P) lp ls) refl)
+        (link-same n {A = List Work} (Sums n) (kid X (not b) P) (λ S. roundOfHulls n W C P b S) (λ S. roundOfHulls n X D P b S) [] []
+        (λ ls. sums-roundOf P b (kid X (not b) P) lp ls) refl)
 
-    sums-step : (ix : ℕ) → ix < n → Sums n (stepHulls n W C ix) (stepHulls n X D ix)
-    unfolding stepHulls
-    sums-step ix li =
+    sums-round : (ix : ℕ) → ix < n → Sums n (roundHulls n W C ix) (roundHulls n X D ix)
+    unfolding roundHulls
+    sums-round ix li =
         rw (A .1 Parent ix li)
-        (link-same n {A = List Work} (Sums n) (par X ix) (λ P. turnAtHulls n W C P (eqb (kid W true P) ix)) (λ P. turnAtHulls n X D P (eqb (kid X true P) ix)) [] []
-        (λ lp. rw (A .1 (Child true) (par X ix) lp) (sums-turnAt (par X ix) (eqb (kid X true (par X ix)) ix) lp)) refl)
+        (link-same n {A = List Work} (Sums n) (par X ix) (λ P. roundAtHulls n W C P (eqb (kid W true P) ix)) (λ P. roundAtHulls n X D P (eqb (kid X true P) ix)) [] []
+        (λ lp. rw (A .1 (Child true) (par X ix) lp) (sums-roundAt (par X ix) (eqb (kid X true (par X ix)) ix) lp)) refl)
 
     sums-cut : (g v : ℕ) → Sums n (cutHulls n W g v) (cutHulls n X g v)
     unfolding cutHulls removeChild
@@ -230,12 +230,12 @@ module _ (n : ℕ) where
         link-same n {A = List Work} (Sums n) g (λ s. upHulls n 32 (redirected W s v U) s) (λ s. upHulls n 32 (redirected X s v U) s) [] []
         (λ h. sums-up n 32 (redirected W g v U) (redirected X g v U) g (agree-redirected n W X g v U h A)) refl
 
-  sums-repair : (turns : ℕ) (W X C D : List ℕ) (r ix : ℕ) → Agree n W X → Both n C D → ix < n → Sums n (repairHulls n turns W C r ix) (repairHulls n turns X D r ix)
+  sums-repair : (rounds : ℕ) (W X C D : List ℕ) (r ix : ℕ) → Agree n W X → Both n C D → ix < n → Sums n (repairHulls n rounds W C r ix) (repairHulls n rounds X D r ix)
   unfolding repairHulls
   sums-repair zero W X C D r ix A B l = refl
-  sums-repair (suc turns) W X C D r ix A B l =
-      sums-append n (stepHulls n W C ix) _ (stepHulls n X D ix) _ (sums-step W X C D A B ix l)
-      (sums-onward n (λ X D q i. repairHulls n turns X D q i) (sums-repair turns) (step n W C r ix) (step n X D r ix) (same-step W X C D A B r ix l))
+  sums-repair (suc rounds) W X C D r ix A B l =
+      sums-append n (roundHulls n W C ix) _ (roundHulls n X D ix) _ (sums-round W X C D A B ix l)
+      (sums-onward n (λ X D q i. repairHulls n rounds X D q i) (sums-repair rounds) (round n W C r ix) (round n X D r ix) (same-round W X C D A B r ix l))
 
   sums-restructure : (W X C D : List ℕ) (r x y : ℕ) → Agree n W X → Both n C D → x < n → Sums n (restructureHulls n W C r x y) (restructureHulls n X D r x y)
   unfolding restructureHulls
@@ -260,13 +260,13 @@ module _ (n : ℕ) where
       (sums-cut (handed n (S .words) x y) (handed n (T .words) x y) C D (agree-handed (S .words) (T .words) (h .0) x y l) B g v))
 
 -- a removal's answer and what it leaves
-pub record SameRemoval (n : ℕ) (R Q : Removal) : Type 0 where
+pub record SameRemoved (n : ℕ) (R Q : Removed) : Type 0 where
   pub stores : Alike n (R .store) (Q .store)
   pub values : R .value ≡ Q .value
   pub pairs : R .pairs ≡ Q .pairs
 
-module _ (W X C D : List ℕ) (n r s : ℕ) (bits : n ≤ length C * 8) (ls : s < n) (A : Agree n W X) (H : Hued n C D) where
-  same-finish : (S T : Store) (x y : ℕ) → AlikeIn n S T → x < n → SameRemoval n (finish S n s x y) (finish T n s x y)
+module _ (W X C D : List ℕ) (n r s : ℕ) (bits : n ≤ length C * 8) (ls : s < n) (A : Agree n W X) (H : SameColours n C D) where
+  same-finish : (S T : Store) (x y : ℕ) → AlikeIn n S T → x < n → SameRemoved n (finish S n s x y) (finish T n s x y)
   unfolding finish
   same-finish S T x y h l =
       let v : ℕ = emptied n x y in
@@ -282,7 +282,7 @@ module _ (W X C D : List ℕ) (n r s : ℕ) (bits : n ≤ length C * 8) (ls : s 
         pairs = refl;
       })
 
-  pub removed-below : SameRemoval n (removeRule W C n r s) (removeRule X D n r s)
+  pub removed-below : SameRemoved n (removeRule W C n r s) (removeRule X D n r s)
   unfolding removeRule removeFrom
   removed-below =
       let x : ℕ = vacated n X s in

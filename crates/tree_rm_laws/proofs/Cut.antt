@@ -10,7 +10,7 @@ use Rattle.words.specs.Nodes.{par, entry}
 use Rattle.tree.specs.Tree.{Tree, slots, without, hit, occ, size, Shape, leaf, times}
 use Rattle.tree.specs.Zipper.{Frame, plug, occs, Above}
 use Rattle.tree.specs.Hulls.{Hulls}
-use Rattle.tree.specs.Hues.{rootRed, Hues}
+use Rattle.tree.specs.RedBlack.{rootRed, RedBlack}
 use Rattle.tree.proofs.Slots.{hit-same, occ-plug, times-append, times-slots}
 use Rattle.tree.proofs.Frames.{shape-live, unplug-shape, way-height}
 use Rattle.tree.proofs.Sizes.{size-le}
@@ -20,7 +20,7 @@ use Rattle.tree_rm_laws.specs.Remove.{cutWords, cutRoot}
 use Rattle.tree_edit.proofs.Carried.{kept-entry}
 use Rattle.tree_edit.proofs.Links.{by-link, on-slot, on-none, length-redirect, kept-redirect}
 use Rattle.tree_edit.proofs.Beside.{by-same}
-use Rattle.tree_edit.proofs.Walk.{walk, entry-fixUp, length-fixUp, no-walk}
+use Rattle.tree_edit.proofs.Upward.{hulls-upward, entry-fixUp, length-fixUp, fixUp-stops}
 use Rattle.tree_edit.proofs.Fits.{fits-plug}
 use Rattle.tree_rm_laws.proofs.Loop.{Bare, Fixed}
 use Rattle.tree_rm_laws.proofs.Rows.{without-at, around}
@@ -32,7 +32,7 @@ unfolding cutWords removeChild redirect
 cut-is n W g v =
     by-link n g (λ X. X ≡ fixUp n 32 (onLink n g (λ s. redirected W s v U) W) g) (λ s. fixUp n 32 (redirected W s v U) s) W
     (λ h. rw (on-slot n g h) refl)
-    (λ h. rw (on-none n g h) (sym (no-walk n 32 W g h)))
+    (λ h. rw (on-none n g h) (sym (fixUp-stops n 32 W g h)))
 
 root-is : (n : ℕ) (W : List ℕ) (r v : ℕ) → cutRoot n r (par W v) ≡ rootAfter n W r v U
 unfolding cutRoot rootAfter
@@ -45,7 +45,7 @@ pub record Cut (n v : ℕ) (base W X : List ℕ) (K : ℕ → Bool) (r : ℕ) : 
   pub order : slots tree ≡ without v base
   pub once : (s : ℕ) → s < n → occ s tree + hit s v ≡ 1
   pub hulls : Hulls X tree
-  pub hues : Hues K tree
+  pub redBlack : RedBlack K tree
   pub top : rootRed K tree ≡ false
   pub entries : (a : ℕ) → entry X a ≡ entry W a
   pub room : n * 8 ≤ length X
@@ -66,8 +66,8 @@ module _ (n v : ℕ) (base W : List ℕ) (K : ℕ → Bool) (r : ℕ) (small : n
       let (p, k, a, sh) = unplug-shape W n r (h .q) (Bare v) (h .shape) in
       rw (sh .here, ← (sh .up)) at a
 
-  even : Hues K (plug q leaf) × (rootRed K (plug q leaf) ≡ false)
-  even = fits-plug K (h .q) leaf (h .fits) tt
+  equalBlacks : RedBlack K (plug q leaf) × (rootRed K (plug q leaf) ≡ false)
+  equalBlacks = fits-plug K (h .q) leaf (h .fits) tt
 
   live : (s : ℕ) → 0 < occ s (plug q leaf) → s < n
   live s o = shape-live W n U r (plug (h .q) (Bare v)) s (h .shape) (omega (arith, occ-plug s (h .q) (Bare v), occ-plug s (h .q) leaf))
@@ -76,7 +76,7 @@ module _ (n v : ℕ) (base W : List ℕ) (K : ℕ → Bool) (r : ℕ) (small : n
   pub short : length q ≤ 32
   short =
       let z : size (plug q leaf) ≤ n = size-le n (plug q leaf) live (λ s. omega (arith, two s, occ-plug s q leaf)) in
-      omega (arith, way-height q leaf, height-32 K (plug q leaf) (even .0) (even .1) (omega arith))
+      omega (arith, way-height q leaf, height-32 K (plug q leaf) (equalBlacks .0) (equalBlacks .1) (omega arith))
 
   all : (s : ℕ) → s < n → occ s (plug q leaf) + hit s v ≡ 1
   all s l =
@@ -95,7 +95,7 @@ module _ (n v : ℕ) (base W : List ℕ) (K : ℕ → Bool) (r : ℕ) (small : n
   cut =
       let way : Above X n (rootAfter n W r v U) q (par W v) U =
       cut-way W n r q v small (h .room) lv (omega (arith, two v, hit-same v)) (λ s. omega (arith, two s)) place in
-      let o = walk 32 X n (rootAfter n W r v U) q (par W v) U leaf small (rw length-redirect (h .room)) short
+      let o = hulls-upward 32 X n (rootAfter n W r v U) q (par W v) U leaf small (rw length-redirect (h .room)) short
       (λ s. omega (arith, two s)) way refl tt (by-same W X q (λ a i. kept-redirect n W (par W v) v U a) (h .hulls)) in
       rw (cut-is, root-is n W r v) (record {
         tree = plug q leaf;
@@ -103,8 +103,8 @@ module _ (n v : ℕ) (base W : List ℕ) (K : ℕ → Bool) (r : ℕ) (small : n
         order = slots-cut;
         once = all;
         hulls = o .0;
-        hues = even .0;
-        top = even .1;
+        redBlack = equalBlacks .0;
+        top = equalBlacks .1;
         entries = λ a. entry-fixUp n 32 X (par W v) a ∙ kept-entry W X a (kept-redirect n W (par W v) v U a);
         room = rw (length-fixUp, length-redirect) (h .room);
       })

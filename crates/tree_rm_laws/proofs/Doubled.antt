@@ -14,7 +14,7 @@ use Rattle.words.specs.Ix.{U, gone}
 use Rattle.words.specs.Nodes.{value, kid, par, swap}
 use Rattle.words.proofs.Nodes.{word-swap}
 use Rattle.words.specs.declared.node.Field.the-variants.{Child, Parent}
-use Rattle.bitvec.specs.Colours.{red, dye}
+use Rattle.bitvec.specs.Colours.{red, paint}
 use Rattle.bitvec.proofs.Bytes.{setBit-idle}
 use Rattle.tree.specs.Tree.{Tree, slots, occ, height, leaf, node}
 use Rattle.tree.specs.Zipper.{Frame, plug}
@@ -22,14 +22,14 @@ use Rattle.tree.specs.Passes.{Passes}
 use Rattle.tree.proofs.Slots.{hit-cases, hit-zero}
 use Rattle.tree.proofs.Frames.{unplug-shape, find, way-height}
 use Rattle.tree.proofs.Checked.{slot-once, tree-low}
-use Rattle.tree_rm_laws.specs.Pairs.{none, instead, home, named, lower, upper, sorted, moved}
+use Rattle.tree_rm_laws.specs.Pairs.{none, movedTo, home, named, lower, upper, byOldSlot, moved}
 use Rattle.tree_edit.specs.Links.{leftmost}
-use Rattle.tree_rm_laws.specs.Remove.{vacated, vacated′, exchanged, child, cutWords, cutRoot, swapRemove, Removal, finish, removeFrom, removeRule, removeRule′}
+use Rattle.tree_rm_laws.specs.Remove.{vacated, vacated′, exchanged, child, cutWords, cutRoot, swapRemove, Removed, finish, removeFrom, removeRule, removeRule′}
 use Rattle.tree_rm_laws.specs.Reach.{cutHulls, restructureHulls, vacateHulls, removeHullsFrom, removeHulls, removeHulls′}
 use Rattle.words.specs.declared.pair.Pair.{Pair}
 use Rattle.words.specs.declared.pair.Pairs.{Pairs}
 use Rattle.tree_edit.proofs.Links.{on-slot}
-use Rattle.tree_rm_laws.proofs.Rows.{instead-here, instead-other, instead-self}
+use Rattle.tree_rm_laws.proofs.Rows.{movedTo-here, movedTo-other, movedTo-self}
 use Rattle.tree_edit.proofs.Beside.{hulls-by}
 use Rattle.tree_rm_laws.proofs.Vacate.{leftmost-at}
 use Rattle.tree_rm_laws.proofs.Steps.{emptied-slot, emptied-none, above-slot, above-none, handed-slot, handed-none, restructure-red, restructure-child}
@@ -45,9 +45,9 @@ module _ (p o : Pair) (told : p .old ≤ U) (only : p .old ≡ U → p ≡ none)
   none-last : (lower p none ≡ p) × (upper p none ≡ none)
   none-last = by-order p none (λ i j. (i ≡ p) × (j ≡ none)) (λ h. absurd (omega arith)) (λ h. (refl, refl))
 
-  sorted-none : sorted none p o ≡ sorted p none o
-  unfolding sorted
-  sorted-none = rw (none-first .0, none-first .1, none-last .0, none-last .1)
+  byOldSlot-none : byOldSlot none p o ≡ byOldSlot p none o
+  unfolding byOldSlot
+  byOldSlot-none = rw (none-first .0, none-first .1, none-last .0, none-last .1)
 
 told-named : (a b : ℕ) → a < U → (named a b .old ≤ U) × (named a b .old ≡ U → named a b ≡ none)
 unfolding named
@@ -60,8 +60,8 @@ told-named a b u = go (eqb a b)
 
 -- the pairs by either reading
 module _ (n z s y : ℕ) (small : n ≤ 65535) (lz : z < n) (ls : s < n) (ly : y < n) where
-  stay-live : (a : ℕ) → a < n → instead y s a < n
-  stay-live a u = hit-cases a y (λ e. rw (e, instead-here y s) ls) (λ z. rw (instead-other y s a (hit-zero a y z)) u)
+  stay-live : (a : ℕ) → a < n → movedTo y s a < n
+  stay-live a u = hit-cases a y (λ e. rw (e, movedTo-here y s) ls) (λ z. rw (movedTo-other y s a (hit-zero a y z)) u)
 
   home-both : (a : ℕ) → a < n → home n z s s y a ≡ home n z s y U a
   unfolding home
@@ -69,8 +69,8 @@ module _ (n z s y : ℕ) (small : n ≤ 65535) (lz : z < n) (ls : s < n) (ly : y
       rw (
         emptied-slot n s y ly,
         emptied-none n y U (omega arith),
-        instead-self s a,
-        instead-other U y (instead y s a) (omega (arith, stay-live a u)),
+        movedTo-self s a,
+        movedTo-other U y (movedTo y s a) (omega (arith, stay-live a u)),
       ) refl
 
   or-both : (i j : Bool) → i || i || j ≡ i || j || false
@@ -84,7 +84,7 @@ module _ (n z s y : ℕ) (small : n ≤ 65535) (lz : z < n) (ls : s < n) (ly : y
       let a : Pair = named y (home n z s y U y) in
       let o : Pair = cond (eqb z s || eqb z y || false) none (named z (home n z s y U z)) in
       rw (eq-eqb s s refl, ne-eqb y s d, lt-leb n y ly, le-leb n U (omega arith), ne-eqb z U (omega arith), home-both y ly, home-both z lz, or-both)
-      (sorted-none a o (told-named y (home n z s y U y) (omega arith) .0) (told-named y (home n z s y U y) (omega arith) .1))
+      (byOldSlot-none a o (told-named y (home n z s y U y) (omega arith) .0) (told-named y (home n z s y U y) (omega arith) .1))
 
 module _ (W C : List ℕ) (n r s y : ℕ) (ls : s < n) (ly : y < n) (small : n ≤ 65535)
     (ks : child W s ≡ y) (ky : child (swap W s y) y ≡ U) (up : par W y ≡ s) (bs : red C s ≡ false) (ry : red C y ≡ true) (ys : y ≢ s) where
@@ -92,10 +92,10 @@ module _ (W C : List ℕ) (n r s y : ℕ) (ls : s < n) (ly : y < n) (small : n �
   Z = cutWords n (swap W s y) s y
 
   -- the slot y is cut off
-  abbrev cutting : List ℕ → Pairs → Removal
+  abbrev cutting : List ℕ → Pairs → Removed
   cutting D p = record { store = swapRemove n Z D (cutRoot n r s) (n - 1) y; value = value Z y; pairs = p }
 
-  from-s : removeFrom W C n r s s ≡ cutting (dye C y true) (moved n (n - 1) s s y)
+  from-s : removeFrom W C n r s s ≡ cutting (paint C y true) (moved n (n - 1) s s y)
   unfolding removeFrom finish exchanged
   from-s =
       rw (
@@ -189,7 +189,7 @@ module _ (W C : List ℕ) (n r s : ℕ) (small : n ≤ 65535) (fit : n * 8 ≤ l
           shape = rw e at (h .shape);
           once = λ a. rw e at (most a);
           tall = low;
-          hues = rw e at (h .hues);
+          redBlack = rw e at (h .redBlack);
           top = rw e at (h .top);
           hulls = hulls-by W d (node leaf s (node l y l′)) (rw e at (h .hulls)) .0;
         } in

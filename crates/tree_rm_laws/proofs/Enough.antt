@@ -9,7 +9,7 @@ use lib.ListN.{length}
 use borrow.Author.Tests.{le-leb}
 use Rattle.words.specs.Ix.{U, onLink}
 use Rattle.words.specs.Nodes.{kid, par}
-use Rattle.bitvec.specs.Colours.{red, dye}
+use Rattle.bitvec.specs.Colours.{red, paint}
 use Rattle.tree.specs.Tree.{Tree, slots, occ, hit, height, Shape, leaf, node, times}
 use Rattle.tree.specs.Zipper.{bin, Frame, plug, occs, Above}
 use Rattle.tree.specs.Passes.{Passes}
@@ -18,13 +18,13 @@ use Rattle.tree.proofs.Frames.{unplug-shape, find, way-height}
 use Rattle.tree.proofs.Checked.{slot-once, tree-low}
 use Rattle.tree_edit.specs.Links.{redirected, removeChild, redirect, rootAfter, fixUp, leftmost}
 use Rattle.tree_edit.specs.Rounds.{Next, done, again, goOn}
-use Rattle.tree_rm_laws.specs.Repair.{step, repair}
+use Rattle.tree_rm_laws.specs.Repair.{round, repair}
 use Rattle.tree_rm_laws.specs.Remove.{vacated, exchanged, child, restructure, handed, above, cutWords, finish, removeFrom, removeRule}
 use Rattle.tree_edit.specs.Store.{Store, store}
 use Rattle.tree_rm_laws.specs.Pairs.{emptied}
 use Rattle.tree_rm_laws.specs.With.{vacatedWith, restructureWith, cutWordsWith, finishWith, removeFromWith, removeWith}
 use Rattle.tree_edit.proofs.Links.{by-link, on-slot, on-none}
-use Rattle.tree_edit.proofs.Walk.{no-walk, fixUp-more}
+use Rattle.tree_edit.proofs.Upward.{fixUp-stops, fixUp-more}
 use Rattle.tree_rm_laws.proofs.Moves.{cut-way}
 use Rattle.tree_rm_laws.proofs.Vacate.{leftmost-at, Chosen, chosen}
 use Rattle.tree_rm_laws.proofs.Steps.{restructure-child}
@@ -52,16 +52,16 @@ leftmost-more W n small i j p k l s r h a b =
     first m m′ rest rest′ e = cc
 
 -- the repair, where it came to an end
-repair-more : (n x : ℕ) (base : List ℕ) (turns m : ℕ) (W C : List ℕ) (r ix : ℕ) → turns ≤ m → Finished n x base (repair n turns W C r ix)
-    → repair n m W C r ix ≡ repair n turns W C r ix
+repair-more : (n x : ℕ) (base : List ℕ) (rounds m : ℕ) (W C : List ℕ) (r ix : ℕ) → rounds ≤ m → Finished n x base (repair n rounds W C r ix)
+    → repair n m W C r ix ≡ repair n rounds W C r ix
 unfolding repair
 repair-more n x base zero m W C r ix h e = absurd e
-repair-more n x base (suc turns) zero W C r ix h e = absurd (omega arith)
-repair-more n x base (suc turns) (suc m) W C r ix h e = go (λ W C r ix. repair-more n x base turns m W C r ix (omega arith)) (step n W C r ix) e
+repair-more n x base (suc rounds) zero W C r ix h e = absurd (omega arith)
+repair-more n x base (suc rounds) (suc m) W C r ix h e = go (λ W C r ix. repair-more n x base rounds m W C r ix (omega arith)) (round n W C r ix) e
   where
-    go : ((W C : List ℕ) (r ix : ℕ) → Finished n x base (repair n turns W C r ix) → repair n m W C r ix ≡ repair n turns W C r ix)
-        → (s : Next) → Finished n x base (goOn s (λ X D q i. repair n turns X D q i))
-        → goOn s (λ X D q i. repair n m X D q i) ≡ goOn s (λ X D q i. repair n turns X D q i)
+    go : ((W C : List ℕ) (r ix : ℕ) → Finished n x base (repair n rounds W C r ix) → repair n m W C r ix ≡ repair n rounds W C r ix)
+        → (s : Next) → Finished n x base (goOn s (λ X D q i. repair n rounds X D q i))
+        → goOn s (λ X D q i. repair n m X D q i) ≡ goOn s (λ X D q i. repair n rounds X D q i)
     go rec (done W C r) e = refl
     go rec (again W C r ix) e = rec W C r ix e
 
@@ -71,7 +71,7 @@ unfolding cutWordsWith removeChild redirect
 cut-with m n W g v =
     by-link n g (λ X. X ≡ fixUp n m (onLink n g (λ s. redirected W s v U) W) g) (λ s. fixUp n m (redirected W s v U) s) W
     (λ h. rw (on-slot n g h) refl)
-    (λ h. rw (on-none n g h) (sym (no-walk n m W g h)))
+    (λ h. rw (on-none n g h) (sym (fixUp-stops n m W g h)))
 
 cut-own : (n : ℕ) (W : List ℕ) (g v : ℕ) → cutWords n W g v ≡ cutWordsWith 32 n W g v
 unfolding cutWords cutWordsWith
@@ -90,36 +90,36 @@ module _ (n v : ℕ) (base W : List ℕ) (K : ℕ → Bool) (r : ℕ) (small : n
       ∙ sym (cut-own n W (par W v) v)
 
 -- the repair of the slot x, whose one child tree is `near`
-child-with : (turns n : ℕ) (W C : List ℕ) (r x y : ℕ) → red C x ≡ false → y < n → red C y ≡ true → restructureWith turns n W C r x y ≡ store W (dye C y true) r
+child-with : (rounds n : ℕ) (W C : List ℕ) (r x y : ℕ) → red C x ≡ false → y < n → red C y ≡ true → restructureWith rounds n W C r x y ≡ store W (paint C y true) r
 unfolding restructureWith
-child-with turns n W C r x y e h f = rw (e, on-slot n y h (λ s. red C s) false, f) refl
+child-with rounds n W C r x y e h f = rw (e, on-slot n y h (λ s. red C s) false, f) refl
 
-module _ (X C : List ℕ) (n r x : ℕ) (b : Bool) (c : List Frame) (near : Tree) (h : Spot X C n r x b c near) (turns : ℕ) (i : 36 ≤ turns) where
+module _ (X C : List ℕ) (n r x : ℕ) (b : Bool) (c : List Frame) (near : Tree) (h : Spot X C n r x b c near) (rounds : ℕ) (i : 36 ≤ rounds) where
   abbrev base : List ℕ
   base = slots (plug c (bin b near x leaf))
 
-  same-repair : near ≡ leaf → red C x ≡ false → repair n turns X C r x ≡ repair n 36 X C r x
+  same-repair : near ≡ leaf → red C x ≡ false → repair n rounds X C r x ≡ repair n 36 X C r x
   same-repair e f =
       let (o, u) = as-black X C n r x b c near h e f in
-      repair-more n x base 36 turns X C r x i (repaired 36 n x base X C r x (h .bits) o u)
+      repair-more n x base 36 rounds X C r x i (repaired 36 n x base X C r x (h .bits) o u)
 
-  bare-more : near ≡ leaf → (y : ℕ) → restructureWith turns n X C r x y ≡ restructure n X C r x y
+  bare-more : near ≡ leaf → (y : ℕ) → restructureWith rounds n X C r x y ≡ restructure n X C r x y
   unfolding restructureWith restructure
   bare-more e y = go (red C x) refl
     where
-      go : (t : Bool) → red C x ≡ t → restructureWith turns n X C r x y ≡ restructure n X C r x y
+      go : (t : Bool) → red C x ≡ t → restructureWith rounds n X C r x y ≡ restructure n X C r x y
       go true f = rw f refl
       go false f = rw (same-repair e f) refl
 
-  restructure-more : restructureWith turns n X C r x (child X x) ≡ restructure n X C r x (child X x)
+  restructure-more : restructureWith rounds n X C r x (child X x) ≡ restructure n X C r x (child X x)
   restructure-more = go near refl
     where
-      go : (u : Tree) → near ≡ u → restructureWith turns n X C r x (child X x) ≡ restructure n X C r x (child X x)
+      go : (u : Tree) → near ≡ u → restructureWith rounds n X C r x (child X x) ≡ restructure n X C r x (child X x)
       go leaf e = bare-more e (child X x)
       go (node l y l′) e =
           let (f, g) = reds X C n r x b c near h l y l′ e in
           let k : y < n = live-y X C n r x b c near h l y l′ e in
-          rw (child-y X C n r x b c near h l y l′ e, restructure-child n X C r x y f k g) (child-with turns n X C r x y f k g)
+          rw (child-y X C n r x b c near h l y l′ e, restructure-child n X C r x y f k g) (child-with rounds n X C r x y f k g)
 
 module _ (W C : List ℕ) (n r s : ℕ) (small : n ≤ 65535) (fit : n * 8 ≤ length W) (bits : n ≤ length C * 8) (ls : s < n) (h : Passes W C n r) where
   abbrev t : Tree
@@ -145,7 +145,7 @@ module _ (W C : List ℕ) (n r s : ℕ) (small : n ≤ 65535) (fit : n * 8 ≤ l
           let q : height (node u v w) ≤ 32 = omega (arith, way-height d (node l s (node u v w))) in
           rw (leftmost-more W n small links 32 s (kid W false s) u v w (sh .right) (omega arith) q) refl
 
-  module _ (x : ℕ) (ch : Chosen s x t W (exchanged W s x)) (turns hulls : ℕ) (i : 36 ≤ turns) (j : 32 ≤ hulls) where
+  module _ (x : ℕ) (ch : Chosen s x t W (exchanged W s x)) (rounds hulls : ℕ) (i : 36 ≤ rounds) (j : 32 ≤ hulls) where
     abbrev X : List ℕ
     X = exchanged W s x
 
@@ -161,8 +161,8 @@ module _ (W C : List ℕ) (n r s : ℕ) (small : n ≤ 65535) (fit : n * 8 ≤ l
     abbrev g : ℕ
     g = above n (S .words) x y
 
-    same-store : restructureWith turns n X C r x y ≡ S
-    same-store = restructure-more X C n r x (ch .b) (ch .c) (ch .near) (spot W C n r s small fit bits ls h x ch) turns i
+    same-store : restructureWith rounds n X C r x y ≡ S
+    same-store = restructure-more X C n r x (ch .b) (ch .c) (ch .near) (spot W C n r s small fit bits ls h x ch) rounds i
 
     same-words : cutWordsWith hulls n (handed n (S .words) x y) g v ≡ cutWords n (handed n (S .words) x y) g v
     same-words =
@@ -170,13 +170,13 @@ module _ (W C : List ℕ) (n r s : ℕ) (small : n ≤ 65535) (fit : n * 8 ≤ l
         rw (z .above-is)
         (cut-more n v (slots t) (handed n (S .words) x y) (red (S .colours)) (S .root) small (z .live) (count W C n r s small fit bits ls h) (z .fixed) hulls j)
 
-    from-more : removeFromWith turns hulls W C n r s x ≡ removeFrom W C n r s x
+    from-more : removeFromWith rounds hulls W C n r s x ≡ removeFrom W C n r s x
     unfolding removeFromWith removeFrom finishWith finish
     from-more = rw (same-store, same-words) refl
 
   -- greater numbers of turns, of links and of hulls than the rule's 36, 32 and 32 come to the same store, value and pairs
-  pub enough : (turns links hulls : ℕ) → 36 ≤ turns → 32 ≤ links → 32 ≤ hulls → removeWith turns links hulls W C n r s ≡ removeRule W C n r s
+  pub enough : (rounds links hulls : ℕ) → 36 ≤ rounds → 32 ≤ links → 32 ≤ hulls → removeWith rounds links hulls W C n r s ≡ removeRule W C n r s
   unfolding removeWith removeRule
-  enough turns links hulls i j k =
+  enough rounds links hulls i j k =
       rw (vacated-more links j)
-      (from-more (vacated n W s) (chosen W n r s t small fit (h .shape) (slot-once W C n r h) (h .hulls) here tall) turns hulls i k)
+      (from-more (vacated n W s) (chosen W n r s t small fit (h .shape) (slot-once W C n r h) (h .hulls) here tall) rounds hulls i k)

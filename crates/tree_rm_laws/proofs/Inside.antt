@@ -14,9 +14,9 @@ use Rattle.words.specs.declared.interval.Interval.{Interval}
 use Rattle.words.specs.declared.node.Entry.{Entry}
 use Rattle.words.specs.declared.node.Field.{Field}
 use Rattle.words.specs.declared.node.Field.the-variants.{Start, End, Value, HullStart, HullEnd, Child, Parent}
-use Rattle.bitvec.specs.Colours.{red, dye}
+use Rattle.bitvec.specs.Colours.{red, paint}
 use Rattle.tree_edit.specs.Links.{redirected, removeChild, fixUp, leftmost}
-use Rattle.tree_rm_laws.specs.Pairs.{instead, emptied, moved}
+use Rattle.tree_rm_laws.specs.Pairs.{movedTo, emptied, moved}
 use Rattle.tree_rm_laws.specs.Remove.{vacated, exchanged, child, restructure, handed, above, cutWords, cutRoot, relinked, blank, cleared, swapRemove, finish, removeFrom, removeRule, copied}
 use Rattle.tree_edit.specs.Store.{Store, store}
 use Rattle.tree_edit.specs.Inside.{Inside}
@@ -24,8 +24,8 @@ use Rattle.tree_rm_laws.specs.Corrected.{swapRemove-01, finish-01, remov
 use Rattle.words.specs.declared.pair.Pairs.{Pairs}
 use Rattle.tree_edit.proofs.Links.{by-link}
 use Rattle.tree_rm_laws.proofs.Steps.{emptied-live}
-use Rattle.tree_edit.proofs.Low.{Low, low-refl, low-trans, low-put, low-link, low-fixUp, low-swap, low-three, Dyed, dyed-refl, dyed, low-adopt, low-redirect, low-putNode}
-use Rattle.tree_rm_laws.proofs.Mended.{mended-restructure}
+use Rattle.tree_edit.proofs.Low.{Low, low-refl, low-trans, low-put, low-link, low-fixUp, low-swap, low-three, LowColours, lowColours-refl, low-paint, low-adopt, low-redirect, low-putNode}
+use Rattle.tree_rm_laws.proofs.RepairInPlace.{restructure-in-place}
 
 module _ (n : ℕ) where
   low-cleared : (W : List ℕ) (z : ℕ) → z < n → Low n W (cleared W z)
@@ -58,10 +58,10 @@ module _ (n : ℕ) where
       b : Low n W (cleared (relinked n W z v) z)
       b = low-trans n W (relinked n W z v) _ (low-relinked W z v lv) (low-cleared (relinked n W z v) z lz)
 
-      d : Dyed n C (dye C v (red C z))
-      d = dyed n C C v (red C z) lv (dyed-refl n C)
+      d : LowColours n C (paint C v (red C z))
+      d = low-paint n C C v (red C z) lv (lowColours-refl n C)
 
-      go : (t : Bool) → Inside n W C (cond t (store (cleared W z) C r) (store (cleared (relinked n W z v) z) (dye C v (red C z)) (instead z v r)))
+      go : (t : Bool) → Inside n W C (cond t (store (cleared W z) C r) (store (cleared (relinked n W z v) z) (paint C v (red C z)) (movedTo z v r)))
       go true = record { words-length = a .0; colours-length = refl; words-kept = a .1; colours-kept = λ a u. refl }
       go false = record { words-length = b .0; colours-length = d .0; words-kept = b .1; colours-kept = d .1 }
 
@@ -119,10 +119,10 @@ corrected-move n W C r z v x p last lv m = go (eqb v z)
 
     go : (t : Bool)
         → Corrected n
-        (record { store = cond t (store (blank 0 W z) C r) (store (blank 0 (relinked n W z v) z) (dye C v (red C z)) (instead z v r)); value = x; pairs = p })
-        (record { store = cond t (store (blank U W z) C r) (store (blank U (relinked n W z v) z) (dye C v (red C z)) (instead z v r)); value = x; pairs = p })
+        (record { store = cond t (store (blank 0 W z) C r) (store (blank 0 (relinked n W z v) z) (paint C v (red C z)) (movedTo z v r)); value = x; pairs = p })
+        (record { store = cond t (store (blank U W z) C r) (store (blank U (relinked n W z v) z) (paint C v (red C z)) (movedTo z v r)); value = x; pairs = p })
     go true = both W C r m
-    go false = both (relinked n W z v) (dye C v (red C z)) (instead z v r) (rw (low-relinked n W z v lv .0) m)
+    go false = both (relinked n W z v) (paint C v (red C z)) (movedTo z v r) (rw (low-relinked n W z v lv .0) m)
 
 module _ (W C : List ℕ) (n r s : ℕ) (ls : s < n) where
   abbrev x : ℕ
@@ -153,14 +153,14 @@ module _ (W C : List ℕ) (n r s : ℕ) (ls : s < n) where
   low-Z : Low n W Z
   low-Z =
       let lx : x < n = vacated-live n W s ls in
-      low-three n W X (S .words) Z (low-exchanged n W s x ls lx) (mended-restructure n X C r x y .words-in)
+      low-three n W X (S .words) Z (low-exchanged n W s x ls lx) (restructure-in-place n X C r x y .words-in)
       (low-trans n (S .words) (handed n (S .words) x y) Z (low-handed n (S .words) x y lx) (low-cutWords n (handed n (S .words) x y) g v))
 
   -- lengths stay, and what lies from the count up
   pub removed-inside : Inside n W C (removeRule W C n r s .store)
   unfolding removeRule removeFrom finish
   removed-inside =
-      let m = mended-restructure n X C r x y in
+      let m = restructure-in-place n X C r x y in
       let q = inside-swapRemove n Z (S .colours) (cutRoot n (S .root) g) (n - 1) v (omega arith) live-v in
       record {
         words-length = q .words-length ∙ low-Z .0;

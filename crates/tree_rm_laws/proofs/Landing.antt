@@ -11,7 +11,7 @@ use borrow.Author.Tests.{eqb-true, eqb-false}
 use Rattle.words.specs.Ix.{U}
 use Rattle.words.specs.Nodes.{kid, par}
 use Rattle.words.specs.declared.node.Field.the-variants.{Child, Parent}
-use Rattle.bitvec.specs.Colours.{red, dye}
+use Rattle.bitvec.specs.Colours.{red, paint}
 use Rattle.bitvec.proofs.Bytes.{bitAt-same, bitAt-other}
 use Rattle.tree.specs.Tree.{Tree, hit, occ, Shape, node}
 use Rattle.tree.specs.Zipper.{Frame, plug, occs, Above, frame}
@@ -21,21 +21,21 @@ use Rattle.tree.proofs.Slots.{hit-same, hit-ne, hit-cases, hit-zero, apart, occ
 use Rattle.tree.proofs.Frames.{shape-live, off-link, keep, unplug-shape, shrink, find}
 use Rattle.tree.proofs.Views.{view-keep}
 use Rattle.tree_edit.specs.Links.{rootAfter}
-use Rattle.tree_rm_laws.specs.Pairs.{instead}
+use Rattle.tree_rm_laws.specs.Pairs.{movedTo}
 use Rattle.tree_edit.specs.Store.{Store, store}
 use Rattle.tree_rm_laws.specs.Remove.{relinked, cleared, swapRemove}
 use Rattle.tree_edit.proofs.Carried.{Carried, Kept, datum-carried}
 use Rattle.tree_edit.proofs.Links.{on-slot, on-none, by-side}
-use Rattle.tree_edit.proofs.Turns.{off-parent}
-use Rattle.tree_rm_laws.proofs.Rows.{instead-here, instead-other}
+use Rattle.tree_edit.proofs.Rotations.{off-parent}
+use Rattle.tree_rm_laws.proofs.Rows.{movedTo-here, movedTo-other}
 use Rattle.tree_rm_laws.proofs.Moves.{move-to, is-moved, kept-relinked, carried-relinked, word-cleared}
 use Rattle.tree_rm_laws.proofs.Rename.{rename, view-rename, rename-away, rename-at}
 
 -- the store S has the tree t of W and C, with the slot z called v
 pub record Landed (W C : List ℕ) (z v : ℕ) (t : Tree) (S : Store) : Type 0 where
-  pub shape : Shape (S .words) z U (S .root) (rename (instead z v) t)
-  pub once : (s : ℕ) → s < z → occ s (rename (instead z v) t) ≡ 1
-  pub view-is : view (S .words) (red (S .colours)) (rename (instead z v) t) ≡ view W (red C) t
+  pub shape : Shape (S .words) z U (S .root) (rename (movedTo z v) t)
+  pub once : (s : ℕ) → s < z → occ s (rename (movedTo z v) t) ≡ 1
+  pub view-is : view (S .words) (red (S .colours)) (rename (movedTo z v) t) ≡ view W (red C) t
 
 -- the root is on every way up
 way-root : (W : List ℕ) (n r : ℕ) (b : Bool) (s : ℕ) (far : Tree) (c : List Frame) (p k : ℕ) → Above W n r (frame b s far ∷ c) p k
@@ -45,13 +45,13 @@ way-root W n r b s far (frame d a f ∷ c) p k h = omega (arith, way-root W n r 
 
 -- the root that is z becomes v: z is the root exactly if it has no parent
 root-moves : (W : List ℕ) (n r : ℕ) (c : List Frame) (z v : ℕ) → n ≤ 65535 → occs z c ≡ 0 → Above W n r c (par W z) z
-    → instead z v r ≡ rootAfter n W r z v
+    → movedTo z v r ≡ rootAfter n W r z v
 unfolding rootAfter
 root-moves W n r [] z v m o h =
-    rw (← (h .1)) (instead-here z v ∙ sym (on-none n (par W z) (omega (arith, h .0)) (λ s. z) v))
+    rw (← (h .1)) (movedTo-here z v ∙ sym (on-none n (par W z) (omega (arith, h .0)) (λ s. z) v))
 root-moves W n r (frame b s far ∷ c) z v m o h =
     let d : r ≢ z = λ e. let y : 0 < occs z (frame b s far ∷ c) = rw e at (way-root W n r b s far c (par W z) z h) in omega arith in
-    instead-other z v r d ∙ sym (on-slot n (par W z) (omega (arith, h .live, h .at)) (λ s. r) v)
+    movedTo-other z v r d ∙ sym (on-slot n (par W z) (omega (arith, h .live, h .at)) (λ s. r) v)
 
 module _ (n z v : ℕ) (W C : List ℕ) (r : ℕ) (t : Tree) (small : n ≤ 65535) (last : suc z ≡ n) (lv : v < n)
     (fit : n * 8 ≤ length W) (bits : n ≤ length C * 8) (shape : Shape W n U r t) (once : (s : ℕ) → s < n → occ s t + hit s v ≡ 1) where
@@ -76,7 +76,7 @@ module _ (n z v : ℕ) (W C : List ℕ) (r : ℕ) (t : Tree) (small : n ≤ 6553
   stays : v ≡ z → Landed W C z v t (store (cleared W z) C r)
   stays e =
       let no-z : occ z t ≡ 0 = rw e at no-v in
-      let same : rename (instead z v) t ≡ t = rename-away z v t no-z in
+      let same : rename (movedTo z v) t ≡ t = rename-away z v t no-z in
       record {
         shape = rw same (cleared-shape W r t no-z shape);
         once = λ s q. rw same (omega (arith, once s (omega arith), hit-ne s v (omega arith)));
@@ -90,7 +90,7 @@ module _ (n z v : ℕ) (W C : List ℕ) (r : ℕ) (t : Tree) (small : n ≤ 6553
     X = relinked n W z v
 
     abbrev S : Store
-    S = store (cleared X z) (dye C v (red C z)) (instead z v r)
+    S = store (cleared X z) (paint C v (red C z)) (movedTo z v r)
 
     at : (c : List Frame) (l r′ : Tree) → t ≡ plug c (node l z r′) → Landed W C z v t S
     at c l r′ e =
@@ -111,29 +111,29 @@ module _ (n z v : ℕ) (W C : List ℕ) (r : ℕ) (t : Tree) (small : n ≤ 6553
         let fv : v * 8 + 8 ≤ length W = omega arith in
         let sh : Shape X n U (rootAfter n W r z v) (plug c (node l v r′)) =
         move-to W X n r c l r′ z v small lv all zv a s (is-moved n W z v fv vk vg fk fg) in
-        let same : rename (instead z v) t ≡ plug c (node l v r′) =
-        ap (λ (u : Tree). rename (instead z v) u) e ∙ rename-at z v c l r′ (off-z .0) (off-z .1) (off-z .2) in
+        let same : rename (movedTo z v) t ≡ plug c (node l v r′) =
+        ap (λ (u : Tree). rename (movedTo z v) u) e ∙ rename-at z v c l r′ (off-z .0) (off-z .1) (off-z .2) in
         let zn : occ z (plug c (node l v r′)) ≡ 0 = omega (arith, occ-plug z c (node l v r′), hit-ne z v (λ e. vz (sym e))) in
         record {
           shape = rw (same, root-moves W n r c z v small (off-z .0) a) (cleared-shape X (rootAfter n W r z v) (plug c (node l v r′)) zn sh);
           once = λ s q. rw same
               (let y : occ s (plug c (node l z r′)) + hit s v ≡ 1 = rw e at (once s (omega arith)) in
               omega (arith, occ-plug s c (node l v r′), occ-plug s c (node l z r′), hit-ne s z (omega arith)));
-          view-is = view-rename W (red C) (cleared X z) (red (dye C v (red C z))) (instead z v) t
+          view-is = view-rename W (red C) (cleared X z) (red (paint C v (red C z))) (movedTo z v) t
               (λ b o. datum-at (carried-relinked n W z v fv vk vg fk fg) (kept-relinked n W z v fv vk vg fk fg) b o);
         }
       where
         datum-at : Carried W X z v → ((a : ℕ) → a ≢ v → Kept W X a) → (b : ℕ) → 0 < occ b t
-            → datum (cleared X z) (red (dye C v (red C z))) (instead z v b) ≡ datum W (red C) b
+            → datum (cleared X z) (red (paint C v (red C z))) (movedTo z v b) ≡ datum W (red C) b
         datum-at cz ck b o =
             hit-cases b z
-            (λ q. rw (q, instead-here z v)
-            (datum-carried W (cleared X z) (red C) (red (dye C v (red C z))) z v (λ g i. word-cleared X z g v vz ∙ cz g i)
+            (λ q. rw (q, movedTo-here z v)
+            (datum-carried W (cleared X z) (red C) (red (paint C v (red C z))) z v (λ g i. word-cleared X z g v vz ∙ cz g i)
             (bitAt-same C v (red C z) (omega arith))))
             (λ q. let bz : b ≢ z = hit-zero b z q in
             let bv : b ≢ v = apart b v t no-v o in
-            rw (instead-other z v b bz)
-            (datum-carried W (cleared X z) (red C) (red (dye C v (red C z))) b b (λ g i. word-cleared X z g b bz ∙ ck b bv g i)
+            rw (movedTo-other z v b bz)
+            (datum-carried W (cleared X z) (red C) (red (paint C v (red C z))) b b (λ g i. word-cleared X z g b bz ∙ ck b bv g i)
             (bitAt-other C v (red C z) b bv)))
 
     moves : Landed W C z v t S
@@ -144,6 +144,6 @@ module _ (n z v : ℕ) (W C : List ℕ) (r : ℕ) (t : Tree) (small : n ≤ 6553
   landed = go (eqb v z) refl
     where
       go : (q : Bool) → eqb v z ≡ q
-          → Landed W C z v t (cond q (store (cleared W z) C r) (store (cleared (relinked n W z v) z) (dye C v (red C z)) (instead z v r)))
+          → Landed W C z v t (cond q (store (cleared W z) C r) (store (cleared (relinked n W z v) z) (paint C v (red C z)) (movedTo z v r)))
       go true q = stays (eqb-true v z q)
       go false q = moves (eqb-false v z q)

@@ -19,7 +19,7 @@ pub mod SwapRemove
 pub mod Enough
 pub mod Doubled
 pub mod Unique
-pub mod Mended
+pub mod RepairInPlace
 pub mod Inside
 pub mod Reached
 pub mod Examples

@@ -11,22 +11,22 @@ use Rattle.words.specs.Ix.{U}
 use Rattle.words.specs.Nodes.{kid, par, fix}
 use Rattle.tree.specs.Tree.{Tree, slots, hit, occ, Node, Shape, leaf, node}
 use Rattle.tree.specs.Zipper.{bin, Frame, plug, occs, frame}
-use Rattle.tree.specs.Hues.{rootRed, blacks, Hues}
+use Rattle.tree.specs.RedBlack.{rootRed, blacks, RedBlack}
 use Rattle.tree.proofs.Slots.{hit-same, hit-zero, occ-bin, occ-plug}
 use Rattle.tree.proofs.Frames.{open-bin, plug-shape}
 use Rattle.tree_edit.specs.Links.{rootAfter}
-use Rattle.tree_edit.specs.Rotations.{turn, turn-2, turn-4}
-use Rattle.tree_edit.proofs.Links.{kept-turn, kept-turn-2, kept-turn-4}
-use Rattle.tree_edit.proofs.Beside.{HullsBy, by-turn}
-use Rattle.tree_edit.proofs.Walk.{by-four}
+use Rattle.tree_edit.specs.Rotations.{rotate, rotate-2, rotate-4}
+use Rattle.tree_edit.proofs.Links.{kept-rotate, kept-rotate-2, kept-rotate-4}
+use Rattle.tree_edit.proofs.Beside.{HullsBy, by-rotate}
+use Rattle.tree_edit.proofs.Upward.{by-four}
 use Rattle.tree_edit.proofs.Stand.{Stand, stand-up, stand-fix}
-use Rattle.tree_edit.proofs.Turns.{stand-turn, stand-turn-2}
-use Rattle.tree_rm_laws.proofs.Nephew.{stand-turn-4}
-use Rattle.tree_edit.proofs.Paint.{paint, paint-same, paint-other}
+use Rattle.tree_edit.proofs.Rotations.{stand-rotate, stand-rotate-2}
+use Rattle.tree_rm_laws.proofs.Nephew.{stand-rotate-4}
+use Rattle.tree_edit.proofs.Colours.{withColour, withColour-same, withColour-other}
 use Rattle.tree_edit.proofs.Fits.{Fits, Keeps, keeps, root-bin}
-use Rattle.tree_rm_laws.proofs.Repaint.{paint-1, paint-2, paint-3, paint-4, paint-5}
+use Rattle.tree_rm_laws.proofs.Repaint.{fits-1, fits-2, fits-3, fits-4, fits-5}
 use Rattle.tree_rm_laws.proofs.Weight.{weight, weight-le, weight-red, weight-distant}
-use Rattle.tree_edit.proofs.Rows.{turned-slots, slots-four}
+use Rattle.tree_edit.proofs.Rows.{rotated-slots, slots-four}
 
 abbrev pub Bare : ℕ → Tree
 Bare x = node leaf x leaf
@@ -37,7 +37,7 @@ Thin K x i m =
     (L : ℕ → Bool) → ((s : ℕ) → 0 < occ s (plug i (Bare x)) → L s ≡ K s) → (d : List Frame) → Fits L d m false → Fits L (i ++ d) 0 false
 
 -- The slot x is short of one black; ix is x or above it, i is the way from x up to ix, c that from ix up; `base` are all slots in tree order.
-pub record Held (n x : ℕ) (base W : List ℕ) (K : ℕ → Bool) (r ix p : ℕ) (c i : List Frame) (m : ℕ) : Type 0 where
+pub record LoopInvariant (n x : ℕ) (base W : List ℕ) (K : ℕ → Bool) (r ix p : ℕ) (c i : List Frame) (m : ℕ) : Type 0 where
   pub live : ix < n
   pub stand : Stand W n r ix p c (plug i (Bare x))
   pub fits : Fits K c (suc m) false
@@ -50,7 +50,7 @@ pub record Loop (n x : ℕ) (base W : List ℕ) (K : ℕ → Bool) (r ix : ℕ) 
   pub i : List Frame
   pub m : ℕ
   pub p : ℕ
-  pub held : Held n x base W K r ix p c i m
+  pub invariant : LoopInvariant n x base W K r ix p c i m
 
 -- the loop goes on, with less weight than w
 abbrev pub Lighter : ℕ → ℕ → List ℕ → ℕ → List ℕ → (ℕ → Bool) → ℕ → ℕ → Type 0
@@ -96,12 +96,12 @@ as-bin K false (node l s r) e k = k r s l refl
 
 -- the five cases, at the slot ix below P with the sibling S
 module _ (n x : ℕ) (base W : List ℕ) (K : ℕ → Bool) (r ix : ℕ) (b : Bool) (P S : ℕ) (c : List Frame) (C D : Tree) (i : List Frame) (m : ℕ)
-    (held : Held n x base W K r ix P (frame b P (bin b C S D) ∷ c) i m) where
+    (invariant : LoopInvariant n x base W K r ix P (frame b P (bin b C S D) ∷ c) i m) where
   abbrev t : Tree
   t = plug i (Bare x)
 
   abbrev h : Stand W n r ix P (frame b P (bin b C S D) ∷ c) t
-  h = held .stand
+  h = invariant .stand
 
   above-once : (s : ℕ) → occs s (frame b P (bin b C S D) ∷ c) ≤ 1
   above-once s = omega (arith, h .once s)
@@ -115,133 +115,133 @@ module _ (n x : ℕ) (base W : List ℕ) (K : ℕ → Bool) (r ix : ℕ) (b : Bo
   sib : Node W n P (kid W (not b) P) S (Shape W n S (kid W b S) C) (Shape W n S (kid W (not b) S) D)
   sib = open-bin W n P (kid W (not b) P) b C S D (h .way .far)
 
-  thin-1 : K P ≡ false → (m ≡ blacks (paint K S true) (bin b C S D)) × Hues (paint K S true) (bin b C S D)
-      → Thin (paint K S true) x (i ++ (frame b P (bin b C S D) ∷ [])) (suc m)
+  thin-1 : K P ≡ false → (m ≡ blacks (withColour K S true) (bin b C S D)) × RedBlack (withColour K S true) (bin b C S D)
+      → Thin (withColour K S true) x (i ++ (frame b P (bin b C S D) ∷ [])) (suc m)
   thin-1 kp z L g d q =
       let e : (s : ℕ) → occ s (plug (i ++ (frame b P (bin b C S D) ∷ [])) (Bare x)) ≡ occ s t + hit s P + occ s (bin b C S D) =
       λ s. rw plug-append (occ-bin s b t P (bin b C S D)) in
-      let k : Keeps (paint K S true) L (bin b C S D) = keeps (paint K S true) L (bin b C S D) (λ s o. g s (omega (arith, e s))) in
-      let lp : L P ≡ false = g P (omega (arith, e P, hit-same P)) ∙ paint-other K S true P P≢S ∙ kp in
-      rw append-assoc (held .thin L
-      (λ s o. g s (omega (arith, e s)) ∙ paint-other K S true s (hit-zero s S (none s o .1)))
+      let k : Keeps (withColour K S true) L (bin b C S D) = keeps (withColour K S true) L (bin b C S D) (λ s o. g s (omega (arith, e s))) in
+      let lp : L P ≡ false = g P (omega (arith, e P, hit-same P)) ∙ withColour-other K S true P P≢S ∙ kp in
+      rw append-assoc (invariant .thin L
+      (λ s o. g s (omega (arith, e s)) ∙ withColour-other K S true s (hit-zero s S (none s o .1)))
       (frame b P (bin b C S D) ∷ d)
       (record {
-        even = z .0 ∙ sym (k .blacks-is);
-        hues = k .hues-is (z .1);
-        calm = λ y. absurd (false≢true (sym lp ∙ y));
+        equalBlacks = z .0 ∙ sym (k .blacks-is);
+        redBlack = k .redBlack-is (z .1);
+        noRedRed = λ y. absurd (false≢true (sym lp ∙ y));
         rest = rw (lp, one-add) q;
       }))
 
-  pub good-1 : K P ≡ false → K S ≡ false → rootRed K C ≡ false → rootRed K D ≡ false → Lighter n x base (4 + length c) W (paint K S true) r P
+  pub good-1 : K P ≡ false → K S ≡ false → rootRed K C ≡ false → rootRed K D ≡ false → Lighter n x base (4 + length c) W (withColour K S true) r P
   good-1 kp ks kc kd =
-      let (fits, even, hues) = paint-1 K b P S c C D m above-once (held .fits) kp ks kc kd in (
+      let (fits, equalBlacks, redBlack) = fits-1 K b P S c C D m above-once (invariant .fits) kp ks kc kd in (
         record {
           c = c;
           i = i ++ (frame b P (bin b C S D) ∷ []);
           m = suc m;
           p = par W P;
-          held = record {
+          invariant = record {
             live = h .way .live;
             stand = rw plug-append (stand-up W n r b P (bin b C S D) c t P ix h);
             fits = fits;
-            thin = thin-1 kp (even, hues);
-            order = rw plug-append (held .order);
-            hulls = rw append-assoc (held .hulls);
+            thin = thin-1 kp (equalBlacks, redBlack);
+            order = rw plug-append (invariant .order);
+            hulls = rw append-assoc (invariant .hulls);
           };
         },
-        omega (arith, weight-le (paint K S true) c),
+        omega (arith, weight-le (withColour K S true) c),
       )
 
-  pub good-2 : K P ≡ false → K S ≡ true → Lighter n x base 3 (turn-2 n W b P S) (paint (paint K P true) S false) (rootAfter n W r P S) ix
+  pub good-2 : K P ≡ false → K S ≡ true → Lighter n x base 3 (rotate-2 n W b P S) (withColour (withColour K P true) S false) (rootAfter n W r P S) ix
   good-2 kp ks =
-      let L : ℕ → Bool = paint (paint K P true) S false in
+      let L : ℕ → Bool = withColour (withColour K P true) S false in
       let f : (s : ℕ) → 0 < occ s t → L s ≡ K s =
-      λ s o. paint-other _ S false s (hit-zero s S (none s o .1)) ∙ paint-other K P true s (hit-zero s P (none s o .0)) in
-      let lp : L P ≡ true = paint-other _ S false P P≢S ∙ paint-same K P true in (
+      λ s o. withColour-other _ S false s (hit-zero s S (none s o .1)) ∙ withColour-other K P true s (hit-zero s P (none s o .0)) in
+      let lp : L P ≡ true = withColour-other _ S false P P≢S ∙ withColour-same K P true in (
         record {
           c = frame b P C ∷ frame b S D ∷ c;
           i = i;
           m = m;
           p = P;
-          held = record {
-            live = held .live;
-            stand = stand-turn-2 W n r ix b P S c C D t h;
-            fits = paint-2 K b P S c C D m above-once (held .fits) kp ks;
-            thin = λ M g d q. held .thin M (λ s o. g s o ∙ f s o) d q;
-            order = turned-slots b P S c t C D ∙ held .order;
-            hulls = by-turn W (turn-2 n W b P S) b P S C D i c (kept-turn-2 n W b P S) (held .hulls);
+          invariant = record {
+            live = invariant .live;
+            stand = stand-rotate-2 W n r ix b P S c C D t h;
+            fits = fits-2 K b P S c C D m above-once (invariant .fits) kp ks;
+            thin = λ M g d q. invariant .thin M (λ s o. g s o ∙ f s o) d q;
+            order = rotated-slots b P S c t C D ∙ invariant .order;
+            hulls = by-rotate W (rotate-2 n W b P S) b P S C D i c (kept-rotate-2 n W b P S) (invariant .hulls);
           };
         },
         omega (arith, weight-red L b P C (frame b S D ∷ c) lp),
       )
 
   pub good-3 : K P ≡ true → K S ≡ false → rootRed K C ≡ false → rootRed K D ≡ false
-      → Fixed n x base W (paint (paint K P false) S true) r
+      → Fixed n x base W (withColour (withColour K P false) S true) r
   good-3 kp ks kc kd =
-      ended n x base W K (paint (paint K P false) S true) r ix P (frame b P (bin b C S D) ∷ c) i m
-      h (paint-3 K b P S c C D m above-once (held .fits) kp ks kc kd)
-      (λ s o. paint-other _ S true s (hit-zero s S (none s o .1)) ∙ paint-other K P false s (hit-zero s P (none s o .0)))
-      (held .thin) (held .order) (held .hulls)
+      ended n x base W K (withColour (withColour K P false) S true) r ix P (frame b P (bin b C S D) ∷ c) i m
+      h (fits-3 K b P S c C D m above-once (invariant .fits) kp ks kc kd)
+      (λ s o. withColour-other _ S true s (hit-zero s S (none s o .1)) ∙ withColour-other K P false s (hit-zero s P (none s o .0)))
+      (invariant .thin) (invariant .order) (invariant .hulls)
 
   pub good-4 : K S ≡ false → rootRed K C ≡ true → rootRed K D ≡ false
-      → Lighter n x base 2 (fix n (fix n (turn-4 n W b P S (kid W b S)) S) (kid W b S)) (paint (paint K (kid W b S) false) S true) r ix
+      → Lighter n x base 2 (fix n (fix n (rotate-4 n W b P S (kid W b S)) S) (kid W b S)) (withColour (withColour K (kid W b S) false) S true) r ix
   good-4 ks kc kd = as-bin K b C kc go
     where
       go : (X : Tree) (Q : ℕ) (Y : Tree) → C ≡ bin b X Q Y
-          → Lighter n x base 2 (fix n (fix n (turn-4 n W b P S (kid W b S)) S) (kid W b S)) (paint (paint K (kid W b S) false) S true) r ix
+          → Lighter n x base 2 (fix n (fix n (rotate-4 n W b P S (kid W b S)) S) (kid W b S)) (withColour (withColour K (kid W b S) false) S true) r ix
       go X Q Y e =
           let h′ : Stand W n r ix P (frame b P (bin b (bin b X Q Y) S D) ∷ c) t = rw e at h in
-          let L : ℕ → Bool = paint (paint K Q false) S true in
-          let X₄ : List ℕ = turn-4 n W b P S Q in
+          let L : ℕ → Bool = withColour (withColour K Q false) S true in
+          let X₄ : List ℕ = rotate-4 n W b P S Q in
           let kq : K Q ≡ true = sym (root-bin K b X Q Y) ∙ (rw e at kc) in
           let cq : kid W b S ≡ Q = open-bin W n S (kid W b S) b X Q Y (rw e at (sib .left)) .here in
           let qt : (s : ℕ) → 0 < occ s t → hit s Q ≡ 0 =
           λ s o. let y : occ s (bin b X Q Y) ≡ 0 = rw e at (none s o .2) in omega (arith, occ-bin s b X Q Y) in
           let f : (s : ℕ) → 0 < occ s t → L s ≡ K s =
-          λ s o. paint-other _ S true s (hit-zero s S (none s o .1)) ∙ paint-other K Q false s (hit-zero s Q (qt s o)) in
+          λ s o. withColour-other _ S true s (hit-zero s S (none s o .1)) ∙ withColour-other K Q false s (hit-zero s Q (qt s o)) in
           let qs : Q ≢ S = hit-zero Q S (omega (arith, h′ .once Q, occ-bin Q b (bin b X Q Y) S D, occ-bin Q b X Q Y, hit-same Q)) in
-          let lq : L Q ≡ false = paint-other _ S true Q qs ∙ paint-same K Q false in
-          let ls : rootRed L (bin b Y S D) ≡ true = root-bin _ b Y S D ∙ paint-same _ S true in
-          let h₄ : Stand X₄ n r ix P (frame b P (bin b X Q (bin b Y S D)) ∷ c) t = stand-turn-4 W n r ix b P S c t X Q Y D h′ in
+          let lq : L Q ≡ false = withColour-other _ S true Q qs ∙ withColour-same K Q false in
+          let ls : rootRed L (bin b Y S D) ≡ true = root-bin _ b Y S D ∙ withColour-same _ S true in
+          let h₄ : Stand X₄ n r ix P (frame b P (bin b X Q (bin b Y S D)) ∷ c) t = stand-rotate-4 W n r ix b P S c t X Q Y D h′ in
           rw cq ((
             record {
               c = frame b P (bin b X Q (bin b Y S D)) ∷ c;
               i = i;
               m = m;
               p = P;
-              held = record {
-                live = held .live;
+              invariant = record {
+                live = invariant .live;
                 stand = stand-fix (fix n X₄ S) n r ix P (frame b P (bin b X Q (bin b Y S D)) ∷ c) t Q
                     (stand-fix X₄ n r ix P (frame b P (bin b X Q (bin b Y S D)) ∷ c) t S h₄);
-                fits = paint-4 K b P S c X Q Y D m (rw e at above-once) (rw e at (held .fits)) ks kq kd;
-                thin = λ M g d q. held .thin M (λ s o. g s o ∙ f s o) d q;
-                order = slots-four b c t P X Q Y S D ∙ (rw e at (held .order));
-                hulls = by-four W X₄ n P (kid X₄ (not b) P) b P Q S X Y D i c (h .small) (h₄ .room) (kept-turn-4 n W b P S Q)
+                fits = fits-4 K b P S c X Q Y D m (rw e at above-once) (rw e at (invariant .fits)) ks kq kd;
+                thin = λ M g d q. invariant .thin M (λ s o. g s o ∙ f s o) d q;
+                order = slots-four b c t P X Q Y S D ∙ (rw e at (invariant .order));
+                hulls = by-four W X₄ n P (kid X₄ (not b) P) b P Q S X Y D i c (h .small) (h₄ .room) (kept-rotate-4 n W b P S Q)
                     (λ a. omega (arith, h′ .once a, occ-bin a b (bin b X Q Y) S D, occ-bin a b X Q Y, occ-plug a i (Bare x)))
-                    (h₄ .way .far) (rw e at (held .hulls));
+                    (h₄ .way .far) (rw e at (invariant .hulls));
               };
             },
             omega (arith, weight-distant L b P X Q (bin b Y S D) c lq ls),
           ))
 
   pub good-5 : K S ≡ false → rootRed K D ≡ true
-      → Fixed n x base (turn n W b P S) (paint (paint (paint K S (K P)) P false) (kid W (not b) S) false) (rootAfter n W r P S)
+      → Fixed n x base (rotate n W b P S) (withColour (withColour (withColour K S (K P)) P false) (kid W (not b) S) false) (rootAfter n W r P S)
   good-5 ks kd = as-bin K b D kd go
     where
       go : (X : Tree) (Q : ℕ) (Y : Tree) → D ≡ bin b X Q Y
-          → Fixed n x base (turn n W b P S) (paint (paint (paint K S (K P)) P false) (kid W (not b) S) false) (rootAfter n W r P S)
+          → Fixed n x base (rotate n W b P S) (withColour (withColour (withColour K S (K P)) P false) (kid W (not b) S) false) (rootAfter n W r P S)
       go X Q Y e =
           let h′ : Stand W n r ix P (frame b P (bin b C S (bin b X Q Y)) ∷ c) t = rw e at h in
           let kq : K Q ≡ true = sym (root-bin K b X Q Y) ∙ (rw e at kd) in
           let cq : kid W (not b) S ≡ Q = open-bin W n S (kid W (not b) S) b X Q Y (rw e at (sib .right)) .here in
           let qt : (s : ℕ) → 0 < occ s t → hit s Q ≡ 0 =
           λ s o. let y : occ s (bin b X Q Y) ≡ 0 = rw e at (none s o .3) in omega (arith, occ-bin s b X Q Y) in
-          rw cq (ended n x base (turn n W b P S) K (paint (paint (paint K S (K P)) P false) Q false) (rootAfter n W r P S) ix P
+          rw cq (ended n x base (rotate n W b P S) K (withColour (withColour (withColour K S (K P)) P false) Q false) (rootAfter n W r P S) ix P
           (frame b P C ∷ frame b S (bin b X Q Y) ∷ c) i m
-          (stand-turn W n r ix b P S c C (bin b X Q Y) t h′)
-          (paint-5 K b P S c C X Q Y m (rw e at above-once) (rw e at (held .fits)) ks kq)
-          (λ s o. paint-other _ Q false s (hit-zero s Q (qt s o)) ∙ paint-other _ P false s (hit-zero s P (none s o .0))
-          ∙ paint-other K S (K P) s (hit-zero s S (none s o .1)))
-          (held .thin)
-          (turned-slots b P S c t C (bin b X Q Y) ∙ (rw e at (held .order)))
-          (by-turn W (turn n W b P S) b P S C (bin b X Q Y) i c (kept-turn n W b P S) (rw e at (held .hulls))))
+          (stand-rotate W n r ix b P S c C (bin b X Q Y) t h′)
+          (fits-5 K b P S c C X Q Y m (rw e at above-once) (rw e at (invariant .fits)) ks kq)
+          (λ s o. withColour-other _ Q false s (hit-zero s Q (qt s o)) ∙ withColour-other _ P false s (hit-zero s P (none s o .0))
+          ∙ withColour-other K S (K P) s (hit-zero s S (none s o .1)))
+          (invariant .thin)
+          (rotated-slots b P S c t C (bin b X Q Y) ∙ (rw e at (invariant .order)))
+          (by-rotate W (rotate n W b P S) b P S C (bin b X Q Y) i c (kept-rotate n W b P S) (rw e at (invariant .hulls))))

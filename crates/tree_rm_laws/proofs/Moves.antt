@@ -20,7 +20,7 @@ use Rattle.tree_edit.specs.Links.{adopt, redirect, rootAfter}
 use Rattle.tree_rm_laws.specs.Remove.{copied, relinked, cleared}
 use Rattle.tree_edit.proofs.Carried.{Carried, Kept, carry}
 use Rattle.tree_edit.proofs.Links.{by-side, length-adopt, kept-adopt, kid-adopt, par-adopt, word-adopt-slot, par-adopt-kept, kept-redirect, par-redirect, word-redirect-slot, kid-redirect, kid-redirect-not}
-use Rattle.tree_edit.proofs.Turns.{swing, off-parent}
+use Rattle.tree_edit.proofs.Rotations.{swing, off-parent}
 
 -- what led to x is undefined
 pub cut-way : (W : List ℕ) (n r : ℕ) (c : List Frame) (x : ℕ) → n ≤ 65535 → n * 8 ≤ length W → x < n

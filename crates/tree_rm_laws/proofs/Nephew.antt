@@ -11,15 +11,15 @@ use Rattle.tree.specs.Zipper.{bin, Frame, frame}
 use Rattle.tree.proofs.Slots.{hit-same}
 use Rattle.tree.proofs.Frames.{bin-flip}
 use Rattle.tree_edit.specs.Links.{rootAfter}
-use Rattle.tree_edit.specs.Rotations.{turn-4}
-use Rattle.tree_edit.proofs.Links.{on-slot, length-turn-4}
+use Rattle.tree_edit.specs.Rotations.{rotate-4}
+use Rattle.tree_edit.proofs.Links.{on-slot, length-rotate-4}
 use Rattle.tree_edit.proofs.Stand.{Stand, stand-up, stand-down}
-use Rattle.tree_edit.proofs.Turns.{side-of, Turned, is-turn-4, stand-turned}
+use Rattle.tree_edit.proofs.Rotations.{side-of, Rotated, is-rotate-4, stand-rotated}
 
 module _ (W : List ℕ) (n r ix : ℕ) (b : Bool) (P S : ℕ) (c : List Frame) (t X : Tree) (Q : ℕ) (Y D : Tree)
     (h : Stand W n r ix P (frame b P (bin b (bin b X Q Y) S D) ∷ c) t) where
   abbrev W₄ : List ℕ
-  W₄ = turn-4 n W b P S Q
+  W₄ = rotate-4 n W b P S Q
 
   at-D : Stand W n r (kid W (not b) S) S (frame (not b) S (bin (not b) Y Q X) ∷ frame (not b) P t ∷ c) D
   at-D =
@@ -39,10 +39,10 @@ module _ (W : List ℕ) (n r ix : ℕ) (b : Bool) (P S : ℕ) (c : List Frame) (
       let d = at-D .way in
       rw par-S (side-of W n P S (not b) t (h .small) (d .live) (omega (arith, at-D .once S, hit-same S)) (d .rest .here) (d .rest .far))
 
-  turn-Q : Turned n W W₄ (not b) S Q
-  turn-Q =
-      let z : Turned n W (turn-4 n W b (par W S) S Q) (not b) S Q =
-      is-turn-4 W n r (kid W (not b) S) (not b) S Q (frame (not b) P t ∷ c) Y X D at-D b refl live-P side-S in
+  rotate-Q : Rotated n W W₄ (not b) S Q
+  rotate-Q =
+      let z : Rotated n W (rotate-4 n W b (par W S) S Q) (not b) S Q =
+      is-rotate-4 W n r (kid W (not b) S) (not b) S Q (frame (not b) P t ∷ c) Y X D at-D b refl live-P side-S in
       rw par-S at z
 
   root-is : rootAfter n W r S Q ≡ r
@@ -50,12 +50,12 @@ module _ (W : List ℕ) (n r ix : ℕ) (b : Bool) (P S : ℕ) (c : List Frame) (
   root-is = on-slot n (par W S) live-P (λ s. r) Q
 
   new-ix : kid W₄ b P ≡ ix
-  new-ix = let e : kid W₄ b (par W S) ≡ kid W b (par W S) = turn-Q .other live-P b side-S in rw par-S at e ∙ sym (h .way .here)
+  new-ix = let e : kid W₄ b (par W S) ≡ kid W b (par W S) = rotate-Q .other live-P b side-S in rw par-S at e ∙ sym (h .way .here)
 
-  pub stand-turn-4 : Stand W₄ n r ix P (frame b P (bin b X Q (bin b Y S D)) ∷ c) t
-  stand-turn-4 =
+  pub stand-rotate-4 : Stand W₄ n r ix P (frame b P (bin b X Q (bin b Y S D)) ∷ c) t
+  stand-rotate-4 =
       let a : Stand W₄ n r (kid W (not b) S) S (frame (not b) S Y ∷ frame (not b) Q X ∷ frame (not b) P t ∷ c) D =
-      let z = stand-turned W n r (kid W (not b) S) (not b) S Q (frame (not b) P t ∷ c) Y X D at-D W₄ turn-Q (length-turn-4 n W b P S Q) in rw root-is at z in
+      let z = stand-rotated W n r (kid W (not b) S) (not b) S Q (frame (not b) P t ∷ c) Y X D at-D W₄ rotate-Q (length-rotate-4 n W b P S Q) in rw root-is at z in
       let u = stand-up W₄ n r (not b) S Y (frame (not b) Q X ∷ frame (not b) P t ∷ c) D S (kid W (not b) S) a in
       let v = stand-up W₄ n r (not b) Q X (frame (not b) P t ∷ c) (bin (not b) D S Y) (par W₄ S) S u in
       let w = stand-up W₄ n r (not b) P t c (bin (not b) (bin (not b) D S Y) Q X) (par W₄ Q) Q v in

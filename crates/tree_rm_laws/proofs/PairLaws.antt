@@ -11,10 +11,10 @@ use Rattle.words.specs.Ix.{U}
 use Rattle.tree.specs.Tree.{hit, times}
 use Rattle.tree.proofs.Cases.{compare}
 use Rattle.tree.proofs.Slots.{hit-same, hit-ne, hit-cases, hit-zero}
-use Rattle.tree_rm_laws.specs.Pairs.{none, emptied, home, named, lower, upper, sorted, moved}
+use Rattle.tree_rm_laws.specs.Pairs.{none, emptied, home, named, lower, upper, byOldSlot, moved}
 use Rattle.words.specs.declared.pair.Pair.{Pair}
 use Rattle.tree_rm_laws.specs.Names.{changed, same, tally, Rest, Names}
-use Rattle.tree_rm_laws.proofs.Rows.{instead-other}
+use Rattle.tree_rm_laws.proofs.Rows.{movedTo-other}
 
 pub same-else : (a b : ℕ) (p : Pair) → a ≢ p .old → same a b p ≡ 0
 unfolding same
@@ -119,8 +119,8 @@ module _ (n : ℕ) (p q o : Pair) (l : List Pair) (exact : (a b : ℕ) → a < n
   abbrev D : Pair
   D = lower B o
 
-  names : Names n (sorted p q o) l
-  unfolding sorted
+  names : Names n (byOldSlot p q o) l
+  unfolding byOldSlot
   names =
       let (e₁, e₂) = old-two p q in
       let (e₃, e₄) = old-two B o in
@@ -193,7 +193,7 @@ module _ (n z s x y : ℕ) (l : List ℕ) (small : n ≤ 65535) (lz : z < n) (lx
 
     still : a ≢ x → a ≢ y → a ≢ z → f a ≡ a
     unfolding home
-    still dx dy dz = rw (instead-other x s a dx, instead-other y x a dy) (instead-other z (emptied n x y) a dz)
+    still dx dy dz = rw (movedTo-other x s a dx, movedTo-other y x a dy) (movedTo-other z (emptied n x y) a dz)
 
     balance : (cond (eqb x s) 0 (hit a x) + cond (leb n y) 0 (hit a y) + cond known 0 (hit a z)) * goes f a b ≡ times a l * goes f a b
     balance =

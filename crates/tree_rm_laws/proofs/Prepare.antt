@@ -14,17 +14,17 @@ use Rattle.bitvec.specs.Colours.{red}
 use Rattle.bitvec.proofs.Bytes.{length-setBit, setBit-idle}
 use Rattle.tree.specs.Tree.{Tree, slots, without, hit, leaf, node, times}
 use Rattle.tree.specs.Zipper.{bin, Frame, plug, occs, frame}
-use Rattle.tree.specs.Hues.{dark}
+use Rattle.tree.specs.RedBlack.{blackOf}
 use Rattle.tree.proofs.Slots.{hit-same, occ-bin, occ-plug, times-slots}
 use Rattle.tree.proofs.Frames.{Same, shape-live, keep, way-height}
 use Rattle.tree_edit.specs.Rounds.{done, Next, again, ending}
 use Rattle.tree_rm_laws.specs.Repair.{repair}
-use Rattle.tree_rm_laws.specs.Pairs.{instead, emptied}
+use Rattle.tree_rm_laws.specs.Pairs.{movedTo, emptied}
 use Rattle.tree_rm_laws.specs.Remove.{child, restructure, handed, above}
 use Rattle.tree_edit.specs.Store.{Store, store}
 use Rattle.tree_edit.proofs.Links.{by-side}
 use Rattle.tree_edit.proofs.Carried.{Kept, kept-entry}
-use Rattle.tree_rm_laws.proofs.Rows.{instead-other, times-without, map-id, couple, exchange, exchange-slots, around}
+use Rattle.tree_rm_laws.proofs.Rows.{movedTo-other, times-without, map-id, couple, exchange, exchange-slots, around}
 use Rattle.tree_edit.proofs.Beside.{beside, occs-parts, by-same}
 use Rattle.tree_edit.proofs.Fits.{Fits, fits-black}
 use Rattle.tree_rm_laws.proofs.Steps.{emptied-slot, emptied-none, above-slot, above-none, handed-slot, handed-none, restructure-red, restructure-child, restructure-repair}
@@ -32,7 +32,7 @@ use Rattle.tree_rm_laws.proofs.Spot.{Spot, parts, at-x, fits-x, no-chil
 use Rattle.tree_rm_laws.proofs.Weight.{weight-le}
 use Rattle.tree_rm_laws.proofs.Loop.{Bare, Lighter, Fixed}
 use Rattle.tree_rm_laws.proofs.Repaired.{Finished, repaired}
-use Rattle.tree_rm_laws.proofs.Mended.{mended}
+use Rattle.tree_rm_laws.proofs.RepairInPlace.{repair-in-place}
 
 -- A store of words Y, colours D and root q is ready: its slot v, which is x or the child y of x, hangs from g and may be cut off.
 -- X are the words before the repair.
@@ -42,7 +42,7 @@ pub record Ready (n x y v g : ℕ) (base X Y D : List ℕ) (q : ℕ) : Type 0 wh
   pub bits : n ≤ length D * 8
   pub above-is : g ≡ par Y v
   pub entries : map (entry Y) (without v base) ≡ map (entry X) (without x base)
-  pub slots-are : without v base ≡ map (instead y x) (without x base)
+  pub slots-are : without v base ≡ map (movedTo y x) (without x base)
   pub entry-is : entry Y v ≡ entry X x
 
 abbrev pub ReadyIn : ℕ → ℕ → ℕ → List ℕ → List ℕ → Store → Type 0
@@ -65,7 +65,7 @@ module _ (X C : List ℕ) (n r x : ℕ) (b : Bool) (c : List Frame) (near : Tree
   live-x : x < n
   live-x = at-x X C n r x b c near h .1 .live
 
-  fits : Fits (red C) c (dark (red C x) + 0) (red C x)
+  fits : Fits (red C) c (blackOf (red C x) + 0) (red C x)
   fits = fits-x X C n r x b c near h
 
   -- no child
@@ -91,7 +91,7 @@ module _ (X C : List ℕ) (n r x : ℕ) (b : Bool) (c : List Frame) (near : Tree
           bits = o;
           above-is = refl;
           entries = rw (fun-ext {f = entry Y} {g = entry X} e) refl;
-          slots-are = sym (map-id (instead U x) (without x base) (λ a i. instead-other U x a (omega (arith, kept-live a i, h .small))));
+          slots-are = sym (map-id (movedTo U x) (without x base) (λ a i. movedTo-other U x a (omega (arith, kept-live a i, h .small))));
           entry-is = e x;
         }
 
@@ -118,7 +118,7 @@ module _ (X C : List ℕ) (n r x : ℕ) (b : Bool) (c : List Frame) (near : Tree
             i = [];
             m = 0;
             p = par X x;
-            held = record {
+            invariant = record {
               live = live-x;
               stand = record {
                 small = h .small;
@@ -138,7 +138,7 @@ module _ (X C : List ℕ) (n r x : ℕ) (b : Bool) (c : List Frame) (near : Tree
 
     after-repair : (s : Next) → repair n 36 X C r x ≡ s → Finished n x base s → ReadyAt (ending s)
     after-repair (done Y D q) e f =
-        ready Y D q (f .0) (f .1) (λ a. ap (λ (s : Next). entry (ending s .words) a) (sym e) ∙ mended n 36 X C r x .entries a)
+        ready Y D q (f .0) (f .1) (λ a. ap (λ (s : Next). entry (ending s .words) a) (sym e) ∙ repair-in-place n 36 X C r x .entries a)
     after-repair (again Y D q i) e f = absurd f
 
     without-child : ReadyIn n x (child X x) base X (restructure n X C r x (child X x))
@@ -180,9 +180,9 @@ module _ (X C : List ℕ) (n r x : ℕ) (b : Bool) (c : List Frame) (near : Tree
           shape = keep X (swap X x y) n U r (plug c (bin b (Bare y) x leaf)) (λ a o. same-swap X x y a) (rw tree-y at (h .shape));
           once = λ s. rw tree-y at (h .once s);
           fits = record {
-            even = refl;
-            hues = tt;
-            calm = λ e. absurd (false≢true (sym (reds .0) ∙ e));
+            equalBlacks = refl;
+            redBlack = tt;
+            noRedRed = λ e. absurd (false≢true (sym (reds .0) ∙ e));
             rest = rw (reds .0) (rw (reds .0) at fits);
           };
           room = rw length-swap (h .fit);

@@ -10,17 +10,17 @@ use Rattle.words.specs.Ix.{U}
 use Rattle.words.specs.Nodes.{kid, par, swap, putKid}
 use Rattle.words.specs.declared.node.Field.the-variants.{HullStart, HullEnd, Child}
 use Rattle.words.proofs.Nodes.{word-swap, word-put-field, inLinks}
-use Rattle.bitvec.specs.Colours.{red, redAt, dye}
+use Rattle.bitvec.specs.Colours.{red, redAt, paint}
 use Rattle.tree_edit.specs.Links.{removeChild, redirected, fixUp}
 use Rattle.tree_rm_laws.specs.Pairs.{emptied}
-use Rattle.tree_edit.specs.Rotations.{turn, turn-2, turn-4}
-use Rattle.tree_rm_laws.specs.Repair.{Case, one, two, three, four, five, choose, act, turnOf, turnAt, step, repair}
+use Rattle.tree_edit.specs.Rotations.{rotate, rotate-2, rotate-4}
+use Rattle.tree_rm_laws.specs.Repair.{Case, one, two, three, four, five, choose, act, roundOf, roundAt, round, repair}
 use Rattle.tree_edit.specs.Rounds.{Next, done, again, goOn, ending}
 use Rattle.tree_rm_laws.specs.Remove.{vacated, exchanged, child, restructure, handed, above, cutWords, finish, removeFrom, removeRule}
 use Rattle.tree_edit.specs.Store.{Store, store}
 use Rattle.tree_edit.specs.Reach.{changes, upHulls, onward, Stays, Follows}
-use Rattle.tree_rm_laws.specs.Reach.{actHulls, turnOfHulls, turnAtHulls, stepHulls, repairHulls, restructureHulls, cutHulls, vacateHulls, removeHullsFrom, removeHulls, cutFrom, lastStep}
-use Rattle.tree_edit.proofs.Links.{by-link, kept-turn, kept-turn-2, kept-turn-4}
+use Rattle.tree_rm_laws.specs.Reach.{actHulls, roundOfHulls, roundAtHulls, roundHulls, repairHulls, restructureHulls, cutHulls, vacateHulls, removeHullsFrom, removeHulls, cutFrom, lastStep}
+use Rattle.tree_edit.proofs.Links.{by-link, kept-rotate, kept-rotate-2, kept-rotate-4}
 use Rattle.tree_edit.proofs.Reached.{kept-stays, from, then, linked, linked-next, follows-up, changes-le, up-most}
 
 module _ (n : ℕ) where
@@ -28,40 +28,40 @@ module _ (n : ℕ) where
   follows-act : (k : Case) (W C : List ℕ) (r ix : ℕ) (b : Bool) (P S c d : ℕ)
       → Follows n W (actHulls n k W b P S c) (ending (act n k W C r ix b P S c d) .words)
   follows-act one W C r ix b P S c d = λ a. refl
-  follows-act two W C r ix b P S c d = kept-stays W (turn-2 n W b P S) (kept-turn-2 n W b P S)
+  follows-act two W C r ix b P S c d = kept-stays W (rotate-2 n W b P S) (kept-rotate-2 n W b P S)
   follows-act three W C r ix b P S c d = λ a. refl
-  follows-act four W C r ix b P S c d = (kept-stays W (turn-4 n W b P S c) (kept-turn-4 n W b P S c), (λ a. refl, λ a. refl))
-  follows-act five W C r ix b P S c d = kept-stays W (turn n W b P S) (kept-turn n W b P S)
+  follows-act four W C r ix b P S c d = (kept-stays W (rotate-4 n W b P S c) (kept-rotate-4 n W b P S c), (λ a. refl, λ a. refl))
+  follows-act five W C r ix b P S c d = kept-stays W (rotate n W b P S) (kept-rotate n W b P S)
 
-  follows-step : (W C : List ℕ) (r ix : ℕ) → Follows n W (stepHulls n W C ix) (ending (step n W C r ix) .words)
-  unfolding stepHulls turnAtHulls turnOfHulls step turnAt turnOf
-  follows-step W C r ix =
-      linked-next n W C r (par W ix) (λ P. turnAtHulls n W C P (eqb (kid W true P) ix)) (λ P. turnAt n W C r ix P (eqb (kid W true P) ix))
+  follows-round : (W C : List ℕ) (r ix : ℕ) → Follows n W (roundHulls n W C ix) (ending (round n W C r ix) .words)
+  unfolding roundHulls roundAtHulls roundOfHulls round roundAt roundOf
+  follows-round W C r ix =
+      linked-next n W C r (par W ix) (λ P. roundAtHulls n W C P (eqb (kid W true P) ix)) (λ P. roundAt n W C r ix P (eqb (kid W true P) ix))
       (at (par W ix) (eqb (kid W true (par W ix)) ix))
     where
-      at : (P : ℕ) (b : Bool) → Follows n W (turnAtHulls n W C P b) (ending (turnAt n W C r ix P b) .words)
+      at : (P : ℕ) (b : Bool) → Follows n W (roundAtHulls n W C P b) (ending (roundAt n W C r ix P b) .words)
       at P b =
-          linked-next n W C r (kid W (not b) P) (λ S. turnOfHulls n W C P b S) (λ S. turnOf n W C r ix P b S)
+          linked-next n W C r (kid W (not b) P) (λ S. roundOfHulls n W C P b S) (λ S. roundOf n W C r ix P b S)
           (follows-act (choose (red C P) (red C (kid W (not b) P)) (redAt n C (kid W b (kid W (not b) P))) (redAt n C (kid W (not b) (kid W (not b) P))))
           W C r ix b P (kid W (not b) P) (kid W b (kid W (not b) P)) (kid W (not b) (kid W (not b) P)))
 
-  follows-repair : (turns : ℕ) (W C : List ℕ) (r ix : ℕ) → Follows n W (repairHulls n turns W C r ix) (ending (repair n turns W C r ix) .words)
+  follows-repair : (rounds : ℕ) (W C : List ℕ) (r ix : ℕ) → Follows n W (repairHulls n rounds W C r ix) (ending (repair n rounds W C r ix) .words)
   unfolding repairHulls repair
   follows-repair zero W C r ix = λ a. refl
-  follows-repair (suc turns) W C r ix = go (follows-repair turns) (step n W C r ix) (follows-step W C r ix)
+  follows-repair (suc rounds) W C r ix = go (follows-repair rounds) (round n W C r ix) (follows-round W C r ix)
     where
-      go : ((X D : List ℕ) (q i : ℕ) → Follows n X (repairHulls n turns X D q i) (ending (repair n turns X D q i) .words)) → (s : Next)
-          → Follows n W (stepHulls n W C ix) (ending s .words)
-          → Follows n W (stepHulls n W C ix ++ onward s (λ X D q i. repairHulls n turns X D q i)) (ending (goOn s (λ X D q i. repair n turns X D q i)) .words)
-      go rec (done X D q) f = then n W X (stepHulls n W C ix) [] X f (λ a. refl)
-      go rec (again X D q i) f = then n W X (stepHulls n W C ix) (repairHulls n turns X D q i) (ending (repair n turns X D q i) .words) f (rec X D q i)
+      go : ((X D : List ℕ) (q i : ℕ) → Follows n X (repairHulls n rounds X D q i) (ending (repair n rounds X D q i) .words)) → (s : Next)
+          → Follows n W (roundHulls n W C ix) (ending s .words)
+          → Follows n W (roundHulls n W C ix ++ onward s (λ X D q i. repairHulls n rounds X D q i)) (ending (goOn s (λ X D q i. repair n rounds X D q i)) .words)
+      go rec (done X D q) f = then n W X (roundHulls n W C ix) [] X f (λ a. refl)
+      go rec (again X D q i) f = then n W X (roundHulls n W C ix) (repairHulls n rounds X D q i) (ending (repair n rounds X D q i) .words) f (rec X D q i)
 
   follows-restructure : (W C : List ℕ) (r x y : ℕ) → Follows n W (restructureHulls n W C r x y) (restructure n W C r x y .words)
   unfolding restructureHulls restructure
   follows-restructure W C r x y = go (red C x) (redAt n C y)
     where
       go : (i j : Bool) → Follows n W (cond i [] (cond j [] (repairHulls n 36 W C r x)))
-          (cond i (store W C r) (cond j (store W (dye C y true) r) (ending (repair n 36 W C r x))) .words)
+          (cond i (store W C r) (cond j (store W (paint C y true) r) (ending (repair n 36 W C r x))) .words)
       go true j = λ a. refl
       go false true = λ a. refl
       go false false = follows-repair 36 W C r x
@@ -113,11 +113,11 @@ cut-then-moved W C n r s = refl
 -- how much it can be, on any words
 module _ (n : ℕ) where
   -- a turn works out two hulls at the most
-  step-two : (W C : List ℕ) (ix : ℕ) → length (stepHulls n W C ix) ≤ 2
-  unfolding stepHulls turnAtHulls turnOfHulls
-  step-two W C ix =
-      by-link n (par W ix) (λ l. length l ≤ 2) (λ P. turnAtHulls n W C P (eqb (kid W true P) ix)) []
-      (λ h. by-link n (kid W (not (side)) (par W ix)) (λ l. length l ≤ 2) (λ S. turnOfHulls n W C (par W ix) side S) []
+  round-two : (W C : List ℕ) (ix : ℕ) → length (roundHulls n W C ix) ≤ 2
+  unfolding roundHulls roundAtHulls roundOfHulls
+  round-two W C ix =
+      by-link n (par W ix) (λ l. length l ≤ 2) (λ P. roundAtHulls n W C P (eqb (kid W true P) ix)) []
+      (λ h. by-link n (kid W (not (side)) (par W ix)) (λ l. length l ≤ 2) (λ S. roundOfHulls n W C (par W ix) side S) []
       (λ i. few (choose _ _ _ _) W side (par W ix) (kid W (not side) (par W ix)) (kid W side (kid W (not side) (par W ix))))
       (λ i. omega arith))
       (λ h. omega arith)
@@ -132,8 +132,8 @@ module _ (n : ℕ) where
       few four W b P S c = omega arith
       few five W b P S c = omega arith
 
-  pub turn-le : (W C : List ℕ) (ix : ℕ) → changes n (stepHulls n W C ix) ≤ 2
-  turn-le W C ix = omega (arith, changes-le n (stepHulls n W C ix), step-two W C ix)
+  pub round-le : (W C : List ℕ) (ix : ℕ) → changes n (roundHulls n W C ix) ≤ 2
+  round-le W C ix = omega (arith, changes-le n (roundHulls n W C ix), round-two W C ix)
 
   pub cut-most : (W : List ℕ) (g v : ℕ) → changes n (cutHulls n W g v) ≤ 32
   unfolding cutHulls
@@ -141,16 +141,16 @@ module _ (n : ℕ) where
       by-link n g (λ l. changes n l ≤ 32) (λ s. upHulls n 32 (removeChild W s v) s) []
       (λ h. omega (arith, changes-le n (upHulls n 32 (removeChild W g v) g), up-most n 32 (removeChild W g v) g)) (λ h. omega arith)
 
-  repair-most : (turns : ℕ) (W C : List ℕ) (r ix : ℕ) → length (repairHulls n turns W C r ix) ≤ turns * 2
+  repair-most : (rounds : ℕ) (W C : List ℕ) (r ix : ℕ) → length (repairHulls n rounds W C r ix) ≤ rounds * 2
   unfolding repairHulls
   repair-most zero W C r ix = omega arith
-  repair-most (suc turns) W C r ix =
-      rw length-append (go (repair-most turns) (step n W C r ix))
+  repair-most (suc rounds) W C r ix =
+      rw length-append (go (repair-most rounds) (round n W C r ix))
     where
-      go : ((X D : List ℕ) (q i : ℕ) → length (repairHulls n turns X D q i) ≤ turns * 2) → (s : Next)
-          → length (stepHulls n W C ix) + length (onward s (λ X D q i. repairHulls n turns X D q i)) ≤ suc turns * 2
-      go rec (done X D q) = omega (arith, step-two W C ix)
-      go rec (again X D q i) = omega (arith, step-two W C ix, rec X D q i)
+      go : ((X D : List ℕ) (q i : ℕ) → length (repairHulls n rounds X D q i) ≤ rounds * 2) → (s : Next)
+          → length (roundHulls n W C ix) + length (onward s (λ X D q i. repairHulls n rounds X D q i)) ≤ suc rounds * 2
+      go rec (done X D q) = omega (arith, round-two W C ix)
+      go rec (again X D q i) = omega (arith, round-two W C ix, rec X D q i)
 
   pub restructure-most : (W C : List ℕ) (r x y : ℕ) → changes n (restructureHulls n W C r x y) ≤ 144
   unfolding restructureHulls

@@ -8,8 +8,8 @@ use native.Mathlib.Numerals.{one-add}
 use native.Mathlib.Nat.{zero-add}
 use Rattle.tree.specs.Tree.{Tree}
 use Rattle.tree.specs.Zipper.{bin, Frame, frame}
-use Rattle.tree.specs.Hues.{dark, rootRed, blacks, Hue, Hues}
-use Rattle.tree_edit.proofs.Fits.{Fits, Keeps, open-hue, make-hue, blacks-bin, root-bin, fits-black}
+use Rattle.tree.specs.RedBlack.{blackOf, rootRed, blacks, RedBlackNode, RedBlack}
+use Rattle.tree_edit.proofs.Fits.{Fits, Keeps, open-redBlack, make-redBlack, blacks-bin, root-bin, fits-black}
 
 not-red : {A : Type 0} {x : Bool} → x ≡ false → x ≡ true → A
 not-red p q = absurd (false≢true (sym p ∙ q))
@@ -20,20 +20,20 @@ module _ (K L : ℕ → Bool) (b : Bool) (P S : ℕ) (c : List Frame) (m : ℕ)
   pub case-1 : (C D : Tree) → K P ≡ false → K S ≡ false → rootRed K C ≡ false → rootRed K D ≡ false
       → L P ≡ false → L S ≡ true → Keeps K L C → Keeps K L D
       → Fits K (frame b P (bin b C S D) ∷ c) (suc m) false
-      → Fits L c (suc (suc m)) false × (m ≡ blacks L (bin b C S D)) × Hues L (bin b C S D)
+      → Fits L c (suc (suc m)) false × (m ≡ blacks L (bin b C S D)) × RedBlack L (bin b C S D)
   case-1 C D kp ks kc kd lp ls x y h =
-      let s : Hue K C S D (Hues K C) (Hues K D) = open-hue K b C S D (h .hues) in
-      let e : blacks L C ≡ blacks L D = x .blacks-is ∙ s .even ∙ sym (y .blacks-is) in
-      let e1 : suc m ≡ dark (K S) + blacks K C = h .even ∙ blacks-bin K b C S D (s .even) in
+      let s : RedBlackNode K C S D (RedBlack K C) (RedBlack K D) = open-redBlack K b C S D (h .redBlack) in
+      let e : blacks L C ≡ blacks L D = x .blacks-is ∙ s .equalBlacks ∙ sym (y .blacks-is) in
+      let e1 : suc m ≡ blackOf (K S) + blacks K C = h .equalBlacks ∙ blacks-bin K b C S D (s .equalBlacks) in
       let e2 : suc m ≡ 1 + blacks K C = rw ks at e1 in
       let e3 : blacks L (bin b C S D) ≡ 0 + blacks L C = rw ls at (blacks-bin L b C S D e) in (
         way (suc (suc m)) false (rw (kp, one-add) at (h .rest)),
         omega (arith, x .blacks-is),
-        make-hue L b C S D (record {
-          calm = λ q. (x .root-is ∙ kc, y .root-is ∙ kd);
-          even = e;
-          left = x .hues-is (s .left);
-          right = y .hues-is (s .right);
+        make-redBlack L b C S D (record {
+          noRedRed = λ q. (x .root-is ∙ kc, y .root-is ∙ kd);
+          equalBlacks = e;
+          left = x .redBlack-is (s .left);
+          right = y .redBlack-is (s .right);
         }),
       )
 
@@ -42,17 +42,17 @@ module _ (K L : ℕ → Bool) (b : Bool) (P S : ℕ) (c : List Frame) (m : ℕ)
       → Fits K (frame b P (bin b C S D) ∷ c) (suc m) false
       → Fits L (frame b P C ∷ frame b S D ∷ c) (suc m) false
   case-2 C D kp ks lp ls x y h =
-      let s : Hue K C S D (Hues K C) (Hues K D) = open-hue K b C S D (h .hues) in
-      let e1 : suc m ≡ dark (K S) + blacks K C = h .even ∙ blacks-bin K b C S D (s .even) in
+      let s : RedBlackNode K C S D (RedBlack K C) (RedBlack K D) = open-redBlack K b C S D (h .redBlack) in
+      let e1 : suc m ≡ blackOf (K S) + blacks K C = h .equalBlacks ∙ blacks-bin K b C S D (s .equalBlacks) in
       let e2 : suc m ≡ 0 + blacks K C = rw ks at e1 in
       record {
-        even = omega (arith, x .blacks-is);
-        hues = x .hues-is (s .left);
-        calm = λ q. (refl, x .root-is ∙ s .calm ks .0);
+        equalBlacks = omega (arith, x .blacks-is);
+        redBlack = x .redBlack-is (s .left);
+        noRedRed = λ q. (refl, x .root-is ∙ s .noRedRed ks .0);
         rest = rw lp (record {
-          even = omega (arith, y .blacks-is, s .even);
-          hues = y .hues-is (s .right);
-          calm = not-red ls;
+          equalBlacks = omega (arith, y .blacks-is, s .equalBlacks);
+          redBlack = y .redBlack-is (s .right);
+          noRedRed = not-red ls;
           rest = rw (ls, zero-add) (way (1 + suc m) false (rw kp at (h .rest)));
         });
       }
@@ -63,20 +63,20 @@ module _ (K L : ℕ → Bool) (b : Bool) (P S : ℕ) (c : List Frame) (m : ℕ)
       → Fits K (frame b P (bin b C S D) ∷ c) (suc m) false
       → Fits L (frame b P (bin b C S D) ∷ c) m false
   case-3 C D kp ks kc kd lp ls x y h =
-      let s : Hue K C S D (Hues K C) (Hues K D) = open-hue K b C S D (h .hues) in
-      let e : blacks L C ≡ blacks L D = x .blacks-is ∙ s .even ∙ sym (y .blacks-is) in
-      let e1 : suc m ≡ dark (K S) + blacks K C = h .even ∙ blacks-bin K b C S D (s .even) in
+      let s : RedBlackNode K C S D (RedBlack K C) (RedBlack K D) = open-redBlack K b C S D (h .redBlack) in
+      let e : blacks L C ≡ blacks L D = x .blacks-is ∙ s .equalBlacks ∙ sym (y .blacks-is) in
+      let e1 : suc m ≡ blackOf (K S) + blacks K C = h .equalBlacks ∙ blacks-bin K b C S D (s .equalBlacks) in
       let e2 : suc m ≡ 1 + blacks K C = rw ks at e1 in
       let e3 : blacks L (bin b C S D) ≡ 0 + blacks L C = rw ls at (blacks-bin L b C S D e) in
       record {
-        even = omega (arith, x .blacks-is);
-        hues = make-hue L b C S D (record {
-          calm = λ q. (x .root-is ∙ kc, y .root-is ∙ kd);
-          even = e;
-          left = x .hues-is (s .left);
-          right = y .hues-is (s .right);
+        equalBlacks = omega (arith, x .blacks-is);
+        redBlack = make-redBlack L b C S D (record {
+          noRedRed = λ q. (x .root-is ∙ kc, y .root-is ∙ kd);
+          equalBlacks = e;
+          left = x .redBlack-is (s .left);
+          right = y .redBlack-is (s .right);
         });
-        calm = not-red lp;
+        noRedRed = not-red lp;
         rest = rw (lp, one-add) (way (suc m) false (fits-black K c (suc m) true (rw (kp, zero-add) at (h .rest))));
       }
 
@@ -86,30 +86,30 @@ module _ (K L : ℕ → Bool) (b : Bool) (P S : ℕ) (c : List Frame) (m : ℕ)
       → Fits K (frame b P (bin b (bin b X Q Y) S D) ∷ c) (suc m) false
       → Fits L (frame b P (bin b X Q (bin b Y S D)) ∷ c) (suc m) false
   case-4 X Q Y D ks kq kd lp ls lq x y z h =
-      let s : Hue K (bin b X Q Y) S D (Hues K (bin b X Q Y)) (Hues K D) = open-hue K b (bin b X Q Y) S D (h .hues) in
-      let q : Hue K X Q Y (Hues K X) (Hues K Y) = open-hue K b X Q Y (s .left) in
-      let e1 : suc m ≡ dark (K S) + blacks K (bin b X Q Y) = h .even ∙ blacks-bin K b (bin b X Q Y) S D (s .even) in
+      let s : RedBlackNode K (bin b X Q Y) S D (RedBlack K (bin b X Q Y)) (RedBlack K D) = open-redBlack K b (bin b X Q Y) S D (h .redBlack) in
+      let q : RedBlackNode K X Q Y (RedBlack K X) (RedBlack K Y) = open-redBlack K b X Q Y (s .left) in
+      let e1 : suc m ≡ blackOf (K S) + blacks K (bin b X Q Y) = h .equalBlacks ∙ blacks-bin K b (bin b X Q Y) S D (s .equalBlacks) in
       let e2 : suc m ≡ 1 + blacks K (bin b X Q Y) = rw ks at e1 in
-      let e3 : blacks K (bin b X Q Y) ≡ 0 + blacks K X = rw kq at (blacks-bin K b X Q Y (q .even)) in
-      let f1 : blacks L Y ≡ blacks L D = omega (arith, y .blacks-is, z .blacks-is, s .even, q .even) in
+      let e3 : blacks K (bin b X Q Y) ≡ 0 + blacks K X = rw kq at (blacks-bin K b X Q Y (q .equalBlacks)) in
+      let f1 : blacks L Y ≡ blacks L D = omega (arith, y .blacks-is, z .blacks-is, s .equalBlacks, q .equalBlacks) in
       let f2 : blacks L (bin b Y S D) ≡ 0 + blacks L Y = rw ls at (blacks-bin L b Y S D f1) in
-      let f3 : blacks L X ≡ blacks L (bin b Y S D) = omega (arith, x .blacks-is, y .blacks-is, q .even) in
+      let f3 : blacks L X ≡ blacks L (bin b Y S D) = omega (arith, x .blacks-is, y .blacks-is, q .equalBlacks) in
       let f4 : blacks L (bin b X Q (bin b Y S D)) ≡ 1 + blacks L X = rw lq at (blacks-bin L b X Q (bin b Y S D) f3) in
       record {
-        even = omega (arith, x .blacks-is);
-        hues = make-hue L b X Q (bin b Y S D) (record {
-          calm = not-red lq;
-          even = f3;
-          left = x .hues-is (q .left);
-          right = make-hue L b Y S D (record {
-            calm = λ o. (y .root-is ∙ q .calm kq .1, z .root-is ∙ kd);
-            even = f1;
-            left = y .hues-is (q .right);
-            right = z .hues-is (s .right);
+        equalBlacks = omega (arith, x .blacks-is);
+        redBlack = make-redBlack L b X Q (bin b Y S D) (record {
+          noRedRed = not-red lq;
+          equalBlacks = f3;
+          left = x .redBlack-is (q .left);
+          right = make-redBlack L b Y S D (record {
+            noRedRed = λ o. (y .root-is ∙ q .noRedRed kq .1, z .root-is ∙ kd);
+            equalBlacks = f1;
+            left = y .redBlack-is (q .right);
+            right = z .redBlack-is (s .right);
           });
         });
-        calm = λ o. (refl, root-bin L b X Q (bin b Y S D) ∙ lq);
-        rest = rw lp (way (dark (K P) + suc m) (K P) (h .rest));
+        noRedRed = λ o. (refl, root-bin L b X Q (bin b Y S D) ∙ lq);
+        rest = rw lp (way (blackOf (K P) + suc m) (K P) (h .rest));
       }
 
   -- black sibling, red distant nephew Q: the sibling turns into the place of the parent and takes its colour. That is the end
@@ -118,21 +118,21 @@ module _ (K L : ℕ → Bool) (b : Bool) (P S : ℕ) (c : List Frame) (m : ℕ)
       → Fits K (frame b P (bin b C S (bin b X Q Y)) ∷ c) (suc m) false
       → Fits L (frame b P C ∷ frame b S (bin b X Q Y) ∷ c) m false
   case-5 C X Q Y ks kq lp ls lq x y z h =
-      let s : Hue K C S (bin b X Q Y) (Hues K C) (Hues K (bin b X Q Y)) = open-hue K b C S (bin b X Q Y) (h .hues) in
-      let q : Hue K X Q Y (Hues K X) (Hues K Y) = open-hue K b X Q Y (s .right) in
-      let e1 : suc m ≡ dark (K S) + blacks K C = h .even ∙ blacks-bin K b C S (bin b X Q Y) (s .even) in
+      let s : RedBlackNode K C S (bin b X Q Y) (RedBlack K C) (RedBlack K (bin b X Q Y)) = open-redBlack K b C S (bin b X Q Y) (h .redBlack) in
+      let q : RedBlackNode K X Q Y (RedBlack K X) (RedBlack K Y) = open-redBlack K b X Q Y (s .right) in
+      let e1 : suc m ≡ blackOf (K S) + blacks K C = h .equalBlacks ∙ blacks-bin K b C S (bin b X Q Y) (s .equalBlacks) in
       let e2 : suc m ≡ 1 + blacks K C = rw ks at e1 in
-      let e3 : blacks K (bin b X Q Y) ≡ 0 + blacks K X = rw kq at (blacks-bin K b X Q Y (q .even)) in
-      let f1 : blacks L X ≡ blacks L Y = omega (arith, y .blacks-is, z .blacks-is, q .even) in
+      let e3 : blacks K (bin b X Q Y) ≡ 0 + blacks K X = rw kq at (blacks-bin K b X Q Y (q .equalBlacks)) in
+      let f1 : blacks L X ≡ blacks L Y = omega (arith, y .blacks-is, z .blacks-is, q .equalBlacks) in
       let f2 : blacks L (bin b X Q Y) ≡ 1 + blacks L X = rw lq at (blacks-bin L b X Q Y f1) in
       record {
-        even = omega (arith, x .blacks-is);
-        hues = x .hues-is (s .left);
-        calm = not-red lp;
+        equalBlacks = omega (arith, x .blacks-is);
+        redBlack = x .redBlack-is (s .left);
+        noRedRed = not-red lp;
         rest = rw lp (record {
-          even = omega (arith, y .blacks-is, s .even);
-          hues = make-hue L b X Q Y (record { calm = not-red lq; even = f1; left = y .hues-is (q .left); right = z .hues-is (q .right) });
-          calm = λ o. (refl, root-bin L b X Q Y ∙ lq);
-          rest = rw (ls, one-add) (way (dark (K P) + suc m) (K P) (h .rest));
+          equalBlacks = omega (arith, y .blacks-is, s .equalBlacks);
+          redBlack = make-redBlack L b X Q Y (record { noRedRed = not-red lq; equalBlacks = f1; left = y .redBlack-is (q .left); right = z .redBlack-is (q .right) });
+          noRedRed = λ o. (refl, root-bin L b X Q Y ∙ lq);
+          rest = rw (ls, one-add) (way (blackOf (K P) + suc m) (K P) (h .rest));
         });
       }

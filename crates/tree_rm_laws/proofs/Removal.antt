@@ -21,13 +21,13 @@ use Rattle.tree.specs.Order.{RisingAt}
 use Rattle.tree.specs.Passes.{Passes}
 use Rattle.tree.proofs.Slots.{hit-same, occ-bin, occ-plug, times-append, times-slots}
 use Rattle.tree.proofs.Frames.{Same, keep}
-use Rattle.tree.proofs.Views.{rootRed-view, entries-view, hulls-view, hues-view}
+use Rattle.tree.proofs.Views.{rootRed-view, entries-view, hulls-view, redBlack-view}
 use Rattle.tree.proofs.Checked.{slot-live, slot-once, tree-low}
-use Rattle.tree_rm_laws.specs.Pairs.{instead, emptied, home, moved}
+use Rattle.tree_rm_laws.specs.Pairs.{movedTo, emptied, home, moved}
 use Rattle.tree_rm_laws.specs.Remove.{vacated, exchanged, child, restructure, handed, above, cutWords, cutRoot, swapRemove, finish, removeFrom, removeRule}
 use Rattle.tree_edit.specs.Store.{Store}
 use Rattle.tree_rm_laws.specs.Names.{changed, Names}
-use Rattle.tree_rm_laws.specs.Removed.{Removed}
+use Rattle.tree_rm_laws.specs.RemovalGuarantee.{RemovalGuarantee}
 use Rattle.tree_rm_laws.proofs.Inside.{low-exchanged}
 use Rattle.tree_rm_laws.proofs.Rows.{without-at, times-without, split, rising-without, rising-entries, proper-entries}
 use Rattle.tree_edit.proofs.Rows.{map-same}
@@ -115,7 +115,7 @@ module _ (W C : List ℕ) (n r s : ℕ) (small : n ≤ 65535) (fit : n * 8 ≤ l
           shape = rw (ch .tree-is) at sh;
           once = λ a. rw (ch .tree-is) at (most a);
           tall = rw (ch .tree-is) at tall;
-          hues = rw (ch .tree-is) at (h .hues);
+          redBlack = rw (ch .tree-is) at (h .redBlack);
           top = rw (ch .tree-is) at (h .top);
           hulls = ch .hulls;
         }
@@ -139,7 +139,7 @@ module _ (W C : List ℕ) (n r s : ℕ) (small : n ≤ 65535) (fit : n * 8 ≤ l
         landed n (n - 1) v Z (S .colours) (cutRoot n (S .root) g) (off .tree) small (omega arith) (ready .live) (off .room) (ready .bits) (off .shape) (off .once)
 
     abbrev u : Tree
-    u = rename (instead (n - 1) v) (off .tree)
+    u = rename (movedTo (n - 1) v) (off .tree)
 
     entries-u : map (entry (R .words)) (slots u) ≡ map (entry W) (without s (slots t))
     entries-u =
@@ -160,18 +160,18 @@ module _ (W C : List ℕ) (n r s : ℕ) (small : n ≤ 65535) (fit : n * 8 ≤ l
           rising = rising-entries W (R .words) (without s (slots t)) (slots u) entries-u kept-rising;
           hulls = hulls-view Z (red (S .colours)) (R .words) (red (R .colours)) u (off .tree) (land .view-is) (off .hulls);
           top = rootRed-view Z (red (S .colours)) (R .words) (red (R .colours)) u (off .tree) (land .view-is) ∙ off .top;
-          hues = hues-view Z (red (S .colours)) (R .words) (red (R .colours)) u (off .tree) (land .view-is) (off .hues);
+          redBlack = redBlack-view Z (red (S .colours)) (R .words) (red (R .colours)) u (off .tree) (land .view-is) (off .redBlack);
         }
 
     -- the slots of the entries that stay, where each went
     home-u : slots u ≡ map (home n (n - 1) s x y) (without s (slots t))
     unfolding home
     home-u =
-        slots-rename (instead (n - 1) v) (off .tree)
-        ∙ ap (λ (l : List ℕ). map (instead (n - 1) v) l)
-        (off .order ∙ ready .slots-are ∙ ap (λ (l : List ℕ). map (instead y x) l) (ch .slots-are)
-        ∙ map-map (instead y x) (instead x s) (without s (slots t)))
-        ∙ map-map (instead (n - 1) v) (λ (a : ℕ). instead y x (instead x s a)) (without s (slots t))
+        slots-rename (movedTo (n - 1) v) (off .tree)
+        ∙ ap (λ (l : List ℕ). map (movedTo (n - 1) v) l)
+        (off .order ∙ ready .slots-are ∙ ap (λ (l : List ℕ). map (movedTo y x) l) (ch .slots-are)
+        ∙ map-map (movedTo y x) (movedTo x s) (without s (slots t)))
+        ∙ map-map (movedTo (n - 1) v) (λ (a : ℕ). movedTo y x (movedTo x s a)) (without s (slots t))
 
     names-u : Names n (moved n (n - 1) s x y) (changed (without s (slots t)) (slots u))
     names-u =
@@ -179,7 +179,7 @@ module _ (W C : List ℕ) (n r s : ℕ) (small : n ≤ 65535) (fit : n * 8 ≤ l
         (moved-names n (n - 1) s x y (without s (slots t)) small (omega arith) live-x
         (λ d. child-is d x (omega (arith, hit-same x))) (λ d. child-is d s (ch .on-way)) rows)
 
-    removed-from : Removed W C n r s h (removeFrom W C n r s x)
+    removed-from : RemovalGuarantee W C n r s h (removeFrom W C n r s x)
     unfolding removeFrom finish passes-u
     removed-from =
         record {
@@ -189,7 +189,7 @@ module _ (W C : List ℕ) (n r s : ℕ) (small : n ≤ 65535) (fit : n * 8 ≤ l
           pairs = names-u;
         }
 
-  pub removed : Removed W C n r s h (removeRule W C n r s)
+  pub removed : RemovalGuarantee W C n r s h (removeRule W C n r s)
   unfolding removeRule
   removed =
       removed-from (vacated n W s) (chosen W n r s t small fit (h .shape) most (h .hulls) (omega (arith, h .once s ls)) tall)

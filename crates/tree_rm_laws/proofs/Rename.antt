@@ -9,8 +9,8 @@ use Rattle.tree.specs.Tree.{Tree, slots, occ, leaf, node}
 use Rattle.tree.specs.Zipper.{bin, Frame, plug, occs, frame}
 use Rattle.tree.specs.View.{datum, view}
 use Rattle.tree.proofs.Slots.{hit-same, hit-zero}
-use Rattle.tree_rm_laws.specs.Pairs.{instead}
-use Rattle.tree_rm_laws.proofs.Rows.{instead-here, instead-other}
+use Rattle.tree_rm_laws.specs.Pairs.{movedTo}
+use Rattle.tree_rm_laws.proofs.Rows.{movedTo-here, movedTo-other}
 
 abbrev pub rename : (ℕ → ℕ) → Tree → Tree
 rename f leaf = leaf
@@ -33,23 +33,23 @@ view-rename W K X L f (node l s r) h =
 
 -- one slot z gets the number v
 module _ (z v : ℕ) where
-  pub rename-away : (t : Tree) → occ z t ≡ 0 → rename (instead z v) t ≡ t
+  pub rename-away : (t : Tree) → occ z t ≡ 0 → rename (movedTo z v) t ≡ t
   rename-away leaf o = refl
   rename-away (node l s r) o =
       let d : z ≢ s = hit-zero z s (omega arith) in
-      rw (rename-away l (omega arith), rename-away r (omega arith), instead-other z v s (λ e. d (sym e)))
+      rw (rename-away l (omega arith), rename-away r (omega arith), movedTo-other z v s (λ e. d (sym e)))
 
-  rename-plug : (c : List Frame) (t : Tree) → occs z c ≡ 0 → rename (instead z v) (plug c t) ≡ plug c (rename (instead z v) t)
+  rename-plug : (c : List Frame) (t : Tree) → occs z c ≡ 0 → rename (movedTo z v) (plug c t) ≡ plug c (rename (movedTo z v) t)
   rename-plug [] t o = refl
   rename-plug (frame b s far ∷ c) t o = rename-plug c (bin b t s far) (omega arith) ∙ ap (λ (u : Tree). plug c u) (go b)
     where
       d : z ≢ s
       d = hit-zero z s (omega arith)
 
-      go : (b : Bool) → rename (instead z v) (bin b t s far) ≡ bin b (rename (instead z v) t) s far
-      go true = rw (rename-away far (omega arith), instead-other z v s (λ e. d (sym e)))
-      go false = rw (rename-away far (omega arith), instead-other z v s (λ e. d (sym e)))
+      go : (b : Bool) → rename (movedTo z v) (bin b t s far) ≡ bin b (rename (movedTo z v) t) s far
+      go true = rw (rename-away far (omega arith), movedTo-other z v s (λ e. d (sym e)))
+      go false = rw (rename-away far (omega arith), movedTo-other z v s (λ e. d (sym e)))
 
   pub rename-at : (c : List Frame) (l r : Tree) → occs z c ≡ 0 → occ z l ≡ 0 → occ z r ≡ 0
-      → rename (instead z v) (plug c (node l z r)) ≡ plug c (node l v r)
-  rename-at c l r o p q = rename-plug c (node l z r) o ∙ rw (rename-away l p, rename-away r q, instead-here z v)
+      → rename (movedTo z v) (plug c (node l z r)) ≡ plug c (node l v r)
+  rename-at c l r o p q = rename-plug c (node l z r) o ∙ rw (rename-away l p, rename-away r q, movedTo-here z v)

@@ -15,21 +15,21 @@ use Rattle.tree.specs.Zipper.{Frame, plug, frame}
 use Rattle.tree.specs.Order.{Rising, RisingAt}
 use Rattle.tree.proofs.Slots.{hit-same, hit-cases, hit-zero, times-append}
 use Rattle.tree.proofs.Orders.{after-trans, rising-same}
-use Rattle.tree_rm_laws.specs.Pairs.{instead}
+use Rattle.tree_rm_laws.specs.Pairs.{movedTo}
 use Rattle.tree_edit.proofs.Rows.{map-same}
 
 -- one slot in the place of another
-pub instead-here : (c b : ℕ) → instead c b c ≡ b
-unfolding instead
-instead-here c b = rw (eq-eqb c c refl)
+pub movedTo-here : (c b : ℕ) → movedTo c b c ≡ b
+unfolding movedTo
+movedTo-here c b = rw (eq-eqb c c refl)
 
-pub instead-other : (c b a : ℕ) → a ≢ c → instead c b a ≡ a
-unfolding instead
-instead-other c b a d = rw (ne-eqb a c d)
+pub movedTo-other : (c b a : ℕ) → a ≢ c → movedTo c b a ≡ a
+unfolding movedTo
+movedTo-other c b a d = rw (ne-eqb a c d)
 
-pub instead-self : (s a : ℕ) → instead s s a ≡ a
-instead-self s a =
-    hit-cases a s (λ e. rw e (instead-here s s)) (λ z. instead-other s s a (hit-zero a s z))
+pub movedTo-self : (s a : ℕ) → movedTo s s a ≡ a
+movedTo-self s a =
+    hit-cases a s (λ e. rw e (movedTo-here s s)) (λ z. movedTo-other s s a (hit-zero a s z))
 
 -- a slot left out
 without-append : (s : ℕ) (A B : List ℕ) → without s (A ++ B) ≡ without s A ++ without s B
@@ -105,11 +105,11 @@ module _ (d : Bool) (a b : ℕ) (A B : List ℕ) (one : (c : ℕ) → times c (A
       ap (λ (l : List ℕ). map F l) without-second ∙ map-append F A (a ∷ B) ∙ rw (x, y, fa) (sym (map-append E A (b ∷ B))) ∙ sym (ap (λ (l : List ℕ). map E l) without-first)
 
   -- what stood in the second slot stands in the first
-  pub exchange-slots : without b (A ++ couple d a b B) ≡ map (instead b a) (without a (A ++ couple d a b B))
+  pub exchange-slots : without b (A ++ couple d a b B) ≡ map (movedTo b a) (without a (A ++ couple d a b B))
   exchange-slots =
-      let x : map (instead b a) A ≡ A = map-id (instead b a) A (λ c o. instead-other b a c (absent c b A (omega (arith, parts b, hit-same b)) o)) in
-      let y : map (instead b a) B ≡ B = map-id (instead b a) B (λ c o. instead-other b a c (absent c b B (omega (arith, parts b, hit-same b)) o)) in
-      without-second ∙ sym (ap (λ (l : List ℕ). map (instead b a) l) without-first ∙ map-append (instead b a) A (b ∷ B) ∙ rw (x, y, instead-here b a))
+      let x : map (movedTo b a) A ≡ A = map-id (movedTo b a) A (λ c o. movedTo-other b a c (absent c b A (omega (arith, parts b, hit-same b)) o)) in
+      let y : map (movedTo b a) B ≡ B = map-id (movedTo b a) B (λ c o. movedTo-other b a c (absent c b B (omega (arith, parts b, hit-same b)) o)) in
+      without-second ∙ sym (ap (λ (l : List ℕ). map (movedTo b a) l) without-first ∙ map-append (movedTo b a) A (b ∷ B) ∙ rw (x, y, movedTo-here b a))
 
 -- the slots around a place
 pub around : {X : Type 0} (c : List Frame) → ((A B : List ℕ) → ((t : Tree) → slots (plug c t) ≡ A ++ (slots t ++ B)) → X) → X

@@ -11,12 +11,12 @@ use Rattle.words.specs.Nodes.{kid, par}
 use Rattle.bitvec.specs.Colours.{red}
 use Rattle.tree.specs.Tree.{Tree, hit, occ, height, Node, Shape, leaf, node}
 use Rattle.tree.specs.Zipper.{bin, Frame, plug, occs, Above}
-use Rattle.tree.specs.Hues.{dark, rootRed, blacks, Hue, Hues}
+use Rattle.tree.specs.RedBlack.{blackOf, rootRed, blacks, RedBlackNode, RedBlack}
 use Rattle.tree.proofs.Slots.{hit-same, hit-zero, occ-bin, occ-plug}
 use Rattle.tree.proofs.Frames.{open-bin, unplug-shape}
 use Rattle.tree_rm_laws.specs.Remove.{child}
 use Rattle.tree_edit.proofs.Beside.{HullsBy}
-use Rattle.tree_edit.proofs.Fits.{Fits, open-hue, blacks-bin, root-bin, plug-fits}
+use Rattle.tree_edit.proofs.Fits.{Fits, open-redBlack, blacks-bin, root-bin, plug-fits}
 use Rattle.tree_rm_laws.proofs.Loop.{Bare}
 
 -- The slot x of a store that passes but for the entries on the way from x up; `near` is its subtree on the side b, and there is none on the other.
@@ -27,7 +27,7 @@ pub record Spot (X C : List ℕ) (n r x : ℕ) (b : Bool) (c : List Frame) (near
   pub shape : Shape X n U r (plug c (bin b near x leaf))
   pub once : (a : ℕ) → occ a (plug c (bin b near x leaf)) ≤ 1
   pub tall : height (plug c (bin b near x leaf)) ≤ 32
-  pub hues : Hues (red C) (plug c (bin b near x leaf))
+  pub redBlack : RedBlack (red C) (plug c (bin b near x leaf))
   pub top : rootRed (red C) (plug c (bin b near x leaf)) ≡ false
   pub hulls : HullsBy X c
 
@@ -52,24 +52,24 @@ module _ (X C : List ℕ) (n r x : ℕ) (b : Bool) (c : List Frame) (near : Tree
       let o = open-bin X n p k b near x leaf sh in
       (rw (o .here, ← (o .up)) at a, record { here = refl; live = o .live; up = refl; left = o .left; right = o .right })
 
-  hue-x : Hue (red C) near x leaf (Hues (red C) near) Unit
-  hue-x = open-hue (red C) b near x leaf (plug-fits (red C) c (bin b near x leaf) (h .hues) (h .top) .1)
+  node-x : RedBlackNode (red C) near x leaf (RedBlack (red C) near) Unit
+  node-x = open-redBlack (red C) b near x leaf (plug-fits (red C) c (bin b near x leaf) (h .redBlack) (h .top) .1)
 
-  pub fits-x : Fits (red C) c (dark (red C x) + 0) (red C x)
+  pub fits-x : Fits (red C) c (blackOf (red C x) + 0) (red C x)
   fits-x =
-      let f = plug-fits (red C) c (bin b near x leaf) (h .hues) (h .top) .0 in
-      rw (blacks-bin (red C) b near x leaf (hue-x .even), root-bin, hue-x .even) at f
+      let f = plug-fits (red C) c (bin b near x leaf) (h .redBlack) (h .top) .0 in
+      rw (blacks-bin (red C) b near x leaf (node-x .equalBlacks), root-bin, node-x .equalBlacks) at f
 
   pub no-child : near ≡ leaf → child X x ≡ U
   no-child none = least-link b X x U (omega arith) (rw none at (at-x .1 .left)) (at-x .1 .right)
 
   -- a child
   module _ (l : Tree) (y : ℕ) (l′ : Tree) (near-is : near ≡ node l y l′) where
-    hue-y : Hue (red C) l y l′ (Hues (red C) l) (Hues (red C) l′)
-    hue-y = rw near-is at (hue-x .left)
+    node-y : RedBlackNode (red C) l y l′ (RedBlack (red C) l) (RedBlack (red C) l′)
+    node-y = rw near-is at (node-x .left)
 
-    zero-y : dark (red C y) + blacks (red C) l ≡ 0
-    zero-y = rw near-is at (hue-x .even)
+    zero-y : blackOf (red C y) + blacks (red C) l ≡ 0
+    zero-y = rw near-is at (node-x .equalBlacks)
 
     pub red-y : red C y ≡ true
     red-y = go (red C y) refl
@@ -83,12 +83,12 @@ module _ (X C : List ℕ) (n r x : ℕ) (b : Bool) (c : List Frame) (near : Tree
       where
         go : (t : Bool) → red C x ≡ t → red C x ≡ false
         go false e = e
-        go true e = let z : red C y ≡ false = rw near-is at (hue-x .calm e .0) in absurd (false≢true (sym z ∙ red-y))
+        go true e = let z : red C y ≡ false = rw near-is at (node-x .noRedRed e .0) in absurd (false≢true (sym z ∙ red-y))
 
     pub bare-y : (l ≡ leaf) × (l′ ≡ leaf)
     bare-y =
         let z : blacks (red C) l ≡ 0 = omega (arith, zero-y) in
-        (no-blacks (red C) l z (hue-y .calm red-y .0), no-blacks (red C) l′ (sym (hue-y .even) ∙ z) (hue-y .calm red-y .1))
+        (no-blacks (red C) l z (node-y .noRedRed red-y .0), no-blacks (red C) l′ (sym (node-y .equalBlacks) ∙ z) (node-y .noRedRed red-y .1))
 
     pub near-bare : near ≡ Bare y
     near-bare = near-is ∙ rw (bare-y .0, bare-y .1)

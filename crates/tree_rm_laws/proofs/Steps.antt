@@ -4,7 +4,7 @@ use mathlib.Core.Bool.{true, false}
 use mathlib.Core.List.{List}
 use Prim.Native.Nat.{ℕ, _<_, _≤_}
 use Rattle.words.specs.Nodes.{par, swap}
-use Rattle.bitvec.specs.Colours.{red, dye}
+use Rattle.bitvec.specs.Colours.{red, paint}
 use Rattle.tree_rm_laws.specs.Repair.{repair}
 use Rattle.tree_rm_laws.specs.Pairs.{emptied}
 use Rattle.tree_edit.specs.Store.{store}
@@ -50,7 +50,7 @@ module _ (n : ℕ) (W C : List ℕ) (r x y : ℕ) where
   unfolding restructure
   restructure-red e = rw e refl
 
-  pub restructure-child : red C x ≡ false → y < n → red C y ≡ true → restructure n W C r x y ≡ store W (dye C y true) r
+  pub restructure-child : red C x ≡ false → y < n → red C y ≡ true → restructure n W C r x y ≡ store W (paint C y true) r
   unfolding restructure
   restructure-child e h f = rw (e, on-slot n y h (λ s. red C s) false, f) refl
 

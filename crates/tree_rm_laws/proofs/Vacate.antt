@@ -15,14 +15,14 @@ use Rattle.tree.specs.Zipper.{bin, Frame, plug, occs, frame}
 use Rattle.tree.specs.Hulls.{Hulls}
 use Rattle.tree.proofs.Slots.{hit-same, hit-zero, occ-plug, times-slots}
 use Rattle.tree.proofs.Frames.{shape-live, unplug-shape, find, way-height}
-use Rattle.tree_rm_laws.specs.Pairs.{instead}
+use Rattle.tree_rm_laws.specs.Pairs.{movedTo}
 use Rattle.tree_edit.specs.Links.{leftmost}
 use Rattle.tree_rm_laws.specs.Remove.{vacated, exchanged}
 use Rattle.tree_edit.proofs.Carried.{Kept, kept-entry}
 use Rattle.tree_edit.proofs.Links.{on-slot, on-none}
 use Rattle.tree_edit.proofs.Beside.{HullsBy, beside, along, occs-parts, along-append, by-same, hulls-by}
 use Rattle.tree_rm_laws.proofs.Loop.{plug-append}
-use Rattle.tree_rm_laws.proofs.Rows.{instead-self, map-id, couple, exchange, exchange-slots, around}
+use Rattle.tree_rm_laws.proofs.Rows.{movedTo-self, map-id, couple, exchange, exchange-slots, around}
 
 -- the leftmost slot of a tree, within its height
 pub leftmost-at : {A : Type 0} (W : List ℕ) (n : ℕ) → n ≤ 65535 → (steps p k : ℕ) (l : Tree) (s : ℕ) (r : Tree) → Shape W n p k (node l s r)
@@ -48,7 +48,7 @@ pub record Chosen (s x : ℕ) (t : Tree) (W X : List ℕ) : Type 0 where
   pub tree-is : t ≡ plug c (bin b near x leaf)
   pub on-way : 0 < occs s c + hit s x
   pub entries : map (entry X) (without x (slots t)) ≡ map (entry W) (without s (slots t))
-  pub slots-are : without x (slots t) ≡ map (instead x s) (without s (slots t))
+  pub slots-are : without x (slots t) ≡ map (movedTo x s) (without s (slots t))
   pub entry-is : entry X x ≡ entry W s
   pub hulls : HullsBy X c
 
@@ -64,7 +64,7 @@ module _ (W : List ℕ) (n r s : ℕ) (t : Tree) (small : n ≤ 65535) (fit : n 
         tree-is = e;
         on-way = omega (arith, hit-same s);
         entries = refl;
-        slots-are = sym (map-id (instead s s) (without s (slots t)) (λ a o. instead-self s a));
+        slots-are = sym (map-id (movedTo s s) (without s (slots t)) (λ a o. movedTo-self s a));
         entry-is = refl;
         hulls = hulls-by W c (bin b near s leaf) (rw e at hulls) .0;
       }

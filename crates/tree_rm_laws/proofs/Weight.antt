@@ -7,7 +7,7 @@ use native.Mathlib.Omega.{arith}
 use lib.ListN.{length}
 use Rattle.tree.specs.Tree.{Tree, leaf, node}
 use Rattle.tree.specs.Zipper.{bin, Frame, frame}
-use Rattle.tree.specs.Hues.{rootRed}
+use Rattle.tree.specs.RedBlack.{rootRed}
 use Rattle.tree_rm_laws.specs.Repair.{Case, choose, one, two, three, four, five}
 use Rattle.tree_edit.proofs.Fits.{root-bin}
 

@@ -3,7 +3,7 @@ pub mod Pairs
 pub mod Remove
 pub mod Reach
 pub mod Names
-pub mod Removed
+pub mod RemovalGuarantee
 pub mod With
 pub mod Corrected
 pub mod Sequence

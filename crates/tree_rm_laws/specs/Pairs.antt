@@ -10,8 +10,8 @@ abbrev pub none : Pair
 none = record { old = U; new = U }
 
 -- a, and b where a is c
-unfoldable pub instead : ℕ → ℕ → ℕ → ℕ
-instead c b a = cond (eqb a c) b a
+unfoldable pub movedTo : ℕ → ℕ → ℕ → ℕ
+movedTo c b a = cond (eqb a c) b a
 
 -- the slot that is emptied: the child's where there is one
 unfoldable pub emptied : ℕ → ℕ → ℕ → ℕ
@@ -19,7 +19,7 @@ emptied n x y = onLink n y (λ s. s) x
 
 -- where the entry of slot a is at the end: x's went to s, then y's to x, then the last slot's, z, to the emptied one
 unfoldable pub home : ℕ → ℕ → ℕ → ℕ → ℕ → ℕ → ℕ
-home n z s x y a = instead z (emptied n x y) (instead y x (instead x s a))
+home n z s x y a = movedTo z (emptied n x y) (movedTo y x (movedTo x s a))
 
 -- the pair of two slots, unless they are one
 unfoldable pub named : ℕ → ℕ → Pair
@@ -33,8 +33,8 @@ unfoldable pub upper : Pair → Pair → Pair
 upper p q = cond (ltb (q .old) (p .old)) p q
 
 -- by rising old slot
-unfoldable pub sorted : Pair → Pair → Pair → Pairs
-sorted p q o =
+unfoldable pub byOldSlot : Pair → Pair → Pair → Pairs
+byOldSlot p q o =
     let a : Pair = lower p q in
     let b : Pair = upper p q in
     let c : Pair = upper b o in
@@ -44,7 +44,7 @@ sorted p q o =
 -- the slots whose entries may have moved: x, y, and the last one z where it is none of the others
 unfoldable pub moved : ℕ → ℕ → ℕ → ℕ → ℕ → Pairs
 moved n z s x y =
-    sorted
+    byOldSlot
     (cond (eqb x s) none (named x (home n z s x y x)))
     (cond (gone n y) none (named y (home n z s x y y)))
     (cond (eqb z s || eqb z x || eqb z y) none (named z (home n z s x y z)))

@@ -8,8 +8,8 @@ use Rattle.words.specs.Nodes.{kid, par}
 use Rattle.bitvec.specs.Colours.{red, redAt}
 use Rattle.tree_edit.specs.Links.{removeChild}
 use Rattle.tree_rm_laws.specs.Pairs.{emptied}
-use Rattle.tree_edit.specs.Rotations.{turn-4}
-use Rattle.tree_rm_laws.specs.Repair.{Case, one, two, three, four, five, choose, step}
+use Rattle.tree_edit.specs.Rotations.{rotate-4}
+use Rattle.tree_rm_laws.specs.Repair.{Case, one, two, three, four, five, choose, round}
 use Rattle.tree_rm_laws.specs.Remove.{vacated, vacated′, exchanged, child, restructure, handed, above, cutWords, cutRoot, swapRemove}
 use Rattle.tree_edit.specs.Store.{Store}
 use Rattle.tree_edit.specs.Reach.{Work, bothHulls, upHulls, onward}
@@ -19,22 +19,22 @@ abbrev pub actHulls : ℕ → Case → List ℕ → Bool → ℕ → ℕ → ℕ
 actHulls n one W b P S c = []
 actHulls n two W b P S c = []
 actHulls n three W b P S c = []
-actHulls n four W b P S c = bothHulls n (turn-4 n W b P S c) S c
+actHulls n four W b P S c = bothHulls n (rotate-4 n W b P S c) S c
 actHulls n five W b P S c = []
 
-unfoldable pub turnOfHulls : ℕ → List ℕ → List ℕ → ℕ → Bool → ℕ → List Work
-turnOfHulls n W C P b S =
+unfoldable pub roundOfHulls : ℕ → List ℕ → List ℕ → ℕ → Bool → ℕ → List Work
+roundOfHulls n W C P b S =
     actHulls n (choose (red C P) (red C S) (redAt n C (kid W b S)) (redAt n C (kid W (not b) S))) W b P S (kid W b S)
 
-unfoldable pub turnAtHulls : ℕ → List ℕ → List ℕ → ℕ → Bool → List Work
-turnAtHulls n W C P b = onLink n (kid W (not b) P) (λ S. turnOfHulls n W C P b S) []
+unfoldable pub roundAtHulls : ℕ → List ℕ → List ℕ → ℕ → Bool → List Work
+roundAtHulls n W C P b = onLink n (kid W (not b) P) (λ S. roundOfHulls n W C P b S) []
 
-unfoldable pub stepHulls : ℕ → List ℕ → List ℕ → ℕ → List Work
-stepHulls n W C ix = onLink n (par W ix) (λ P. turnAtHulls n W C P (eqb (kid W true P) ix)) []
+unfoldable pub roundHulls : ℕ → List ℕ → List ℕ → ℕ → List Work
+roundHulls n W C ix = onLink n (par W ix) (λ P. roundAtHulls n W C P (eqb (kid W true P) ix)) []
 
 unfoldable pub repairHulls : ℕ → ℕ → List ℕ → List ℕ → ℕ → ℕ → List Work
 repairHulls n zero W C r ix = []
-repairHulls n (suc turns) W C r ix = stepHulls n W C ix ++ onward (step n W C r ix) (λ X D q i. repairHulls n turns X D q i)
+repairHulls n (suc rounds) W C r ix = roundHulls n W C ix ++ onward (round n W C r ix) (λ X D q i. repairHulls n rounds X D q i)
 
 unfoldable pub restructureHulls : ℕ → List ℕ → List ℕ → ℕ → ℕ → ℕ → List Work
 restructureHulls n W C r x y =

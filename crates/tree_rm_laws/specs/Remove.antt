@@ -5,10 +5,10 @@ use Prim.Native.Nat.{ℕ, _-_, min}
 use lib.Dec.{eqb}
 use Rattle.words.specs.Ix.{U, gone, onLink}
 use Rattle.words.specs.Nodes.{value, kid, par, hull, entry, putNode, swap}
-use Rattle.bitvec.specs.Colours.{red, redAt, dye}
+use Rattle.bitvec.specs.Colours.{red, redAt, paint}
 use Rattle.tree_edit.specs.Links.{adopt, removeChild, redirect, fixUp, leftmost}
 use Rattle.tree_rm_laws.specs.Repair.{repair}
-use Rattle.tree_rm_laws.specs.Pairs.{instead, emptied, moved}
+use Rattle.tree_rm_laws.specs.Pairs.{movedTo, emptied, moved}
 use Rattle.words.specs.declared.pair.Pairs.{Pairs}
 use Rattle.tree_edit.specs.Store.{Store, store}
 use Rattle.tree_edit.specs.Rounds.{ending}
@@ -33,7 +33,7 @@ child W x = min (kid W true x) (kid W false x)
 unfoldable pub restructure : ℕ → List ℕ → List ℕ → ℕ → ℕ → ℕ → Store
 restructure n W C r x y =
     let repaired : Store = ending (repair n 36 W C r x) in
-    cond (red C x) (store W C r) (cond (redAt n C y) (store W (dye C y true) r) repaired)
+    cond (red C x) (store W C r) (cond (redAt n C y) (store W (paint C y true) r) repaired)
 
 -- "A child gives its interval and value to its parent and is vacated instead."
 unfoldable pub handed : ℕ → List ℕ → ℕ → ℕ → List ℕ
@@ -69,16 +69,16 @@ cleared W z = blank U W z
 -- `swap_remove`: the last slot z moves into the vacated slot v. "Its colour bit keeps what the repair left in it."
 unfoldable pub swapRemove : ℕ → List ℕ → List ℕ → ℕ → ℕ → ℕ → Store
 swapRemove n W C r z v =
-    cond (eqb v z) (store (cleared W z) C r) (store (cleared (relinked n W z v) z) (dye C v (red C z)) (instead z v r))
+    cond (eqb v z) (store (cleared W z) C r) (store (cleared (relinked n W z v) z) (paint C v (red C z)) (movedTo z v r))
 
 -- "The answer: removed value, new map, and up to three pairs"
-pub record Removal : Type 0 where
+pub record Removed : Type 0 where
   pub store : Store
   pub value : ℕ
   pub pairs : Pairs
 
 -- the slot x, with the child y, is vacated in a store that is made ready for it, for the entry of slot s
-unfoldable pub finish : Store → ℕ → ℕ → ℕ → ℕ → Removal
+unfoldable pub finish : Store → ℕ → ℕ → ℕ → ℕ → Removed
 finish t n s x y =
     let v : ℕ = emptied n x y in
     let g : ℕ = above n (t .words) x y in
@@ -86,15 +86,15 @@ finish t n s x y =
     record { store = swapRemove n W (t .colours) (cutRoot n (t .root) g) (n - 1) v; value = value W v; pairs = moved n (n - 1) s x y }
 
 -- the entry of slot s is removed, and the slot x vacated
-unfoldable pub removeFrom : List ℕ → List ℕ → ℕ → ℕ → ℕ → ℕ → Removal
+unfoldable pub removeFrom : List ℕ → List ℕ → ℕ → ℕ → ℕ → ℕ → Removed
 removeFrom W C n r s x =
     let X : List ℕ = exchanged W s x in
     finish (restructure n X C r x (child X x)) n s x (child X x)
 
 -- `remove_at`
-unfoldable pub removeRule : List ℕ → List ℕ → ℕ → ℕ → ℕ → Removal
+unfoldable pub removeRule : List ℕ → List ℕ → ℕ → ℕ → ℕ → Removed
 removeRule W C n r s = removeFrom W C n r s (vacated n W s)
 
 -- and by the other reading of the doubled test
-unfoldable pub removeRule′ : List ℕ → List ℕ → ℕ → ℕ → ℕ → Removal
+unfoldable pub removeRule′ : List ℕ → List ℕ → ℕ → ℕ → ℕ → Removed
 removeRule′ W C n r s = removeFrom W C n r s (vacated′ n W s)

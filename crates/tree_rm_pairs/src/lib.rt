@@ -6,11 +6,11 @@ use words::pair::Pairs;
 ghost use mathlib.Core.Path.{_≡_};
 ghost use mathlib.Core.Bool.{cond};
 ghost use Prim.Native.Nat.{_<_};
-ghost use Rattle.tree_rm_laws.specs.Pairs.{none, instead, emptied, home, named, lower, upper, sorted, moved};
+ghost use Rattle.tree_rm_laws.specs.Pairs.{none, movedTo, emptied, home, named, lower, upper, byOldSlot, moved};
 
 // Where what was in `slot` is after what was in `from` went to `to`.
 pub fn after_move(from: u64, to: u64, slot: u64) -> u64
-    ensures { λ r. ⌜ r ≡ instead from to slot ⌝ }
+    ensures { λ r. ⌜ r ≡ movedTo from to slot ⌝ }
 {
     if slot == from { to } else { slot }
 }
@@ -70,7 +70,7 @@ fn upper_of(p: Pair, q: Pair) -> Pair
 
 // By rising old slot; U is above every slot.
 fn sorted_pairs(p: Pair, q: Pair, o: Pair) -> Pairs
-    ensures { λ r. ⌜ r ≡ sorted p q o ⌝ }
+    ensures { λ r. ⌜ r ≡ byOldSlot p q o ⌝ }
 {
     let low = lower_of(p, q);
     let high = upper_of(p, q);

@@ -6,12 +6,12 @@ use bitvec::colours::is_red;
 use bitvec::colours::set_black;
 use bitvec::colours::set_black_at;
 use bitvec::colours::set_red;
+use tree_links::Next;
 use tree_links::Repaired;
-use tree_links::Turn;
 use tree_links::replace_children;
 use tree_links::rework_both;
+use tree_links::rotate_up;
 use tree_links::set_child;
-use tree_links::turn_up;
 use words::ix::Link;
 use words::node::child_of;
 use words::node::parent_of;
@@ -21,15 +21,15 @@ ghost use Prim.Native.Nat.{_+_, _*_, _<_, _≤_};
 ghost use lib.ListN.{length};
 ghost use Rattle.bitvec.specs.Colours.{red, redAt};
 ghost use Rattle.tree_edit.specs.Links.{rootAfter};
-ghost use Rattle.tree_edit.specs.Rotations.{turn-2, turn-4};
-ghost use Rattle.tree_rm_laws.specs.Repair.{two, four, five, choose, act, turnOf, turnAt, step, repair};
+ghost use Rattle.tree_edit.specs.Rotations.{rotate-2, rotate-4};
+ghost use Rattle.tree_rm_laws.specs.Repair.{two, four, five, choose, act, roundOf, roundAt, round, repair};
 ghost use Rattle.tree_edit.specs.Store.{store};
 ghost use Rattle.tree_edit.specs.Rounds.{ending};
 ghost use Rattle.tree_rm_laws.specs.Remove.{restructure};
 ghost use Rattle.tree_rm_repair.specs.Answers.{caseOf};
 ghost use Rattle.tree_links.specs.Answers.{next, reach};
 ghost use Rattle.tree_edit.specs.Reach.{changes};
-ghost use Rattle.tree_rm_laws.specs.Reach.{actHulls, turnOfHulls, turnAtHulls, stepHulls, repairHulls, restructureHulls};
+ghost use Rattle.tree_rm_laws.specs.Reach.{actHulls, roundOfHulls, roundAtHulls, roundHulls, repairHulls, restructureHulls};
 
 pub enum Case {
     // Node has black parent and black sibling, both nephews are black.
@@ -77,7 +77,7 @@ fn case_at(colours: &[u8], count: u64, parent: u64, sibling: u64, close: u64, di
 }
 
 // Case two's links: the sibling turns into the place of the parent; the answer is the root.
-fn turn_two(
+fn rotate_two(
     nodes: &mut [u64],
     count: u64,
     root: u64,
@@ -86,7 +86,7 @@ fn turn_two(
     sibling: u64,
 ) -> u64
     requires { ⌜ (count * 8 ≤ length (now nodes)) × (parent < count) × (sibling < count) ⌝ }
-    ensures { λ r. ⌜ (r ≡ rootAfter count (now (nodes .entry)) root parent sibling) × (now (nodes .exit) ≡ turn-2 count (now (nodes .entry)) «node_is_left» parent sibling) ⌝ }
+    ensures { λ r. ⌜ (r ≡ rootAfter count (now (nodes .entry)) root parent sibling) × (now (nodes .exit) ≡ rotate-2 count (now (nodes .entry)) «node_is_left» parent sibling) ⌝ }
 {
     let close = child_of(nodes, sibling, node_is_left);
     let top = replace_children(nodes, count, root, parent, sibling);
@@ -96,7 +96,7 @@ fn turn_two(
 }
 
 // Case four's links: the close nephew turns into the place of the sibling.
-fn turn_four(
+fn rotate_four(
     nodes: &mut [u64],
     count: u64,
     node_is_left: bool,
@@ -105,7 +105,7 @@ fn turn_four(
     close: u64,
 )
     requires { ⌜ (count * 8 ≤ length (now nodes)) × (parent < count) × (sibling < count) × (close < count) ⌝ }
-    ensures { λ _. ⌜ now (nodes .exit) ≡ turn-4 count (now (nodes .entry)) «node_is_left» parent sibling close ⌝ }
+    ensures { λ _. ⌜ now (nodes .exit) ≡ rotate-4 count (now (nodes .entry)) «node_is_left» parent sibling close ⌝ }
 {
     let child = child_of(nodes, close, !node_is_left);
     set_child(nodes, count, sibling, child, node_is_left);
@@ -122,14 +122,14 @@ fn case_two(
     node_is_left: bool,
     parent: u64,
     sibling: u64,
-) -> Turn
+) -> Next
     requires { ⌜ (count * 8 ≤ length (now nodes)) × (count ≤ length (now colours) * 8) × (parent < count) × (sibling < count) ⌝ }
     ensures { λ r. ⌜ (next r (now (nodes .exit)) (now (colours .exit)) ≡ act count two (now (nodes .entry)) (now (colours .entry)) root ix «node_is_left» parent sibling 0 0) × (reach r ≡ 0) ⌝ }
 {
     set_red(colours, parent);
     set_black(colours, sibling);
-    let top = turn_two(nodes, count, root, node_is_left, parent, sibling);
-    Turn::Again(top, ix, 0)
+    let top = rotate_two(nodes, count, root, node_is_left, parent, sibling);
+    Next::Again(top, ix, 0)
 }
 
 fn case_four(
@@ -142,15 +142,15 @@ fn case_four(
     parent: u64,
     sibling: u64,
     close: u64,
-) -> Turn
+) -> Next
     requires { ⌜ (count * 8 ≤ length (now nodes)) × (count ≤ length (now colours) * 8) × (parent < count) × (sibling < count) × (close < count) ⌝ }
     ensures { λ r. ⌜ (next r (now (nodes .exit)) (now (colours .exit)) ≡ act count four (now (nodes .entry)) (now (colours .entry)) root ix «node_is_left» parent sibling close 0) × (reach r ≡ changes count (actHulls count four (now (nodes .entry)) «node_is_left» parent sibling close)) ⌝ }
 {
     set_black(colours, close);
     set_red(colours, sibling);
-    turn_four(nodes, count, node_is_left, parent, sibling, close);
+    rotate_four(nodes, count, node_is_left, parent, sibling, close);
     let changed = rework_both(nodes, count, sibling, close);
-    Turn::Again(root, ix, changed)
+    Next::Again(root, ix, changed)
 }
 
 fn case_five(
@@ -162,15 +162,15 @@ fn case_five(
     parent: u64,
     sibling: u64,
     distant: u64,
-) -> Turn
+) -> Next
     requires { ⌜ (count * 8 ≤ length (now nodes)) × (count ≤ length (now colours) * 8) × (parent < count) × (sibling < count) ⌝ }
     ensures { λ r. ⌜ (next r (now (nodes .exit)) (now (colours .exit)) ≡ act count five (now (nodes .entry)) (now (colours .entry)) root 0 «node_is_left» parent sibling 0 distant) × (reach r ≡ 0) ⌝ }
 {
     copy_colour(colours, parent, sibling);
     set_black(colours, parent);
     set_black_at(colours, count, distant);
-    let top = turn_up(nodes, count, root, node_is_left, parent, sibling);
-    Turn::Done(top, 0)
+    let top = rotate_up(nodes, count, root, node_is_left, parent, sibling);
+    Next::Done(top, 0)
 }
 
 // What the case writes, for the node ix with its parent, its sibling and the link words of the nephews.
@@ -186,7 +186,7 @@ fn act_on(
     close: u64,
     distant: u64,
     case: Case,
-) -> Turn
+) -> Next
     requires { ⌜ (count * 8 ≤ length (now nodes)) × (count ≤ length (now colours) * 8) × (parent < count) × (sibling < count) × (caseOf case ≡ four → close < count) ⌝ }
     ensures { λ r. ⌜ (next r (now (nodes .exit)) (now (colours .exit)) ≡ act count (caseOf case) (now (nodes .entry)) (now (colours .entry)) root ix «node_is_left» parent sibling close distant)
         × (reach r ≡ changes count (actHulls count (caseOf case) (now (nodes .entry)) «node_is_left» parent sibling close)) ⌝ }
@@ -194,7 +194,7 @@ fn act_on(
     match case {
         Case::One => {
             set_red(colours, sibling);
-            Turn::Again(root, parent, 0)
+            Next::Again(root, parent, 0)
         }
         Case::Two => case_two(
             nodes,
@@ -209,7 +209,7 @@ fn act_on(
         Case::Three => {
             set_black(colours, parent);
             set_red(colours, sibling);
-            Turn::Done(root, 0)
+            Next::Done(root, 0)
         }
         Case::Four => case_four(
             nodes,
@@ -236,7 +236,7 @@ fn act_on(
 }
 
 // One turn of the loop, with the parent, the side and the sibling at hand.
-fn turn_of(
+fn round_of(
     nodes: &mut [u64],
     colours: &mut [u8],
     count: u64,
@@ -245,10 +245,10 @@ fn turn_of(
     parent: u64,
     node_is_left: bool,
     sibling: u64,
-) -> Turn
+) -> Next
     requires { ⌜ (count * 8 ≤ length (now nodes)) × (count ≤ length (now colours) * 8) × (parent < count) × (sibling < count) ⌝ }
-    ensures { λ r. ⌜ (next r (now (nodes .exit)) (now (colours .exit)) ≡ turnOf count (now (nodes .entry)) (now (colours .entry)) root ix parent «node_is_left» sibling)
-        × (reach r ≡ changes count (turnOfHulls count (now (nodes .entry)) (now (colours .entry)) parent «node_is_left» sibling)) ⌝ }
+    ensures { λ r. ⌜ (next r (now (nodes .exit)) (now (colours .exit)) ≡ roundOf count (now (nodes .entry)) (now (colours .entry)) root ix parent «node_is_left» sibling)
+        × (reach r ≡ changes count (roundOfHulls count (now (nodes .entry)) (now (colours .entry)) parent «node_is_left» sibling)) ⌝ }
 {
     let close = child_of(nodes, sibling, node_is_left);
     let distant = child_of(nodes, sibling, !node_is_left);
@@ -269,7 +269,7 @@ fn turn_of(
 }
 
 // With the parent at hand. In a store that passes the check there is a sibling.
-fn turn_at(
+fn round_at(
     nodes: &mut [u64],
     colours: &mut [u8],
     count: u64,
@@ -277,15 +277,15 @@ fn turn_at(
     ix: u64,
     parent: u64,
     node_is_left: bool,
-) -> Turn
+) -> Next
     requires { ⌜ (count * 8 ≤ length (now nodes)) × (count ≤ length (now colours) * 8) × (parent < count) ⌝ }
-    ensures { λ r. ⌜ (next r (now (nodes .exit)) (now (colours .exit)) ≡ turnAt count (now (nodes .entry)) (now (colours .entry)) root ix parent «node_is_left»)
-        × (reach r ≡ changes count (turnAtHulls count (now (nodes .entry)) (now (colours .entry)) parent «node_is_left»)) ⌝ }
+    ensures { λ r. ⌜ (next r (now (nodes .exit)) (now (colours .exit)) ≡ roundAt count (now (nodes .entry)) (now (colours .entry)) root ix parent «node_is_left»)
+        × (reach r ≡ changes count (roundAtHulls count (now (nodes .entry)) (now (colours .entry)) parent «node_is_left»)) ⌝ }
 {
     let Link::Slot(sibling) = Link::new(child_of(nodes, parent, !node_is_left), count) else {
-        return Turn::Done(root, 0);
+        return Next::Done(root, 0);
     };
-    turn_of(
+    round_of(
         nodes,
         colours,
         count,
@@ -297,17 +297,17 @@ fn turn_at(
     )
 }
 
-fn one_turn(nodes: &mut [u64], colours: &mut [u8], count: u64, root: u64, ix: u64) -> Turn
+fn one_round(nodes: &mut [u64], colours: &mut [u8], count: u64, root: u64, ix: u64) -> Next
     requires { ⌜ (count * 8 ≤ length (now nodes)) × (count ≤ length (now colours) * 8) × (ix < count) ⌝ }
-    ensures { λ r. ⌜ (next r (now (nodes .exit)) (now (colours .exit)) ≡ step count (now (nodes .entry)) (now (colours .entry)) root ix)
-        × (reach r ≡ changes count (stepHulls count (now (nodes .entry)) (now (colours .entry)) ix)) ⌝ }
+    ensures { λ r. ⌜ (next r (now (nodes .exit)) (now (colours .exit)) ≡ round count (now (nodes .entry)) (now (colours .entry)) root ix)
+        × (reach r ≡ changes count (roundHulls count (now (nodes .entry)) (now (colours .entry)) ix)) ⌝ }
 {
     // Case (terminal): Node is the root of the tree.
     let Link::Slot(parent) = Link::new(parent_of(nodes, ix), count) else {
-        return Turn::Done(root, 0);
+        return Next::Done(root, 0);
     };
     let node_is_left = child_of(nodes, parent, true) == ix;
-    turn_at(nodes, colours, count, root, ix, parent, node_is_left)
+    round_at(nodes, colours, count, root, ix, parent, node_is_left)
 }
 
 // Restructure the tree before removing ix. In a store that passes the check 36 turns suffice.
@@ -325,20 +325,20 @@ fn restructure_rm_complex_cases(
     let mut at = ix;
     let mut top = root;
     let mut reach: u64 = 0;
-    let mut turns: u64 = 36;
-    while turns > 0 {
-        match one_turn(nodes, colours, count, top, at) {
-            Turn::Done(r, k) => {
+    let mut rounds: u64 = 36;
+    while rounds > 0 {
+        match one_round(nodes, colours, count, top, at) {
+            Next::Done(r, k) => {
                 return Repaired {
                     root: r,
                     reach: reach + k,
                 };
             }
-            Turn::Again(r, i, k) => {
+            Next::Again(r, i, k) => {
                 top = r;
                 at = i;
                 reach += k;
-                turns -= 1;
+                rounds -= 1;
             }
         }
     }

@@ -1,4 +1,4 @@
-use Rattle.tree_in.proofs.Inserts.{mended-is, mended-changes, mended-fits}
+use Rattle.tree_in.proofs.Inserts.{insertAt-is, insertAt-changes, insertAt-fits}
 use borrow.Author.Needs.{needs}
 use Rattle.tree_in.proofs.mend_from.Statement.{statement}
 use Rattle.tree_in.proofs.mend_from.Tie as tie
@@ -9,7 +9,7 @@ mend-from-spec =
     (tie.spec
     (λ c κs. search needs)
     (λ c κs. search needs)
-    (λ c. search mended-fits)
+    (λ c. search insertAt-fits)
     (λ c. search needs)
     (λ c. search needs)
-    (λ c. (search mended-is, search mended-changes)))
+    (λ c. (search insertAt-is, search insertAt-changes)))

@@ -1,10 +1,10 @@
-use Rattle.tree_rm_laws.specs.Pairs.{sorted}
+use Rattle.tree_rm_laws.specs.Pairs.{byOldSlot}
 use borrow.Author.Needs.{needs}
 use Rattle.tree_rm_pairs.proofs.sorted_pairs.Statement.{statement}
 use Rattle.tree_rm_pairs.proofs.sorted_pairs.Tie as tie
 
 pub sorted-pairs-spec : {M : Type 1} → statement M
-unfolding sorted
+unfolding byOldSlot
 sorted-pairs-spec =
     tie.close
     (tie.spec

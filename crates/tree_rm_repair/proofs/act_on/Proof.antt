@@ -1,4 +1,4 @@
-use Rattle.tree_rm_repair.proofs.Turns.{as-five, as-four, as-one, as-three, as-two, four-fits, quiet-one, quiet-two, quiet-three, loud-four, quiet-five}
+use Rattle.tree_rm_repair.proofs.Rounds.{as-five, as-four, as-one, as-three, as-two, four-fits, quiet-one, quiet-two, quiet-three, loud-four, quiet-five}
 use borrow.Author.Needs.{needs}
 use Rattle.tree_rm_repair.proofs.act_on.Statement.{statement}
 use Rattle.tree_rm_repair.proofs.act_on.Tie as tie

@@ -1,4 +1,4 @@
-use Rattle.tree_rm_repair.proofs.Turns.{case-is}
+use Rattle.tree_rm_repair.proofs.Rounds.{case-is}
 use borrow.Author.Needs.{needs}
 use Rattle.tree_rm_repair.proofs.case_at.Statement.{statement}
 use Rattle.tree_rm_repair.proofs.case_at.Tie as tie

@@ -1,5 +1,5 @@
 use mathlib.Core.Path.{refl}
-use Rattle.tree_rm_repair.proofs.Turns.{five-is}
+use Rattle.tree_rm_repair.proofs.Rounds.{five-is}
 use borrow.Author.Needs.{needs}
 use Rattle.tree_rm_repair.proofs.case_five.Statement.{statement}
 use Rattle.tree_rm_repair.proofs.case_five.Tie as tie

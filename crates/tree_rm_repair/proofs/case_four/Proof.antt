@@ -1,4 +1,4 @@
-use Rattle.tree_rm_repair.proofs.Turns.{four-is, four-changes}
+use Rattle.tree_rm_repair.proofs.Rounds.{four-is, four-changes}
 use borrow.Author.Needs.{needs}
 use Rattle.tree_rm_repair.proofs.case_four.Statement.{statement}
 use Rattle.tree_rm_repair.proofs.case_four.Tie as tie

@@ -1,4 +1,4 @@
-use Rattle.tree_rm_repair.proofs.Turns.{choose-black}
+use Rattle.tree_rm_repair.proofs.Rounds.{choose-black}
 use Rattle.tree_rm_repair.proofs.case_of.Statement.{statement}
 use Rattle.tree_rm_repair.proofs.case_of.Tie as tie
 

@@ -15,4 +15,4 @@ case-two-spec =
     (λ c. let links = c .before .before in
     let black = links .before .before .before .before in
     let red = black .before .before .before .before in
-    (rw (links .turn-two .ensures .0, links .turn-two .ensures .1, black .set-black .ensures, red .set-red .ensures), refl)))
+    (rw (links .rotate-two .ensures .0, links .rotate-two .ensures .1, black .set-black .ensures, red .set-red .ensures), refl)))

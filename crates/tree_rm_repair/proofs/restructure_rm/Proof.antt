@@ -1,5 +1,5 @@
-use Rattle.tree_rm_repair.proofs.Turns.{ready-child, ready-red, ready-repair, still-red, still-child, repair-changes}
-use Rattle.tree_edit.proofs.Paint.{red-fits}
+use Rattle.tree_rm_repair.proofs.Rounds.{ready-child, ready-red, ready-repair, still-red, still-child, repair-changes}
+use Rattle.tree_edit.proofs.Colours.{red-fits}
 use borrow.Author.Needs.{needs}
 use native.Mathlib.Omega.{arith}
 use Rattle.tree_rm_repair.proofs.restructure_rm.Statement.{statement}

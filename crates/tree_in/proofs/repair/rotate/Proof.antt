@@ -1,4 +1,4 @@
-use Rattle.tree_in.proofs.Mends.{rotated-is, rotated-changes}
+use Rattle.tree_in.proofs.InsertRounds.{rotated-is, rotated-changes}
 use borrow.Author.Needs.{needs}
 use Rattle.tree_in.proofs.repair.rotate.Statement.{statement}
 use Rattle.tree_in.proofs.repair.rotate.Tie as tie

@@ -1,4 +1,4 @@
-use Rattle.tree_in.proofs.Mends.{inner-is, inner-changes, rotated-most}
+use Rattle.tree_in.proofs.InsertRounds.{inner-is, inner-changes, rotated-most}
 use native.Mathlib.Omega.{arith}
 use borrow.Author.Needs.{needs}
 use Rattle.tree_in.proofs.repair.rotate_inner.Statement.{statement}

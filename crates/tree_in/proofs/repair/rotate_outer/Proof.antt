@@ -1,4 +1,4 @@
-use Rattle.tree_in.proofs.Mends.{outer-is, outer-changes, rotated-fits}
+use Rattle.tree_in.proofs.InsertRounds.{outer-is, outer-changes, rotated-fits}
 use borrow.Author.Needs.{needs}
 use Rattle.tree_in.proofs.repair.rotate_outer.Statement.{statement}
 use Rattle.tree_in.proofs.repair.rotate_outer.Tie as tie

@@ -1,11 +1,11 @@
-use Rattle.tree_edit.specs.Rotations.{turn-4}
+use Rattle.tree_edit.specs.Rotations.{rotate-4}
 use borrow.Author.Needs.{needs}
-use Rattle.tree_rm_repair.proofs.turn_four.Statement.{statement}
-use Rattle.tree_rm_repair.proofs.turn_four.Tie as tie
+use Rattle.tree_rm_repair.proofs.rotate_four.Statement.{statement}
+use Rattle.tree_rm_repair.proofs.rotate_four.Tie as tie
 
-pub turn-four-spec : {M : Type 1} → statement M
-unfolding turn-4
-turn-four-spec =
+pub rotate-four-spec : {M : Type 1} → statement M
+unfolding rotate-4
+rotate-four-spec =
     tie.close
     (tie.spec
     (λ c κs. search needs)

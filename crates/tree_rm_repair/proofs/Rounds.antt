@@ -9,10 +9,10 @@ use Rattle.words.specs.Ix.{linkOf}
 use Rattle.words.specs.Nodes.{kid, par, fix}
 use Rattle.words.specs.declared.ix.Link.{Link}
 use Rattle.words.specs.declared.ix.Link.the-variants.{Slot}
-use Rattle.bitvec.specs.Colours.{red, redAt, dye, dyeAt}
+use Rattle.bitvec.specs.Colours.{red, redAt, paint, paintAt}
 use Rattle.tree_edit.specs.Links.{rootAfter}
-use Rattle.tree_edit.specs.Rotations.{turn, turn-4}
-use Rattle.tree_rm_laws.specs.Repair.{Case, one, two, three, four, five, choose, act, turnOf, turnAt, step, repair}
+use Rattle.tree_edit.specs.Rotations.{rotate, rotate-4}
+use Rattle.tree_rm_laws.specs.Repair.{Case, one, two, three, four, five, choose, act, roundOf, roundAt, round, repair}
 use Rattle.tree_edit.specs.Rounds.{Next, done, again, ending}
 use Rattle.tree_edit.specs.Store.{Store, store}
 use Rattle.tree_rm_laws.specs.Remove.{restructure}
@@ -20,11 +20,11 @@ use Rattle.tree_rm_repair.specs.Answers.{caseOf}
 use Rattle.tree_rm_repair.specs.declared.Case as K
 use Rattle.tree_rm_repair.specs.declared.Case.the-variants as ks
 use Rattle.tree_edit.specs.Reach.{changes, bothHulls}
-use Rattle.tree_rm_laws.specs.Reach.{actHulls, turnOfHulls, turnAtHulls, stepHulls, repairHulls, restructureHulls}
-use Rattle.tree_rm_laws.proofs.Reached.{turn-le}
+use Rattle.tree_rm_laws.specs.Reach.{actHulls, roundOfHulls, roundAtHulls, roundHulls, repairHulls, restructureHulls}
+use Rattle.tree_rm_laws.proofs.Reached.{round-le}
 use Rattle.tree_links.proofs.Loops.{Loop, Counted, link-stays, at-side, side-changes}
-use Rattle.tree_edit.proofs.Paint.{red-slot, red-child}
-use Rattle.tree_rm_laws.proofs.Mended.{four-close}
+use Rattle.tree_edit.proofs.Colours.{red-slot, red-child}
+use Rattle.tree_rm_laws.proofs.RepairInPlace.{four-close}
 
 -- the choice among the cases, by which of the four are black
 pub choose-black : (p s c d : Bool)
@@ -52,13 +52,13 @@ four-fits n c k h e = h (ap caseOf e)
 
 -- what each case writes
 module _ (n : ℕ) (W C : List ℕ) (r ix : ℕ) (b : Bool) (P S c d : ℕ) (k : K.Case) where
-  pub as-one : (D : List ℕ) → k ≡ ks.One → D ≡ dye C S true → again W D r P ≡ act n (caseOf k) W C r ix b P S c d
+  pub as-one : (D : List ℕ) → k ≡ ks.One → D ≡ paint C S true → again W D r P ≡ act n (caseOf k) W C r ix b P S c d
   as-one D e q = rw e (ap (λ (X : List ℕ). again W X r P) q)
 
   pub as-two : (N : Next) → k ≡ ks.Two → N ≡ act n two W C r ix b P S 0 0 → N ≡ act n (caseOf k) W C r ix b P S c d
   as-two N e q = rw e q
 
-  pub as-three : (D E : List ℕ) → k ≡ ks.Three → D ≡ dye C P false → E ≡ dye D S true → done W E r ≡ act n (caseOf k) W C r ix b P S c d
+  pub as-three : (D E : List ℕ) → k ≡ ks.Three → D ≡ paint C P false → E ≡ paint D S true → done W E r ≡ act n (caseOf k) W C r ix b P S c d
   as-three D E e p q = rw (e, ← p) (ap (λ (X : List ℕ). done W X r) q)
 
   pub as-four : (N : Next) → k ≡ ks.Four → N ≡ act n four W C r ix b P S c 0 → N ≡ act n (caseOf k) W C r ix b P S c d
@@ -84,37 +84,37 @@ module _ (n : ℕ) (W : List ℕ) (b : Bool) (P S c : ℕ) (k : K.Case) where
   pub quiet-five : (x : ℕ) → k ≡ ks.Five → x ≡ 0 → x ≡ changes n (actHulls n (caseOf k) W b P S c)
   quiet-five x e q = rw e q
 
-pub four-changes : (n : ℕ) (W W₁ : List ℕ) (b : Bool) (P S c x : ℕ) → W₁ ≡ turn-4 n W b P S c → x ≡ changes n (bothHulls n W₁ S c)
+pub four-changes : (n : ℕ) (W W₁ : List ℕ) (b : Bool) (P S c x : ℕ) → W₁ ≡ rotate-4 n W b P S c → x ≡ changes n (bothHulls n W₁ S c)
     → x ≡ changes n (actHulls n four W b P S c)
 four-changes n W W₁ b P S c x e h = rw (← e) h
 
-pub turn-changes : (n : ℕ) (W C : List ℕ) (P : ℕ) (b : Bool) (S c d : ℕ) (k : K.Case) (x : ℕ) → c ≡ kid W b S → d ≡ kid W (not b) S
-    → caseOf k ≡ choose (red C P) (red C S) (redAt n C c) (redAt n C d) → x ≡ changes n (actHulls n (caseOf k) W b P S c) → x ≡ changes n (turnOfHulls n W C P b S)
-unfolding turnOfHulls
-turn-changes n W C P b S c d k x e f g h = rw (← e, ← f, ← g) h
+pub round-changes : (n : ℕ) (W C : List ℕ) (P : ℕ) (b : Bool) (S c d : ℕ) (k : K.Case) (x : ℕ) → c ≡ kid W b S → d ≡ kid W (not b) S
+    → caseOf k ≡ choose (red C P) (red C S) (redAt n C c) (redAt n C d) → x ≡ changes n (actHulls n (caseOf k) W b P S c) → x ≡ changes n (roundOfHulls n W C P b S)
+unfolding roundOfHulls
+round-changes n W C P b S c d k x e f g h = rw (← e, ← f, ← g) h
 
-pub four-is : (n : ℕ) (W C : List ℕ) (r ix : ℕ) (b : Bool) (P S c : ℕ) (C₁ C₂ W₁ W₂ : List ℕ) → C₁ ≡ dye C c false → C₂ ≡ dye C₁ S true
-    → W₁ ≡ turn-4 n W b P S c → W₂ ≡ fix n (fix n W₁ S) c → again W₂ C₂ r ix ≡ act n four W C r ix b P S c 0
+pub four-is : (n : ℕ) (W C : List ℕ) (r ix : ℕ) (b : Bool) (P S c : ℕ) (C₁ C₂ W₁ W₂ : List ℕ) → C₁ ≡ paint C c false → C₂ ≡ paint C₁ S true
+    → W₁ ≡ rotate-4 n W b P S c → W₂ ≡ fix n (fix n W₁ S) c → again W₂ C₂ r ix ≡ act n four W C r ix b P S c 0
 four-is n W C r ix b P S c C₁ C₂ W₁ W₂ e f g h = rw (← e, ← f, ← g, ← h)
 
-pub five-is : (n : ℕ) (W C : List ℕ) (r : ℕ) (b : Bool) (P S d : ℕ) (C₁ C₂ C₃ X : List ℕ) (top : ℕ) → C₁ ≡ dye C S (red C P) → C₂ ≡ dye C₁ P false
-    → C₃ ≡ dyeAt n C₂ d false → top ≡ rootAfter n W r P S → X ≡ turn n W b P S → done X C₃ top ≡ act n five W C r 0 b P S 0 d
+pub five-is : (n : ℕ) (W C : List ℕ) (r : ℕ) (b : Bool) (P S d : ℕ) (C₁ C₂ C₃ X : List ℕ) (top : ℕ) → C₁ ≡ paint C S (red C P) → C₂ ≡ paint C₁ P false
+    → C₃ ≡ paintAt n C₂ d false → top ≡ rootAfter n W r P S → X ≡ rotate n W b P S → done X C₃ top ≡ act n five W C r 0 b P S 0 d
 five-is n W C r b P S d C₁ C₂ C₃ X top e f g h i = rw (← e, ← f, ← g, ← h, ← i)
 
-pub turn-is : (n : ℕ) (W C : List ℕ) (r ix P : ℕ) (b : Bool) (S c d : ℕ) (k : K.Case) (N : Next) → c ≡ kid W b S → d ≡ kid W (not b) S
-    → caseOf k ≡ choose (red C P) (red C S) (redAt n C c) (redAt n C d) → N ≡ act n (caseOf k) W C r ix b P S c d → N ≡ turnOf n W C r ix P b S
-unfolding turnOf
-turn-is n W C r ix P b S c d k N e f g h = rw (← e, ← f, ← g) h
+pub round-is : (n : ℕ) (W C : List ℕ) (r ix P : ℕ) (b : Bool) (S c d : ℕ) (k : K.Case) (N : Next) → c ≡ kid W b S → d ≡ kid W (not b) S
+    → caseOf k ≡ choose (red C P) (red C S) (redAt n C c) (redAt n C d) → N ≡ act n (caseOf k) W C r ix b P S c d → N ≡ roundOf n W C r ix P b S
+unfolding roundOf
+round-is n W C r ix P b S c d k N e f g h = rw (← e, ← f, ← g) h
 
 pub parent-changes : (n : ℕ) (W C : List ℕ) (ix x w p t : ℕ) (l : Link) → w ≡ par W ix → l ≡ linkOf n w → l ≡ Slot p → t ≡ kid W true p
-    → x ≡ changes n (turnAtHulls n W C p (eqb t ix)) → x ≡ changes n (stepHulls n W C ix)
-unfolding stepHulls
-parent-changes n W C ix x w p t l e q k f h = side-changes (λ (P : ℕ) (b : Bool). turnAtHulls n W C P b) n W ix x w p t l e q k f h
+    → x ≡ changes n (roundAtHulls n W C p (eqb t ix)) → x ≡ changes n (roundHulls n W C ix)
+unfolding roundHulls
+parent-changes n W C ix x w p t l e q k f h = side-changes (λ (P : ℕ) (b : Bool). roundAtHulls n W C P b) n W ix x w p t l e q k f h
 
 pub at-parent : (n : ℕ) (W C : List ℕ) (r ix : ℕ) (N : Next) (w p x : ℕ) (l : Link) → w ≡ par W ix → l ≡ linkOf n w → l ≡ Slot p
-    → x ≡ kid W true p → N ≡ turnAt n W C r ix p (eqb x ix) → N ≡ step n W C r ix
-unfolding step
-at-parent n W C r ix = at-side (λ (P : ℕ) (b : Bool). turnAt n W C r ix P b) (done W C r) n W ix
+    → x ≡ kid W true p → N ≡ roundAt n W C r ix p (eqb x ix) → N ≡ round n W C r ix
+unfolding round
+at-parent n W C r ix = at-side (λ (P : ℕ) (b : Bool). roundAt n W C r ix P b) (done W C r) n W ix
 
 -- the loop stands at a slot
 act-stays : (n : ℕ) (k : Case) (W C : List ℕ) (r ix : ℕ) (b : Bool) (P S c d : ℕ) (X D : List ℕ) (q i : ℕ) → ix < n → P < n
@@ -125,26 +125,26 @@ act-stays n three W C r ix b P S c d X D q i h l e = let z : _≡_ {A = ℕ} 0 1
 act-stays n four W C r ix b P S c d X D q i h l e = let z : ix ≡ i = cc in omega arith
 act-stays n five W C r ix b P S c d X D q i h l e = let z : _≡_ {A = ℕ} 0 1 = cc in absurd (omega arith)
 
-pub step-stays : (n : ℕ) (W C : List ℕ) (r ix : ℕ) (X D : List ℕ) (q i : ℕ) → ix < n → step n W C r ix ≡ again X D q i → i < n
-unfolding step turnAt turnOf
-step-stays n W C r ix X D q i h e =
-    link-stays n (par W ix) (λ (P : ℕ). turnAt n W C r ix P (eqb (kid W true P) ix)) W C r X D q i
-    (λ P l z. link-stays n (kid W (not (eqb (kid W true P) ix)) P) (λ (S : ℕ). turnOf n W C r ix P (eqb (kid W true P) ix) S) W C r X D q i
-    (λ S m y. at-turn P (eqb (kid W true P) ix) S l y) z)
+pub round-stays : (n : ℕ) (W C : List ℕ) (r ix : ℕ) (X D : List ℕ) (q i : ℕ) → ix < n → round n W C r ix ≡ again X D q i → i < n
+unfolding round roundAt roundOf
+round-stays n W C r ix X D q i h e =
+    link-stays n (par W ix) (λ (P : ℕ). roundAt n W C r ix P (eqb (kid W true P) ix)) W C r X D q i
+    (λ P l z. link-stays n (kid W (not (eqb (kid W true P) ix)) P) (λ (S : ℕ). roundOf n W C r ix P (eqb (kid W true P) ix) S) W C r X D q i
+    (λ S m y. at-round P (eqb (kid W true P) ix) S l y) z)
     e
   where
-    at-turn : (P : ℕ) (b : Bool) (S : ℕ) → P < n → turnOf n W C r ix P b S ≡ again X D q i → i < n
-    at-turn P b S l z =
+    at-round : (P : ℕ) (b : Bool) (S : ℕ) → P < n → roundOf n W C r ix P b S ≡ again X D q i → i < n
+    at-round P b S l z =
         act-stays n (choose (red C P) (red C S) (redAt n C (kid W b S)) (redAt n C (kid W (not b) S))) W C r ix b P S (kid W b S) (kid W (not b) S) X D q i h l z
 
 -- the loop
-pub repairs : (n : ℕ) → Loop (step n) (repair n)
+pub repairs : (n : ℕ) → Loop (round n) (repair n)
 unfolding repair
-repairs n = record { stops = λ W C r ix. refl; turns = λ f W C r ix. refl }
+repairs n = record { stops = λ W C r ix. refl; rounds = λ f W C r ix. refl }
 
-pub repair-hulls : (n : ℕ) → Counted n (step n) (stepHulls n) (repairHulls n)
+pub repair-hulls : (n : ℕ) → Counted n (round n) (roundHulls n) (repairHulls n)
 unfolding repairHulls
-repair-hulls n = record { stops = λ W C r ix. refl; turns = λ f W C r ix. refl; most = λ W C ix. omega (arith, turn-le n W C ix) }
+repair-hulls n = record { stops = λ W C r ix. refl; rounds = λ f W C r ix. refl; most = λ W C ix. omega (arith, round-le n W C ix) }
 
 -- before a slot is vacated
 module _ (n : ℕ) (W C : List ℕ) (r x y : ℕ) (v : Bool) (e : v ≡ red C x) where
@@ -165,7 +165,7 @@ module _ (n : ℕ) (W C : List ℕ) (r x y : ℕ) (v : Bool) (e : v ≡ red C x)
   unfolding restructureHulls
   repair-changes w k q f z d = rw (sym e ∙ q, red-child w (redAt n C y) false f z) d
 
-  pub ready-child : (w : Bool) (D : List ℕ) → v ≡ false → w ≡ not (redAt n C y) → not w ≡ true → D ≡ dye C y true → store W D r ≡ restructure n W C r x y
+  pub ready-child : (w : Bool) (D : List ℕ) → v ≡ false → w ≡ not (redAt n C y) → not w ≡ true → D ≡ paint C y true → store W D r ≡ restructure n W C r x y
   unfolding restructure
   ready-child w D q f z d = rw (sym e ∙ q, red-child w (redAt n C y) true f z, d)
 

@@ -1,11 +1,11 @@
-use Rattle.tree_edit.specs.Rotations.{turn}
+use Rattle.tree_edit.specs.Rotations.{rotate}
 use borrow.Author.Needs.{needs}
-use Rattle.tree_links.proofs.turn_up.Statement.{statement}
-use Rattle.tree_links.proofs.turn_up.Tie as tie
+use Rattle.tree_links.proofs.rotate_up.Statement.{statement}
+use Rattle.tree_links.proofs.rotate_up.Tie as tie
 
-pub turn-up-spec : {M : Type 1} → statement M
-unfolding turn
-turn-up-spec =
+pub rotate-up-spec : {M : Type 1} → statement M
+unfolding rotate
+rotate-up-spec =
     tie.close
     (tie.spec
     (λ c κs. search needs)

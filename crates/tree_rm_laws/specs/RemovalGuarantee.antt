@@ -5,11 +5,11 @@ use Prim.Native.Nat.{ℕ, _-_}
 use Rattle.words.specs.Nodes.{value, entry}
 use Rattle.tree.specs.Tree.{slots, without}
 use Rattle.tree.specs.Passes.{Passes}
-use Rattle.tree_rm_laws.specs.Remove.{Removal}
+use Rattle.tree_rm_laws.specs.Remove.{Removed}
 use Rattle.tree_rm_laws.specs.Names.{changed, Names}
 
 -- "The answer: removed value, new map, and up to three pairs"
-pub record Removed (W C : List ℕ) (n r s : ℕ) (before : Passes W C n r) (R : Removal) : Type 0 where
+pub record RemovalGuarantee (W C : List ℕ) (n r s : ℕ) (before : Passes W C n r) (R : Removed) : Type 0 where
   -- the store passes again, with one entry less
   pub passes : Passes (R .store .words) (R .store .colours) (n - 1) (R .store .root)
   -- its entries in tree order are those before without the removed one

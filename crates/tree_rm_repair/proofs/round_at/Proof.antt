@@ -1,15 +1,15 @@
-use Rattle.tree_rm_laws.specs.Reach.{turnAtHulls}
+use Rattle.tree_rm_laws.specs.Reach.{roundAtHulls}
 use Rattle.tree_links.proofs.LinkLaws.{hulls-linked, hulls-unlinked, read-linked, read-unlinked}
-use Rattle.tree_rm_laws.specs.Repair.{turnAt}
+use Rattle.tree_rm_laws.specs.Repair.{roundAt}
 use Rattle.words.proofs.Laws.{slot-live}
 use borrow.Author.Needs.{needs}
 use native.Mathlib.Omega.{arith}
-use Rattle.tree_rm_repair.proofs.turn_at.Statement.{statement}
-use Rattle.tree_rm_repair.proofs.turn_at.Tie as tie
+use Rattle.tree_rm_repair.proofs.round_at.Statement.{statement}
+use Rattle.tree_rm_repair.proofs.round_at.Tie as tie
 
-pub turn-at-spec : {M : Type 1} → statement M
-unfolding turnAt turnAtHulls
-turn-at-spec =
+pub round-at-spec : {M : Type 1} → statement M
+unfolding roundAt roundAtHulls
+round-at-spec =
     tie.close
     (tie.spec
     (λ c κs. search needs)

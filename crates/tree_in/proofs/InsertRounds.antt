@@ -11,21 +11,21 @@ use Rattle.words.specs.Ix.{linkOf}
 use Rattle.words.specs.Nodes.{kid, par, fix}
 use Rattle.words.specs.declared.ix.Link.{Link}
 use Rattle.words.specs.declared.ix.Link.the-variants.{Slot, Nil}
-use Rattle.bitvec.specs.Colours.{red, redAt, dye}
+use Rattle.bitvec.specs.Colours.{red, redAt, paint}
 use Rattle.tree_edit.specs.Links.{rootAfter}
-use Rattle.tree_edit.specs.Rotations.{turn}
+use Rattle.tree_edit.specs.Rotations.{rotate}
 use Rattle.tree_edit.specs.Rounds.{Next, done, again}
 use Rattle.tree_edit.specs.Reach.{Work, changes, bothHulls}
 use Rattle.tree_edit.proofs.Reached.{changes-append, changes-le}
 use Rattle.tree_links.proofs.LinkLaws.{read-linked, read-unlinked, hulls-linked, hulls-unlinked}
 use Rattle.tree_links.proofs.Loops.{Loop, Counted, link-stays, at-side, side-changes}
-use Rattle.tree_edit.proofs.Paint.{red-child, red-fits}
-use Rattle.tree_in_laws.specs.Mend.{rotated, outer, inner, recoloured, mendAt, mendBelow, mendStep, mend}
-use Rattle.tree_in_laws.specs.Reach.{rotatedHulls, outerHulls, innerHulls, mendAtHulls, mendBelowHulls, mendStepHulls, mendHulls}
-use Rattle.tree_in_laws.proofs.Reached.{mend-turn-le}
+use Rattle.tree_edit.proofs.Colours.{red-child, red-fits}
+use Rattle.tree_in_laws.specs.InsertRepair.{rotated, outer, inner, recoloured, insertRoundAt, insertRoundBelow, insertRound, insertRepair}
+use Rattle.tree_in_laws.specs.Reach.{rotatedHulls, outerHulls, innerHulls, insertRoundAtHulls, insertRoundBelowHulls, insertRoundHulls, insertRepairHulls}
+use Rattle.tree_in_laws.proofs.Reached.{insertRound-le}
 
 -- the rotations
-module _ (n : ℕ) (W : List ℕ) (b : Bool) (P S : ℕ) (W₁ : List ℕ) (e : W₁ ≡ turn n W b P S) where
+module _ (n : ℕ) (W : List ℕ) (b : Bool) (P S : ℕ) (W₁ : List ℕ) (e : W₁ ≡ rotate n W b P S) where
   pub rotated-is : (W₂ : List ℕ) → W₂ ≡ fix n (fix n W₁ P) S → W₂ ≡ rotated n W b P S
   unfolding rotated
   rotated-is W₂ f = rw (← e) f
@@ -35,7 +35,7 @@ module _ (n : ℕ) (W : List ℕ) (b : Bool) (P S : ℕ) (W₁ : List ℕ) (e : 
   rotated-changes k f = rw (← e) f
 
 pub outer-is : (n : ℕ) (W C : List ℕ) (r : ℕ) (b : Bool) (P G : ℕ) (X C₁ C₂ : List ℕ) (q : ℕ) → q ≡ rootAfter n W r G P → X ≡ rotated n W (not b) G P
-    → C₁ ≡ dye C P false → C₂ ≡ dye C₁ G true → done X C₂ q ≡ outer n W C r b P G
+    → C₁ ≡ paint C P false → C₂ ≡ paint C₁ G true → done X C₂ q ≡ outer n W C r b P G
 unfolding outer
 outer-is n W C r b P G X C₁ C₂ q e f g h = rw (← e, ← f, ← g, ← h)
 
@@ -84,81 +84,81 @@ module _ (n : ℕ) (C : List ℕ) (u : ℕ) (v : Bool) (f : v ≡ not (redAt n C
 
   module _ (W : List ℕ) (r x P G : ℕ) (b : Bool) (e : u ≡ kid W (not b) G) where
     pub uncle-black : (N : Next) → v ≡ true → N ≡ cond (eqb (kid W (not b) P) x) (inner n W C r x b P G) (outer n W C r b P G)
-        → N ≡ mendAt n W C r x P G b
-    unfolding mendAt
+        → N ≡ insertRoundAt n W C r x P G b
+    unfolding insertRoundAt
     uncle-black N q h = rw (← e, red-child v (redAt n C u) false f (ap not q)) h
 
     pub black-changes : (k : ℕ) → v ≡ true → k ≡ changes n (cond (eqb (kid W (not b) P) x) (innerHulls n W x b P G) (outerHulls n W b P G))
-        → k ≡ changes n (mendAtHulls n W C x P G b)
-    unfolding mendAtHulls
+        → k ≡ changes n (insertRoundAtHulls n W C x P G b)
+    unfolding insertRoundAtHulls
     black-changes k q h = rw (← e, red-child v (redAt n C u) false f (ap not q)) h
 
-    pub red-changes : v ≡ false → 0 ≡ changes n (mendAtHulls n W C x P G b)
-    unfolding mendAtHulls
+    pub red-changes : v ≡ false → 0 ≡ changes n (insertRoundAtHulls n W C x P G b)
+    unfolding insertRoundAtHulls
     red-changes q = rw (← e, red-child v (redAt n C u) true f (ap not q))
 
-    pub uncle-red : (D : List ℕ) → v ≡ false → D ≡ dye (dye (dye C P false) u false) G true → again W D r G ≡ mendAt n W C r x P G b
-    unfolding mendAt recoloured
+    pub uncle-red : (D : List ℕ) → v ≡ false → D ≡ paint (paint (paint C P false) u false) G true → again W D r G ≡ insertRoundAt n W C r x P G b
+    unfolding insertRoundAt recoloured
     uncle-red D q h = rw (← e, red-child v (redAt n C u) true f (ap not q), ← h)
 
 -- the grandparent g, and the parent p of the slot x
 pub at-grandparent : (n : ℕ) (W C : List ℕ) (r x P : ℕ) (N : Next) (w g t : ℕ) (l : Link) → w ≡ par W P → l ≡ linkOf n w → l ≡ Slot g
-    → t ≡ kid W true g → N ≡ mendAt n W C r x P g (eqb t P) → N ≡ mendBelow n W C r x P
-unfolding mendBelow
-at-grandparent n W C r x P N w g t l e q k f h = at-side (λ (G : ℕ) (b : Bool). mendAt n W C r x P G b) (done W C r) n W P N w g t l e q k f h
+    → t ≡ kid W true g → N ≡ insertRoundAt n W C r x P g (eqb t P) → N ≡ insertRoundBelow n W C r x P
+unfolding insertRoundBelow
+at-grandparent n W C r x P N w g t l e q k f h = at-side (λ (G : ℕ) (b : Bool). insertRoundAt n W C r x P G b) (done W C r) n W P N w g t l e q k f h
 
 pub grandparent-changes : (n : ℕ) (W C : List ℕ) (x P k w g t : ℕ) (l : Link) → w ≡ par W P → l ≡ linkOf n w → l ≡ Slot g → t ≡ kid W true g
-    → k ≡ changes n (mendAtHulls n W C x P g (eqb t P)) → k ≡ changes n (mendBelowHulls n W C x P)
-unfolding mendBelowHulls
-grandparent-changes n W C x P k w g t l e q z f h = side-changes (λ (G : ℕ) (b : Bool). mendAtHulls n W C x P G b) n W P k w g t l e q z f h
+    → k ≡ changes n (insertRoundAtHulls n W C x P g (eqb t P)) → k ≡ changes n (insertRoundBelowHulls n W C x P)
+unfolding insertRoundBelowHulls
+grandparent-changes n W C x P k w g t l e q z f h = side-changes (λ (G : ℕ) (b : Bool). insertRoundAtHulls n W C x P G b) n W P k w g t l e q z f h
 
 module _ (n : ℕ) (W C : List ℕ) (x w : ℕ) (l : Link) (e : w ≡ par W x) (f : l ≡ linkOf n w) where
   abbrev hulls-below : ℕ → List Work
-  hulls-below P = cond (red C P) (mendBelowHulls n W C x P) []
+  hulls-below P = cond (red C P) (insertRoundBelowHulls n W C x P) []
 
-  pub root-changes : l ≡ Nil → 0 ≡ changes n (mendStepHulls n W C x)
-  unfolding mendStepHulls
+  pub root-changes : l ≡ Nil → 0 ≡ changes n (insertRoundHulls n W C x)
+  unfolding insertRoundHulls
   root-changes q = hulls-unlinked 0 n (par W x) w l hulls-below e f q refl
 
   module _ (p : ℕ) (v : Bool) (q : l ≡ Slot p) (g : v ≡ red C p) where
-    pub below-changes : (k : ℕ) → v ≡ true → k ≡ changes n (mendBelowHulls n W C x p) → k ≡ changes n (mendStepHulls n W C x)
-    unfolding mendStepHulls
+    pub below-changes : (k : ℕ) → v ≡ true → k ≡ changes n (insertRoundBelowHulls n W C x p) → k ≡ changes n (insertRoundHulls n W C x)
+    unfolding insertRoundHulls
     below-changes k z h = hulls-linked k n (par W x) w l hulls-below e f p q (rw (sym g ∙ z) h)
 
-    pub quiet-black : v ≡ false → 0 ≡ changes n (mendStepHulls n W C x)
-    unfolding mendStepHulls
+    pub quiet-black : v ≡ false → 0 ≡ changes n (insertRoundHulls n W C x)
+    unfolding insertRoundHulls
     quiet-black z = hulls-linked 0 n (par W x) w l hulls-below e f p q (rw (sym g ∙ z))
 
 module _ (n : ℕ) (W C : List ℕ) (r x w : ℕ) (l : Link) (e : w ≡ par W x) (f : l ≡ linkOf n w) where
   abbrev below : ℕ → Next
-  below P = cond (red C P) (mendBelow n W C r x P) (done W C r)
+  below P = cond (red C P) (insertRoundBelow n W C r x P) (done W C r)
 
-  pub root-black : (D : List ℕ) → l ≡ Nil → D ≡ dye C x false → done W D r ≡ mendStep n W C r x
-  unfolding mendStep
-  root-black D q h = read-unlinked (done W D r) n (par W x) w l below (done W (dye C x false) r) e f q (ap (λ (B : List ℕ). done W B r) h)
+  pub root-black : (D : List ℕ) → l ≡ Nil → D ≡ paint C x false → done W D r ≡ insertRound n W C r x
+  unfolding insertRound
+  root-black D q h = read-unlinked (done W D r) n (par W x) w l below (done W (paint C x false) r) e f q (ap (λ (B : List ℕ). done W B r) h)
 
   module _ (p : ℕ) (v : Bool) (q : l ≡ Slot p) (g : v ≡ red C p) where
-    pub parent-red : (N : Next) → v ≡ true → N ≡ mendBelow n W C r x p → N ≡ mendStep n W C r x
-    unfolding mendStep
-    parent-red N z h = read-linked N n (par W x) w l below (done W (dye C x false) r) e f p q (rw (sym g ∙ z) h)
+    pub parent-red : (N : Next) → v ≡ true → N ≡ insertRoundBelow n W C r x p → N ≡ insertRound n W C r x
+    unfolding insertRound
+    parent-red N z h = read-linked N n (par W x) w l below (done W (paint C x false) r) e f p q (rw (sym g ∙ z) h)
 
-    pub parent-black : v ≡ false → done W C r ≡ mendStep n W C r x
-    unfolding mendStep
-    parent-black z = read-linked (done W C r) n (par W x) w l below (done W (dye C x false) r) e f p q (rw (sym g ∙ z))
+    pub parent-black : v ≡ false → done W C r ≡ insertRound n W C r x
+    unfolding insertRound
+    parent-black z = read-linked (done W C r) n (par W x) w l below (done W (paint C x false) r) e f p q (rw (sym g ∙ z))
 
 -- the loop
-pub mends : (n : ℕ) → Loop (mendStep n) (mend n)
-unfolding mend
-mends n = record { stops = λ W C r x. refl; turns = λ f W C r x. refl }
+pub insert-rounds : (n : ℕ) → Loop (insertRound n) (insertRepair n)
+unfolding insertRepair
+insert-rounds n = record { stops = λ W C r x. refl; rounds = λ f W C r x. refl }
 
-pub mend-hulls : (n : ℕ) → Counted n (mendStep n) (mendStepHulls n) (mendHulls n)
-unfolding mendHulls
-mend-hulls n = record { stops = λ W C r x. refl; turns = λ f W C r x. refl; most = λ W C x. mend-turn-le n W C x }
+pub insert-hulls : (n : ℕ) → Counted n (insertRound n) (insertRoundHulls n) (insertRepairHulls n)
+unfolding insertRepairHulls
+insert-hulls n = record { stops = λ W C r x. refl; rounds = λ f W C r x. refl; most = λ W C x. insertRound-le n W C x }
 
-pub mend-stays : (n : ℕ) (W C : List ℕ) (r x : ℕ) (X D : List ℕ) (q i : ℕ) → x < n → mendStep n W C r x ≡ again X D q i → i < n
-unfolding mendStep mendBelow mendAt recoloured inner outer
-mend-stays n W C r x X D q i h e =
-    link-stays n (par W x) (λ (P : ℕ). cond (red C P) (mendBelow n W C r x P) (done W C r)) W (dye C x false) r X D q i
+pub insert-stays : (n : ℕ) (W C : List ℕ) (r x : ℕ) (X D : List ℕ) (q i : ℕ) → x < n → insertRound n W C r x ≡ again X D q i → i < n
+unfolding insertRound insertRoundBelow insertRoundAt recoloured inner outer
+insert-stays n W C r x X D q i h e =
+    link-stays n (par W x) (λ (P : ℕ). cond (red C P) (insertRoundBelow n W C r x P) (done W C r)) W (paint C x false) r X D q i
     (λ P l z. parent P (red C P) z) e
   where
     uncle : (P G : ℕ) (b t u : Bool) → G < n
@@ -167,9 +167,9 @@ mend-stays n W C r x X D q i h e =
     uncle P G b false true l z = let y : _≡_ {A = ℕ} 0 1 = cc in absurd (omega arith)
     uncle P G b false false l z = let y : _≡_ {A = ℕ} 0 1 = cc in absurd (omega arith)
 
-    parent : (P : ℕ) (t : Bool) → cond t (mendBelow n W C r x P) (done W C r) ≡ again X D q i → i < n
+    parent : (P : ℕ) (t : Bool) → cond t (insertRoundBelow n W C r x P) (done W C r) ≡ again X D q i → i < n
     parent P true z =
-        link-stays n (par W P) (λ (G : ℕ). mendAt n W C r x P G (eqb (kid W true G) P)) W C r X D q i
+        link-stays n (par W P) (λ (G : ℕ). insertRoundAt n W C r x P G (eqb (kid W true G) P)) W C r X D q i
         (λ G l y. uncle P G (eqb (kid W true G) P) (redAt n C (kid W (not (eqb (kid W true G) P)) G))
         (eqb (kid W (not (eqb (kid W true G) P)) P) x) l y) z
     parent P false z = let y : _≡_ {A = ℕ} 0 1 = cc in absurd (omega arith)

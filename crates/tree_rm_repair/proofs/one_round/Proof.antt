@@ -1,16 +1,16 @@
-use Rattle.tree_rm_laws.specs.Reach.{stepHulls}
+use Rattle.tree_rm_laws.specs.Reach.{roundHulls}
 use Rattle.tree_links.proofs.LinkLaws.{hulls-unlinked, read-unlinked}
-use Rattle.tree_rm_repair.proofs.Turns.{at-parent, parent-changes}
-use Rattle.tree_rm_laws.specs.Repair.{step}
+use Rattle.tree_rm_repair.proofs.Rounds.{at-parent, parent-changes}
+use Rattle.tree_rm_laws.specs.Repair.{round}
 use Rattle.words.proofs.Laws.{slot-live, slot-room}
 use borrow.Author.Needs.{needs}
 use native.Mathlib.Omega.{arith}
-use Rattle.tree_rm_repair.proofs.one_turn.Statement.{statement}
-use Rattle.tree_rm_repair.proofs.one_turn.Tie as tie
+use Rattle.tree_rm_repair.proofs.one_round.Statement.{statement}
+use Rattle.tree_rm_repair.proofs.one_round.Tie as tie
 
-pub one-turn-spec : {M : Type 1} → statement M
-unfolding step stepHulls
-one-turn-spec =
+pub one-round-spec : {M : Type 1} → statement M
+unfolding round roundHulls
+one-round-spec =
     tie.close
     (tie.spec
     (λ c κs. search needs)

@@ -14,8 +14,8 @@ use Rattle.tree.specs.Zipper.{bin, Frame, occs, Above, frame}
 use Rattle.tree.proofs.Slots.{hit-same, hit-zero, apart, apart-way, occ-bin}
 use Rattle.tree.proofs.Frames.{Same, shape-live, way-live, shape-root, off-link, open-bin, keep, move, above-keep}
 use Rattle.tree_edit.specs.Links.{setChild, rootAfter}
-use Rattle.tree_edit.specs.Rotations.{turn, turn-2, turn-4}
-use Rattle.tree_edit.proofs.Links.{on-slot, on-none, not-not, length-setChild, kid-setChild, kid-setChild-not, kid-setChild-other, par-setChild, par-setChild-other, length-replaced, par-replaced, par-replaced-other, kid-replaced-other, kid-replaced, kid-replaced-not, length-turn, length-turn-2}
+use Rattle.tree_edit.specs.Rotations.{rotate, rotate-2, rotate-4}
+use Rattle.tree_edit.proofs.Links.{on-slot, on-none, not-not, length-setChild, kid-setChild, kid-setChild-not, kid-setChild-other, par-setChild, par-setChild-other, length-replaced, par-replaced, par-replaced-other, kid-replaced-other, kid-replaced, kid-replaced-not, length-rotate, length-rotate-2}
 use Rattle.tree_edit.proofs.Stand.{Stand}
 
 -- on which side of its parent a place is
@@ -60,7 +60,7 @@ off-parent W n r (frame b a far ∷ c) g P s m h q z e =
     omega (arith, hit-same a)
 
 -- The words X come from W by this turn: the sibling S, on the far side of P, goes up over P, and S's near child goes to P.
-pub record Turned (n : ℕ) (W X : List ℕ) (b : Bool) (P S : ℕ) : Type 0 where
+pub record Rotated (n : ℕ) (W X : List ℕ) (b : Bool) (P S : ℕ) : Type 0 where
   pub kids : (d : Bool) (s : ℕ) → s ≢ P → s ≢ S → s ≢ par W P → kid X d s ≡ kid W d s
   pub pars : (s : ℕ) → s ≢ P → s ≢ S → s ≢ kid W b S → par X s ≡ par W s
   pub near-P : kid X b P ≡ kid W b P
@@ -93,15 +93,15 @@ module _ (W : List ℕ) (n r ix : ℕ) (b : Bool) (P S : ℕ) (c : List Frame) (
   not-c : (s : ℕ) → s < n → occ s C ≡ 0 → s ≢ kid W b S
   not-c s = off-link W n S (kid W b S) C s (h .small) (sib .left)
 
-  module _ (X : List ℕ) (v : Turned n W X b P S) where
+  module _ (X : List ℕ) (v : Rotated n W X b P S) where
     same : (s : ℕ) → s ≢ P → s ≢ S → s ≢ par W P → s ≢ kid W b S → Same W X s
     same s p q g x = (λ d. v .kids d s p q g, v .pars s p q x)
 
     same-at : (s : ℕ) → s < n → hit s P ≡ 0 → hit s S ≡ 0 → occs s c ≡ 0 → occ s C ≡ 0 → Same W X s
     same-at s q zp zs zc zC = same s (hit-zero s P zp) (hit-zero s S zs) (not-g s q zc) (not-c s q zC)
 
-    turned-below : Shape X n P ix t
-    turned-below =
+    rotated-below : Shape X n P ix t
+    rotated-below =
         keep W X n P ix t
         (λ s o. same-at s (shape-live W n P ix t s (h .tree) o) (omega (arith, one s)) (omega (arith, one s)) (omega (arith, one s)) (omega (arith, one s)))
         (h .tree)
@@ -139,8 +139,8 @@ module _ (W : List ℕ) (n r ix : ℕ) (b : Bool) (P S : ℕ) (c : List Frame) (
         (h .way .rest)
 
     -- the turned tree, seen from the same place
-    turned : Above X n (rootAfter n W r P S) (frame b P C ∷ frame b S D ∷ c) P ix
-    turned =
+    rotated-way : Above X n (rootAfter n W r P S) (frame b P C ∷ frame b S D ∷ c) P ix
+    rotated-way =
         record {
           at = refl;
           here = h .way .here ∙ sym (v .near-P);
@@ -199,9 +199,9 @@ module _ (W : List ℕ) (n r ix : ℕ) (b : Bool) (P S : ℕ) (c : List Frame) (
   k≢S e = S≢k (sym e)
 
   -- the three ways in which the repair writes a turn
-  is-turn : Turned n W (turn n W b P S) b P S
-  unfolding turn
-  is-turn =
+  is-rotate : Rotated n W (rotate n W b P S) b P S
+  unfolding rotate
+  is-rotate =
       record {
         kids = λ d s p q i. simp (kid-setChild-other, kid-replaced-other);
         pars = λ s p q i. simp (par-setChild-other, par-replaced-other);
@@ -217,9 +217,9 @@ module _ (W : List ℕ) (n r ix : ℕ) (b : Bool) (P S : ℕ) (c : List Frame) (
         other = λ u d e. kid-setChild-other n _ S P b d g g≢S ∙ kid-setChild-other n _ P _ (not b) d g g≢P ∙ kid-replaced-not n W P S d e;
       }
 
-  is-turn-2 : Turned n W (turn-2 n W b P S) b P S
-  unfolding turn-2
-  is-turn-2 =
+  is-rotate-2 : Rotated n W (rotate-2 n W b P S) b P S
+  unfolding rotate-2
+  is-rotate-2 =
       record {
         kids = λ d s p q i. simp (kid-setChild-other, kid-replaced-other);
         pars = λ s p q i. simp (par-setChild-other, par-replaced-other);
@@ -236,13 +236,13 @@ module _ (W : List ℕ) (n r ix : ℕ) (b : Bool) (P S : ℕ) (c : List Frame) (
       }
 
   -- the fourth case, where P too stands on the side b of its parent
-  turn-4-is : (d : Bool) → b ≡ not d → turn-4 n W d g P S ≡ setChild n (setChild n (setChild n W P k (not b)) S P b) g S b
-  unfolding turn-4
-  turn-4-is d e = rw (e, not-not)
+  rotate-4-is : (d : Bool) → b ≡ not d → rotate-4 n W d g P S ≡ setChild n (setChild n (setChild n W P k (not b)) S P b) g S b
+  unfolding rotate-4
+  rotate-4-is d e = rw (e, not-not)
 
-  pub is-turn-4 : (d : Bool) → b ≡ not d → g < n → eqb (kid W true g) P ≡ b → Turned n W (turn-4 n W d g P S) b P S
-  is-turn-4 d e ug eg =
-      rw (turn-4-is d e) (record {
+  pub is-rotate-4 : (d : Bool) → b ≡ not d → g < n → eqb (kid W true g) P ≡ b → Rotated n W (rotate-4 n W d g P S) b P S
+  is-rotate-4 d e ug eg =
+      rw (rotate-4-is d e) (record {
         kids = λ j s p q i. simp kid-setChild-other;
         pars = λ s p q i. simp par-setChild-other;
         near-P = kid-setChild-other n _ g S b b P P≢g ∙ kid-setChild-other n _ S P b b P P≢S ∙ kid-setChild-not n W P _ (not b) b refl;
@@ -258,19 +258,19 @@ module _ (W : List ℕ) (n r ix : ℕ) (b : Bool) (P S : ℕ) (c : List Frame) (
       })
 
   -- so the place stands in the turned tree
-  module _ (X : List ℕ) (v : Turned n W X b P S) (e : length X ≡ length W) where
-    pub stand-turned : Stand X n (rootAfter n W r P S) ix P (frame b P C ∷ frame b S D ∷ c) t
-    stand-turned =
+  module _ (X : List ℕ) (v : Rotated n W X b P S) (e : length X ≡ length W) where
+    pub stand-rotated : Stand X n (rootAfter n W r P S) ix P (frame b P C ∷ frame b S D ∷ c) t
+    stand-rotated =
         record {
           small = h .small;
           room = rw e (h .room);
           once = λ s. omega (arith, one s);
-          way = turned X v;
-          tree = turned-below X v;
+          way = rotated-way X v;
+          tree = rotated-below X v;
         }
 
-  pub stand-turn : Stand (turn n W b P S) n (rootAfter n W r P S) ix P (frame b P C ∷ frame b S D ∷ c) t
-  stand-turn = stand-turned (turn n W b P S) is-turn (length-turn n W b P S)
+  pub stand-rotate : Stand (rotate n W b P S) n (rootAfter n W r P S) ix P (frame b P C ∷ frame b S D ∷ c) t
+  stand-rotate = stand-rotated (rotate n W b P S) is-rotate (length-rotate n W b P S)
 
-  pub stand-turn-2 : Stand (turn-2 n W b P S) n (rootAfter n W r P S) ix P (frame b P C ∷ frame b S D ∷ c) t
-  stand-turn-2 = stand-turned (turn-2 n W b P S) is-turn-2 (length-turn-2 n W b P S)
+  pub stand-rotate-2 : Stand (rotate-2 n W b P S) n (rootAfter n W r P S) ix P (frame b P C ∷ frame b S D ∷ c) t
+  stand-rotate-2 = stand-rotated (rotate-2 n W b P S) is-rotate-2 (length-rotate-2 n W b P S)

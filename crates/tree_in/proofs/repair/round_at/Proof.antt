@@ -1,11 +1,11 @@
-use Rattle.tree_in.proofs.Mends.{uncle-black, uncle-fits, uncle-red, black-changes, red-changes}
+use Rattle.tree_in.proofs.InsertRounds.{uncle-black, uncle-fits, uncle-red, black-changes, red-changes}
 use native.Mathlib.Omega.{arith}
 use borrow.Author.Needs.{needs}
-use Rattle.tree_in.proofs.repair.turn_at.Statement.{statement}
-use Rattle.tree_in.proofs.repair.turn_at.Tie as tie
+use Rattle.tree_in.proofs.repair.round_at.Statement.{statement}
+use Rattle.tree_in.proofs.repair.round_at.Tie as tie
 
-pub turn-at-spec : {M : Type 1} → statement M
-turn-at-spec =
+pub round-at-spec : {M : Type 1} → statement M
+round-at-spec =
     tie.close
     (tie.spec
     (λ c κs. search needs)

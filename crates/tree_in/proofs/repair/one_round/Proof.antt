@@ -1,12 +1,12 @@
-use Rattle.tree_in.proofs.Mends.{parent-black, parent-red, root-black, root-changes, below-changes, quiet-black}
+use Rattle.tree_in.proofs.InsertRounds.{parent-black, parent-red, root-black, root-changes, below-changes, quiet-black}
 use Rattle.words.proofs.Laws.{slot-below, slot-live}
 use native.Mathlib.Omega.{arith}
 use borrow.Author.Needs.{needs}
-use Rattle.tree_in.proofs.repair.one_turn.Statement.{statement}
-use Rattle.tree_in.proofs.repair.one_turn.Tie as tie
+use Rattle.tree_in.proofs.repair.one_round.Statement.{statement}
+use Rattle.tree_in.proofs.repair.one_round.Tie as tie
 
-pub one-turn-spec : {M : Type 1} → statement M
-one-turn-spec =
+pub one-round-spec : {M : Type 1} → statement M
+one-round-spec =
     tie.close
     (tie.spec
     (λ c κs. search needs)

@@ -91,17 +91,17 @@ module _ (W : List ℕ) (n : ℕ) (small : n ≤ 65535) where
   fix-bin room p k false t s far zt zf h ht hf = fix-node p k far s t room zf zt h hf ht
 
 -- `fix_intervals_up` from p, the parent of the place
-pub walk : (height : ℕ) (W : List ℕ) (n r : ℕ) (c : List Frame) (p k : ℕ) (t : Tree) → n ≤ 65535 → n * 8 ≤ length W → length c ≤ height
+pub hulls-upward : (height : ℕ) (W : List ℕ) (n r : ℕ) (c : List Frame) (p k : ℕ) (t : Tree) → n ≤ 65535 → n * 8 ≤ length W → length c ≤ height
     → ((s : ℕ) → occs s c + occ s t ≤ 1) → Above W n r c p k → Shape W n p k t → Hulls W t → HullsBy W c
     → Hulls (fixUp n height W p) (plug c t) × Shape (fixUp n height W p) n U r (plug c t)
 unfolding fixUp
-walk zero W n r [] p k t m room f one h q ht hc = (ht, rw (← (h .0), ← (h .1)) q)
-walk (suc height) W n r [] p k t m room f one h q ht hc = rw (on-none n p (omega (arith, h .0))) (ht, rw (← (h .0), ← (h .1)) q)
-walk zero W n r (frame b s far ∷ c) p k t m room f one h q ht hc = absurd (omega arith)
-walk (suc height) W n r (frame b s far ∷ c) p k t m room f one h q ht hc =
+hulls-upward zero W n r [] p k t m room f one h q ht hc = (ht, rw (← (h .0), ← (h .1)) q)
+hulls-upward (suc height) W n r [] p k t m room f one h q ht hc = rw (on-none n p (omega (arith, h .0))) (ht, rw (← (h .0), ← (h .1)) q)
+hulls-upward zero W n r (frame b s far ∷ c) p k t m room f one h q ht hc = absurd (omega arith)
+hulls-upward (suc height) W n r (frame b s far ∷ c) p k t m room f one h q ht hc =
     let z : (occ s t ≡ 0) × (occ s far ≡ 0) × (occs s c ≡ 0) = omega (arith, one s, hit-same s) in
     let (a, o) = go-up W n r b s c p k t far h q in
-    let i = walk height (fix n W s) n r c (par W s) s (bin b t s far) m (rw length-fix room) (omega arith)
+    let i = hulls-upward height (fix n W s) n r c (par W s) s (bin b t s far) m (rw length-fix room) (omega arith)
     (λ x. omega (arith, one x, occ-bin x b t s far))
     (above-keep W (fix n W s) n r c (par W s) s (λ x y. same-fix n W s x) a)
     (keep W (fix n W s) n (par W s) s (bin b t s far) (λ x y. same-fix n W s x) o)
@@ -124,10 +124,10 @@ module _ (n : ℕ) where
       by-link n k (λ X. length X ≡ length W) _ W (λ h. length-fixUp height (fix n W k) (par W k) ∙ length-fix n W k) (λ h. refl)
 
   -- from no slot there is no walk
-  pub no-walk : (height : ℕ) (W : List ℕ) (k : ℕ) → n ≤ k → fixUp n height W k ≡ W
+  pub fixUp-stops : (height : ℕ) (W : List ℕ) (k : ℕ) → n ≤ k → fixUp n height W k ≡ W
   unfolding fixUp
-  no-walk zero W k h = refl
-  no-walk (suc height) W k h = rw (on-none n k h)
+  fixUp-stops zero W k h = refl
+  fixUp-stops (suc height) W k h = rw (on-none n k h)
 
 -- the turn of the fourth case, after which the hulls of S and then of Q are worked out: X are the turned words
 pub by-four : (W X : List ℕ) (n p k : ℕ) (b : Bool) (P Q S : ℕ) (A B D : Tree) (i c : List Frame) → n ≤ 65535 → n * 8 ≤ length X
@@ -161,7 +161,7 @@ pub fixUp-more : (c : List Frame) (height m : ℕ) (W : List ℕ) (n r p k : ℕ
     → fixUp n m W p ≡ fixUp n height W p
 unfolding fixUp
 fixUp-more [] height m W n r p k small l h a =
-    no-walk n m W p (omega (arith, a .0)) ∙ sym (no-walk n height W p (omega (arith, a .0)))
+    fixUp-stops n m W p (omega (arith, a .0)) ∙ sym (fixUp-stops n height W p (omega (arith, a .0)))
 fixUp-more (frame b s far ∷ c) zero m W n r p k small l h a = absurd (omega arith)
 fixUp-more (frame b s far ∷ c) (suc height) zero W n r p k small l h a = absurd (omega arith)
 fixUp-more (frame b s far ∷ c) (suc height) (suc m) W n r p k small l h a =

@@ -6,19 +6,19 @@ use Prim.Native.Nat.{ℕ, zero, suc}
 use lib.Dec.{eqb}
 use Rattle.words.specs.Ix.{onLink}
 use Rattle.words.specs.Nodes.{kid, par, fix}
-use Rattle.bitvec.specs.Colours.{red, redAt, dye}
+use Rattle.bitvec.specs.Colours.{red, redAt, paint}
 use Rattle.tree_edit.specs.Links.{rootAfter}
-use Rattle.tree_edit.specs.Rotations.{turn}
+use Rattle.tree_edit.specs.Rotations.{rotate}
 use Rattle.tree_edit.specs.Rounds.{Next, done, again, goOn}
 
 -- `rotate_left` at `true`, `rotate_right` at `false`: the child S of P on the side that b is not comes up over P. "A rotation works out the hull
 -- of the node that went down, then of the one that came up".
 unfoldable pub rotated : ℕ → List ℕ → Bool → ℕ → ℕ → List ℕ
-rotated n W b P S = fix n (fix n (turn n W b P S) P) S
+rotated n W b P S = fix n (fix n (rotate n W b P S) P) S
 
 -- the child P of G, on the side b, comes up over G: P becomes black and G red
 unfoldable pub outer : ℕ → List ℕ → List ℕ → ℕ → Bool → ℕ → ℕ → Next
-outer n W C r b P G = done (rotated n W (not b) G P) (dye (dye C P false) G true) (rootAfter n W r G P)
+outer n W C r b P G = done (rotated n W (not b) G P) (paint (paint C P false) G true) (rootAfter n W r G P)
 
 -- x is the child of P on the other side: it comes up over P first, and then over G
 unfoldable pub inner : ℕ → List ℕ → List ℕ → ℕ → ℕ → Bool → ℕ → ℕ → Next
@@ -26,24 +26,24 @@ inner n W C r x b P G = outer n (rotated n W b P x) C r b x G
 
 -- "recolour": parent and uncle u become black, the grandparent red, and the loop goes on there
 unfoldable pub recoloured : List ℕ → List ℕ → ℕ → ℕ → ℕ → ℕ → Next
-recoloured W C r P u G = again W (dye (dye (dye C P false) u false) G true) r G
+recoloured W C r P u G = again W (paint (paint (paint C P false) u false) G true) r G
 
 -- the slot x below the red P, which is on the side b of G
-unfoldable pub mendAt : ℕ → List ℕ → List ℕ → ℕ → ℕ → ℕ → ℕ → Bool → Next
-mendAt n W C r x P G b =
+unfoldable pub insertRoundAt : ℕ → List ℕ → List ℕ → ℕ → ℕ → ℕ → ℕ → Bool → Next
+insertRoundAt n W C r x P G b =
     cond (redAt n C (kid W (not b) G)) (recoloured W C r P (kid W (not b) G) G)
     (cond (eqb (kid W (not b) P) x) (inner n W C r x b P G) (outer n W C r b P G))
 
 -- the slot x below the red P: on a store that passes the check P has a parent, since the root is black
-unfoldable pub mendBelow : ℕ → List ℕ → List ℕ → ℕ → ℕ → ℕ → Next
-mendBelow n W C r x P = onLink n (par W P) (λ G. mendAt n W C r x P G (eqb (kid W true G) P)) (done W C r)
+unfoldable pub insertRoundBelow : ℕ → List ℕ → List ℕ → ℕ → ℕ → ℕ → Next
+insertRoundBelow n W C r x P = onLink n (par W P) (λ G. insertRoundAt n W C r x P G (eqb (kid W true G) P)) (done W C r)
 
 -- one turn of the loop, at the red slot x: "root black last"; a black parent ends it
-unfoldable pub mendStep : ℕ → List ℕ → List ℕ → ℕ → ℕ → Next
-mendStep n W C r x =
-    onLink n (par W x) (λ P. cond (red C P) (mendBelow n W C r x P) (done W C r)) (done W (dye C x false) r)
+unfoldable pub insertRound : ℕ → List ℕ → List ℕ → ℕ → ℕ → Next
+insertRound n W C r x =
+    onLink n (par W x) (λ P. cond (red C P) (insertRoundBelow n W C r x P) (done W C r)) (done W (paint C x false) r)
 
--- the loop, at most `turns` turns of it
-unfoldable pub mend : ℕ → ℕ → List ℕ → List ℕ → ℕ → ℕ → Next
-mend n zero W C r x = again W C r x
-mend n (suc turns) W C r x = goOn (mendStep n W C r x) (λ X D q i. mend n turns X D q i)
+-- the loop, at most `rounds` turns of it
+unfoldable pub insertRepair : ℕ → ℕ → List ℕ → List ℕ → ℕ → ℕ → Next
+insertRepair n zero W C r x = again W C r x
+insertRepair n (suc rounds) W C r x = goOn (insertRound n W C r x) (λ X D q i. insertRepair n rounds X D q i)

@@ -1,11 +1,11 @@
-use Rattle.tree_edit.specs.Rotations.{turn-2}
+use Rattle.tree_edit.specs.Rotations.{rotate-2}
 use borrow.Author.Needs.{needs}
-use Rattle.tree_rm_repair.proofs.turn_two.Statement.{statement}
-use Rattle.tree_rm_repair.proofs.turn_two.Tie as tie
+use Rattle.tree_rm_repair.proofs.rotate_two.Statement.{statement}
+use Rattle.tree_rm_repair.proofs.rotate_two.Tie as tie
 
-pub turn-two-spec : {M : Type 1} → statement M
-unfolding turn-2
-turn-two-spec =
+pub rotate-two-spec : {M : Type 1} → statement M
+unfolding rotate-2
+rotate-two-spec =
     tie.close
     (tie.spec
     (λ c κs. search needs)

@@ -9,14 +9,14 @@ use Rattle.words.specs.Intervals.{le}
 use Rattle.words.specs.Nodes.{interval, entry}
 use Rattle.words.specs.declared.interval.Interval.{Interval}
 use Rattle.words.specs.declared.node.Entry.{Entry}
-use Rattle.bitvec.specs.Colours.{dye}
+use Rattle.bitvec.specs.Colours.{paint}
 use Rattle.tree.specs.Tree.{slots}
 use Rattle.tree.specs.Passes.{Passes}
 use Rattle.tree_edit.specs.Links.{fixUp}
 use Rattle.tree_edit.specs.Store.{Store, store}
 use Rattle.tree_edit.specs.Rounds.{ending}
 use Rattle.tree_in_laws.specs.Descent.{descend}
-use Rattle.tree_in_laws.specs.Mend.{mend}
+use Rattle.tree_in_laws.specs.InsertRepair.{insertRepair}
 use Rattle.tree_in_laws.specs.Insert.{own, hungWords, hungRoot}
 
 -- the slots of a list that a test picks
@@ -31,7 +31,7 @@ notGreater W x l = only (λ a. le (interval W a) x) l
 abbrev pub greater : List ℕ → Interval → List ℕ → List ℕ
 greater W x l = only (λ a. not (le (interval W a) x)) l
 
-pub record Inserted (W C : List ℕ) (n r : ℕ) (e : Entry) (before : Passes W C n r) (S : Store) : Type 0 where
+pub record InsertionGuarantee (W C : List ℕ) (n r : ℕ) (e : Entry) (before : Passes W C n r) (S : Store) : Type 0 where
   -- the store passes again, with one entry more
   pub passes : Passes (S .words) (S .colours) (n + 1) (S .root)
   -- in tree order the old slots are those of entries that are not greater than the new one and then those of the greater ones; slot n, which
@@ -47,7 +47,7 @@ pub record Inserted (W C : List ℕ) (n r : ℕ) (e : Entry) (before : Passes W 
 
 -- the rule with other numbers: so many links down at the most, so many turns of the repair, so many hulls up
 unfoldable pub insertWith : ℕ → ℕ → ℕ → List ℕ → List ℕ → ℕ → ℕ → Entry → Store
-insertWith levels turns height W C n r e =
+insertWith levels rounds height W C n r e =
     let p : ℕ = onLink n r (λ s. descend n levels W (own e) s) U in
-    let t : Store = ending (mend (n + 1) turns (hungWords W n e p) (dye C n true) (hungRoot n r p) n) in
+    let t : Store = ending (insertRepair (n + 1) rounds (hungWords W n e p) (paint C n true) (hungRoot n r p) n) in
     store (fixUp (n + 1) height (t .words) n) (t .colours) (t .root)

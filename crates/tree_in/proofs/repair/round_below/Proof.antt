@@ -1,16 +1,16 @@
-use Rattle.tree_in.proofs.Mends.{at-grandparent, grandparent-changes}
-use Rattle.tree_in_laws.specs.Mend.{mendBelow}
-use Rattle.tree_in_laws.specs.Reach.{mendBelowHulls}
+use Rattle.tree_in.proofs.InsertRounds.{at-grandparent, grandparent-changes}
+use Rattle.tree_in_laws.specs.InsertRepair.{insertRoundBelow}
+use Rattle.tree_in_laws.specs.Reach.{insertRoundBelowHulls}
 use Rattle.tree_links.proofs.LinkLaws.{read-unlinked, hulls-unlinked}
 use Rattle.words.proofs.Laws.{slot-live, slot-room}
 use native.Mathlib.Omega.{arith}
 use borrow.Author.Needs.{needs}
-use Rattle.tree_in.proofs.repair.turn_below.Statement.{statement}
-use Rattle.tree_in.proofs.repair.turn_below.Tie as tie
+use Rattle.tree_in.proofs.repair.round_below.Statement.{statement}
+use Rattle.tree_in.proofs.repair.round_below.Tie as tie
 
-pub turn-below-spec : {M : Type 1} → statement M
-unfolding mendBelow mendBelowHulls
-turn-below-spec =
+pub round-below-spec : {M : Type 1} → statement M
+unfolding insertRoundBelow insertRoundBelowHulls
+round-below-spec =
     tie.close
     (tie.spec
     (λ c κs. search needs)

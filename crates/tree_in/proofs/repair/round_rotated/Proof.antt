@@ -1,10 +1,10 @@
-use Rattle.tree_in.proofs.Mends.{read-equal, read-unequal, equal-changes, unequal-changes}
+use Rattle.tree_in.proofs.InsertRounds.{read-equal, read-unequal, equal-changes, unequal-changes}
 use borrow.Author.Needs.{needs}
-use Rattle.tree_in.proofs.repair.turn_rotated.Statement.{statement}
-use Rattle.tree_in.proofs.repair.turn_rotated.Tie as tie
+use Rattle.tree_in.proofs.repair.round_rotated.Statement.{statement}
+use Rattle.tree_in.proofs.repair.round_rotated.Tie as tie
 
-pub turn-rotated-spec : {M : Type 1} → statement M
-turn-rotated-spec =
+pub round-rotated-spec : {M : Type 1} → statement M
+round-rotated-spec =
     tie.close
     (tie.spec
     (λ c κs. search needs)

@@ -5,9 +5,9 @@ use Prim.Native.Nat.{ℕ, _+_}
 use Rattle.tree.specs.Tree.{Tree, leaf, node}
 
 -- what a node counts among the blacks: 0 if it is red, 1 if it is black
-abbrev pub dark : Bool → ℕ
-dark true = 0
-dark false = 1
+abbrev pub blackOf : Bool → ℕ
+blackOf true = 0
+blackOf false = 1
 
 -- the root is there, and it is red
 abbrev pub rootRed : (ℕ → Bool) → Tree → Bool
@@ -17,16 +17,16 @@ rootRed K (node l s r) = K s
 -- the blacks on the way down to the left
 abbrev pub blacks : (ℕ → Bool) → Tree → ℕ
 blacks K leaf = 0
-blacks K (node l s r) = dark (K s) + blacks K l
+blacks K (node l s r) = blackOf (K s) + blacks K l
 
 -- At the node s: if it is red, neither child is; both ways down pass equally many blacks; L and R hold of its two subtrees.
-pub record Hue (K : ℕ → Bool) (l : Tree) (s : ℕ) (r : Tree) (L R : Type 0) : Type 0 where
-  pub calm : K s ≡ true → (rootRed K l ≡ false) × (rootRed K r ≡ false)
-  pub even : blacks K l ≡ blacks K r
+pub record RedBlackNode (K : ℕ → Bool) (l : Tree) (s : ℕ) (r : Tree) (L R : Type 0) : Type 0 where
+  pub noRedRed : K s ≡ true → (rootRed K l ≡ false) × (rootRed K r ≡ false)
+  pub equalBlacks : blacks K l ≡ blacks K r
   pub left : L
   pub right : R
 
 -- "no red node has a red child; every way down to U passes equally many blacks"
-abbrev pub Hues : (ℕ → Bool) → Tree → Type 0
-Hues K leaf = Unit {0}
-Hues K (node l s r) = Hue K l s r (Hues K l) (Hues K r)
+abbrev pub RedBlack : (ℕ → Bool) → Tree → Type 0
+RedBlack K leaf = Unit {0}
+RedBlack K (node l s r) = RedBlackNode K l s r (RedBlack K l) (RedBlack K r)
