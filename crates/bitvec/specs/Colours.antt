@@ -16,6 +16,6 @@ paint C s v = setBit C s v
 abbrev pub redAt : ℕ → List ℕ → ℕ → Bool
 redAt n C k = onLink n k (λ s. red C s) false
 
--- a link that leads to a slot has it dyed
+-- a link that leads to a slot has it painted
 unfoldable pub paintAt : ℕ → List ℕ → ℕ → Bool → List ℕ
 paintAt n C k v = onLink n k (λ s. paint C s v) C

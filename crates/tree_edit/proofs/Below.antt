@@ -178,7 +178,7 @@ module _ (n : ℕ) where
   pub both-paint : (C D : List ℕ) (s : ℕ) (v : Bool) → s < n → Both C D → Both (paint C s v) (paint D s v)
   both-paint C D s v h B = (rw length-setBit (B .0), sameColours-paint C D s v (B .0) h (B .1))
 
-  -- what a turn of a loop comes to
+  -- what a round of a loop comes to
   abbrev pub SameNext : Next → Next → Type 0
   SameNext (done W C r) (done X D q) = Agree n W X × Both C D × (r ≡ q)
   SameNext (done W C r) (again X D q j) = ⊥

@@ -1,4 +1,4 @@
--- Hulls: the trees beside the way up from a place keep their right hulls while entries change on the way, and through a turn.
+-- Hulls: the trees beside the way up from a place keep their right hulls while entries change on the way, and through a rotation.
 use mathlib.Core.Path.{_≡_, refl}
 use mathlib.Core.Bool.{Bool, true, false}
 use mathlib.Core.List.{List, [], _∷_, _++_}
@@ -66,7 +66,7 @@ hulls-by W (frame b s far ∷ c) t h =
     let (p, q) = open-hull W b t s far y in
     ((q, x), p)
 
--- a turn: the parent P and then the sibling S are above the place
+-- a rotation: the parent P and then the sibling S are above the place
 pub by-rotate : (W X : List ℕ) (b : Bool) (P S : ℕ) (C D : Tree) (i c : List Frame) → ((a : ℕ) → Kept W X a)
     → HullsBy W (i ++ (frame b P (bin b C S D) ∷ c)) → HullsBy X (i ++ (frame b P C ∷ frame b S D ∷ c))
 by-rotate W X b P S C D i c f h =

@@ -166,7 +166,7 @@ module _ (n : ℕ) (W : List ℕ) (old new : ℕ) where
   unfolding replaced
   kid-replaced-not d e = kid-putPar _ new (par W old) d (par W old) ∙ kid-redirect-not n W (par W old) old new d e
 
--- the turns of the repair
+-- the rotations of the repair
 module _ (n : ℕ) (W : List ℕ) (b : Bool) (P S : ℕ) where
   pub length-rotate : length (rotate n W b P S) ≡ length W
   unfolding rotate

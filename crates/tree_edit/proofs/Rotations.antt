@@ -1,4 +1,4 @@
--- Shape and slots: the sibling S of a place turns into the place of its parent P, and the words that the repair writes hold the turned tree.
+-- Shape and slots: the sibling S of a place comes up into the place of its parent P, and the words that the repair writes hold the rotated tree.
 use mathlib.Core.Path.{_≡_, refl, sym, _∙_}
 use mathlib.Core.Logic.{_≢_}
 use mathlib.Core.Bool.{Bool, true, false, not}
@@ -59,7 +59,7 @@ off-parent W n r (frame b a far ∷ c) g P s m h q z e =
     let y : occs a (frame b a far ∷ c) ≡ 0 = rw x at z in
     omega (arith, hit-same a)
 
--- The words X come from W by this turn: the sibling S, on the far side of P, goes up over P, and S's near child goes to P.
+-- The words X come from W by this rotation: the sibling S, on the far side of P, goes up over P, and S's near child goes to P.
 pub record Rotated (n : ℕ) (W X : List ℕ) (b : Bool) (P S : ℕ) : Type 0 where
   pub kids : (d : Bool) (s : ℕ) → s ≢ P → s ≢ S → s ≢ par W P → kid X d s ≡ kid W d s
   pub pars : (s : ℕ) → s ≢ P → s ≢ S → s ≢ kid W b S → par X s ≡ par W s
@@ -138,7 +138,7 @@ module _ (W : List ℕ) (n r ix : ℕ) (b : Bool) (P S : ℕ) (c : List Frame) (
         ))
         (h .way .rest)
 
-    -- the turned tree, seen from the same place
+    -- the rotated tree, seen from the same place
     rotated-way : Above X n (rootAfter n W r P S) (frame b P C ∷ frame b S D ∷ c) P ix
     rotated-way =
         record {
@@ -198,7 +198,7 @@ module _ (W : List ℕ) (n r ix : ℕ) (b : Bool) (P S : ℕ) (c : List Frame) (
   k≢S : k ≢ S
   k≢S e = S≢k (sym e)
 
-  -- the three ways in which the repair writes a turn
+  -- the three ways in which the repair writes a rotation
   is-rotate : Rotated n W (rotate n W b P S) b P S
   unfolding rotate
   is-rotate =
@@ -257,7 +257,7 @@ module _ (W : List ℕ) (n r ix : ℕ) (b : Bool) (P S : ℕ) (c : List Frame) (
         other = λ u j q. kid-setChild-not n _ g S b j (sym eg ∙ q) ∙ kid-setChild-other n _ S P b j g g≢S ∙ kid-setChild-other n W P _ (not b) j g g≢P;
       })
 
-  -- so the place stands in the turned tree
+  -- so the place stands in the rotated tree
   module _ (X : List ℕ) (v : Rotated n W X b P S) (e : length X ≡ length W) where
     pub stand-rotated : Stand X n (rootAfter n W r P S) ix P (frame b P C ∷ frame b S D ∷ c) t
     stand-rotated =

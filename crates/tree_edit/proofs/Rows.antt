@@ -12,7 +12,7 @@ pub map-same : {A : Type 0} (f g : ℕ → A) (l : List ℕ) → ((a : ℕ) → 
 map-same f g [] h = refl
 map-same f g (a ∷ l) h = rw (h a (omega (arith, hit-same a)), map-same f g l (λ c o. h c (omega arith)))
 
--- a turn keeps the slots in tree order
+-- a rotation keeps the slots in tree order
 slots-plug : (c : List Frame) (t u : Tree) → slots t ≡ slots u → slots (plug c t) ≡ slots (plug c u)
 slots-plug [] t u e = e
 slots-plug (frame b s far ∷ c) t u e = slots-plug c (bin b t s far) (bin b u s far) (go b)

@@ -129,7 +129,7 @@ module _ (n : ℕ) where
   fixUp-stops zero W k h = refl
   fixUp-stops (suc height) W k h = rw (on-none n k h)
 
--- the turn of the fourth case, after which the hulls of S and then of Q are worked out: X are the turned words
+-- the rotation of the fourth case, after which the hulls of S and then of Q are worked out: X are the rotated words
 pub by-four : (W X : List ℕ) (n p k : ℕ) (b : Bool) (P Q S : ℕ) (A B D : Tree) (i c : List Frame) → n ≤ 65535 → n * 8 ≤ length X
     → ((a : ℕ) → Kept W X a)
     → ((a : ℕ) → occs a i + (occ a A + hit a Q + (occ a B + hit a S + occ a D)) + occs a c ≤ 1)

@@ -1,4 +1,4 @@
--- The turns of the repair, in the form that `search` takes.
+-- The rounds of the repair, in the form that `search` takes.
 use mathlib.Core.Path.{_≡_, refl, sym, ap, _∙_}
 use mathlib.Core.Bool.{Bool, true, false, cond, not}
 use mathlib.Core.List.{List, []}

@@ -56,7 +56,7 @@ fn rotate(
 }
 
 // The parent, on that side of the grandparent, comes up over it: the parent becomes black and the grandparent red. So many
-// hulls as `before` says changed in this turn already.
+// hulls as `before` says changed in this round already.
 fn rotate_outer(
     nodes: &mut [u64],
     colours: &mut [u8],
@@ -74,7 +74,10 @@ fn rotate_outer(
     let rotated = rotate(nodes, count, root, !left_side, grandparent, parent);
     set_black(colours, parent);
     set_red(colours, grandparent);
-    Next::Done(rotated.root, before + rotated.reach)
+    Next::Done {
+        root: rotated.root,
+        reach: before + rotated.reach,
+    }
 }
 
 // The slot `index` is the child of its parent on the other side: it comes up over the parent first. The root stays, since
@@ -116,7 +119,7 @@ fn recolour(colours: &mut [u8], parent: u64, uncle: u64, grandparent: u64)
     set_red(colours, grandparent);
 }
 
-// One turn where the uncle is not red.
+// One round where the uncle is not red.
 fn round_rotated(
     nodes: &mut [u64],
     colours: &mut [u8],
@@ -160,7 +163,7 @@ fn round_rotated(
     )
 }
 
-// One turn, with the grandparent at hand and the side of it that the parent is on.
+// One round, with the grandparent at hand and the side of it that the parent is on.
 fn round_at(
     nodes: &mut [u64],
     colours: &mut [u8],
@@ -189,10 +192,14 @@ fn round_at(
         );
     }
     recolour(colours, parent, uncle, grandparent);
-    Next::Again(root, grandparent, 0)
+    Next::Again {
+        root,
+        at: grandparent,
+        reach: 0,
+    }
 }
 
-// One turn below a red parent. In a store that passes the check it has a parent too, since the root is black.
+// One round below a red parent. In a store that passes the check it has a parent too, since the root is black.
 fn round_below(
     nodes: &mut [u64],
     colours: &mut [u8],
@@ -206,7 +213,7 @@ fn round_below(
         × (reach r ≡ changes count (insertRoundBelowHulls count (now (nodes .entry)) (now (colours .entry)) index parent)) ⌝ }
 {
     let Link::Slot(grandparent) = Link::new(parent_of(nodes, parent), count) else {
-        return Next::Done(root, 0);
+        return Next::Done { root, reach: 0 };
     };
     let left_side = child_of(nodes, grandparent, true) == parent;
     round_at(
@@ -221,7 +228,7 @@ fn round_below(
     )
 }
 
-// One turn of the loop, at the red slot `index`.
+// One round of the loop, at the red slot `index`.
 fn one_round(nodes: &mut [u64], colours: &mut [u8], count: u64, root: u64, index: u64) -> Next
     requires { ⌜ (count * 8 ≤ length (now nodes)) × (count ≤ length (now colours) * 8) × (index < count) ⌝ }
     ensures { λ r. ⌜ (next r (now (nodes .exit)) (now (colours .exit)) ≡ insertRound count (now (nodes .entry)) (now (colours .entry)) root index)
@@ -229,16 +236,16 @@ fn one_round(nodes: &mut [u64], colours: &mut [u8], count: u64, root: u64, index
 {
     let Link::Slot(parent) = Link::new(parent_of(nodes, index), count) else {
         set_black(colours, index);
-        return Next::Done(root, 0);
+        return Next::Done { root, reach: 0 };
     };
     if is_red(colours, parent) {
         return round_below(nodes, colours, count, root, index, parent);
     }
-    Next::Done(root, 0)
+    Next::Done { root, reach: 0 }
 }
 
-// Repairs the tree from the red slot `index` upward. Each turn that goes on goes up two levels, so in a store that passes the
-// check 32 turns are enough.
+// Repairs the tree from the red slot `index` upward. Each round that goes on goes up two levels, so in a store that passes the
+// check 32 rounds are enough.
 pub(crate) fn insert_repair(
     nodes: &mut [u64],
     colours: &mut [u8],
@@ -256,13 +263,17 @@ pub(crate) fn insert_repair(
     let mut rounds: u64 = 32;
     while rounds > 0 {
         match one_round(nodes, colours, count, top, at) {
-            Next::Done(r, k) => {
+            Next::Done { root: r, reach: k } => {
                 return Repaired {
                     root: r,
                     reach: reach + k,
                 };
             }
-            Next::Again(r, i, k) => {
+            Next::Again {
+                root: r,
+                at: i,
+                reach: k,
+            } => {
                 top = r;
                 at = i;
                 reach += k;

@@ -1,4 +1,4 @@
--- Greater numbers of links down and of turns than the rule's 32 come to the same; `fixUp-more` of tree_rm_laws says it of the hulls.
+-- Greater numbers of links down and of rounds than the rule's 32 come to the same; `fixUp-more` of tree_edit says it of the hulls.
 use mathlib.Core.Path.{_≡_, refl}
 use mathlib.Core.List.{List}
 use Prim.Native.Nat.{ℕ, zero, suc, _≤_}

@@ -1,4 +1,4 @@
--- The repair, step by step on the bytes: each turn goes up two slots or ends, so that 32 turns suffice.
+-- The repair, step by step on the bytes: each round goes up two slots or ends, so that 32 rounds suffice.
 use mathlib.Core.Path.{_≡_, refl, sym, _∙_}
 use mathlib.Core.Bool.{Bool, true, false, not}
 use mathlib.Core.List.{List, [], _∷_}
@@ -24,7 +24,7 @@ use Rattle.tree_edit.proofs.Colours.{red-link, paint-one, paint-two, paint-thre
 use Rattle.tree_in_laws.specs.InsertRepair.{rotated, outer, inner, recoloured, insertRoundAt, insertRoundBelow, insertRound, insertRepair}
 use Rattle.tree_in_laws.proofs.Loop.{LoopInvariant, Settled, at-root, below-black, not-root, red-uncle, outer-child, inner-child}
 
--- what a turn comes to
+-- what a round comes to
 module _ (n : ℕ) (W C : List ℕ) (r x : ℕ) where
   round-root : n ≤ par W x → insertRound n W C r x ≡ done W (paint C x false) r
   unfolding insertRound
@@ -65,7 +65,7 @@ pub record Loop (n z : ℕ) (base : List ℕ) (d : ℕ) (W : List ℕ) (K : ℕ 
   pub invariant : LoopInvariant n z base W K r x p c t m
   pub short : length c < d
 
--- after a turn: the end, or a place higher up
+-- after a round: the end, or a place higher up
 abbrev pub Good : ℕ → ℕ → List ℕ → ℕ → Next → Type 0
 Good n z base d (done W C r) = Settled n z base W (red C) r × (n ≤ length C * 8)
 Good n z base d (again W C r x) = Loop n z base d W (red C) r x × (n ≤ length C * 8)

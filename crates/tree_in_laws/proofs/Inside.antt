@@ -37,7 +37,7 @@ module _ (n : ℕ) where
         entries = λ a. g .entries a ∙ f .entries a;
       }
 
-  -- words rotated at P, and nothing dyed
+  -- words rotated at P, and nothing painted
   steady-rotated : (W C : List ℕ) (r : ℕ) (b : Bool) (P S : ℕ) → P < n → S < n → InPlace n W C (store (rotated n W b P S) C r)
   unfolding rotated
   steady-rotated W C r b P S lp ls =

@@ -1,4 +1,4 @@
--- The invariant of the repair's loop, where shape, order, hulls and colours meet; and that each turn of it keeps it or ends it.
+-- The invariant of the repair's loop, where shape, order, hulls and colours meet; and that each round of it keeps it or ends it.
 use mathlib.Core.Path.{_≡_, refl, sym, _∙_}
 use mathlib.Core.Logic.{_≢_}
 use mathlib.Core.Bool.{Bool, true, false, not, false≢true, true≢false}

@@ -93,7 +93,7 @@ reached W C n r e =
     then (n + 1) X (t .words) (insertRepairHulls (n + 1) 32 X (paint C n true) (hungRoot n r p) n) (upHulls (n + 1) 32 (t .words) n) (insertRule W C n r e .words)
     (follows-insertRepair (n + 1) 32 X (paint C n true) (hungRoot n r p) n) (follows-up (n + 1) 32 (t .words) n)
 
--- how much it can be, on any words: a turn works out four hulls at the most
+-- how much it can be, on any words: a round works out four hulls at the most
 module _ (n : ℕ) where
   pub insertRound-le : (W C : List ℕ) (x : ℕ) → changes n (insertRoundHulls n W C x) ≤ 4
   unfolding insertRoundHulls insertRoundBelowHulls insertRoundAtHulls innerHulls outerHulls rotatedHulls

@@ -38,12 +38,12 @@ insertRoundAt n W C r x P G b =
 unfoldable pub insertRoundBelow : ℕ → List ℕ → List ℕ → ℕ → ℕ → ℕ → Next
 insertRoundBelow n W C r x P = onLink n (par W P) (λ G. insertRoundAt n W C r x P G (eqb (kid W true G) P)) (done W C r)
 
--- one turn of the loop, at the red slot x: "root black last"; a black parent ends it
+-- one round of the loop, at the red slot x: "root black last"; a black parent ends it
 unfoldable pub insertRound : ℕ → List ℕ → List ℕ → ℕ → ℕ → Next
 insertRound n W C r x =
     onLink n (par W x) (λ P. cond (red C P) (insertRoundBelow n W C r x P) (done W C r)) (done W (paint C x false) r)
 
--- the loop, at most `rounds` turns of it
+-- the loop, at most `rounds` rounds of it
 unfoldable pub insertRepair : ℕ → ℕ → List ℕ → List ℕ → ℕ → ℕ → Next
 insertRepair n zero W C r x = again W C r x
 insertRepair n (suc rounds) W C r x = goOn (insertRound n W C r x) (λ X D q i. insertRepair n rounds X D q i)

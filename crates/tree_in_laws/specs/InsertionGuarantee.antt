@@ -45,7 +45,7 @@ pub record InsertionGuarantee (W C : List ℕ) (n r : ℕ) (e : Entry) (before :
   pub entries-kept : (a : ℕ) → a ≢ n → entry (S .words) a ≡ entry W a
   pub entry-new : entry (S .words) n ≡ e
 
--- the rule with other numbers: so many links down at the most, so many turns of the repair, so many hulls up
+-- the rule with other numbers: so many links down at the most, so many rounds of the repair, so many hulls up
 unfoldable pub insertWith : ℕ → ℕ → ℕ → List ℕ → List ℕ → ℕ → ℕ → Entry → Store
 insertWith levels rounds height W C n r e =
     let p : ℕ = onLink n r (λ s. descend n levels W (own e) s) U in

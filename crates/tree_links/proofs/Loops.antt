@@ -1,4 +1,4 @@
--- A loop of turns, in the form that `search` takes: that of the repair before a removal, and that of the repair after an insertion.
+-- A loop of rounds, in the form that `search` takes: that of the repair before a removal, and that of the repair after an insertion.
 use mathlib.Core.Path.{_≡_, refl, sym, ap, _∙_}
 use mathlib.Core.Bool.{Bool, true, false, cond}
 use mathlib.Core.List.{List, [], _++_}
@@ -31,13 +31,13 @@ link-stays n w f W C r X D q i h e = go (leb n w) refl e
     go true p z = let y : _≡_ {A = ℕ} 0 1 = cc in absurd (omega arith)
     go false p z = h w (leb-false n w p) z
 
--- `run` is the loop over `round`, at most so many turns of it
+-- `run` is the loop over `round`, at most so many rounds of it
 pub record Loop (round : List ℕ → List ℕ → ℕ → ℕ → Next) (run : ℕ → List ℕ → List ℕ → ℕ → ℕ → Next) : Type 0 where
   pub stops : (W C : List ℕ) (r ix : ℕ) → run 0 W C r ix ≡ again W C r ix
   pub rounds : (f : ℕ) (W C : List ℕ) (r ix : ℕ) → run (suc f) W C r ix ≡ goOn (round W C r ix) (λ X D q i. run f X D q i)
 
 module _ (round : ℕ → List ℕ → List ℕ → ℕ → ℕ → Next) (run : ℕ → ℕ → List ℕ → List ℕ → ℕ → ℕ → Next) (loop : (n : ℕ) → Loop (round n) (run n)) where
-  -- one turn was made
+  -- one round was made
   module _ (n f : ℕ) (N : Next) (W C : List ℕ) (r ix : ℕ) (X D : List ℕ) (t : T.Next) (q : ℕ) where
     made : (g : ℕ) → N ≡ run n (suc g) W C r ix → next t X D ≡ round n W C r ix
         → (u : T.Next) → t ≡ u → N ≡ goOn (next u X D) (λ A B a j. run n g A B a j)
@@ -69,7 +69,7 @@ module _ (round : ℕ → List ℕ → List ℕ → ℕ → ℕ → Next)
       → t ≡ ts.Again q i k → next t X D ≡ round n W C r ix → ix < n → i < n
   loop-stays n W C r ix X D t q i k z p h = stays n W C r ix X D q i h (sym p ∙ ap (λ (s : T.Next). next s X D) z)
 
--- The hulls that a loop works out, four a turn at the most: `hulls` those of a turn, `works` those of the loop.
+-- The hulls that a loop works out, four a round at the most: `hulls` those of a round, `works` those of the loop.
 pub record Counted (n : ℕ) (round : List ℕ → List ℕ → ℕ → ℕ → Next) (hulls : List ℕ → List ℕ → ℕ → List Work)
     (works : ℕ → List ℕ → List ℕ → ℕ → ℕ → List Work) : Type 0 where
   pub stops : (W C : List ℕ) (r ix : ℕ) → works 0 W C r ix ≡ []
@@ -101,7 +101,7 @@ module _ (round : ℕ → List ℕ → List ℕ → ℕ → ℕ → Next) (hulls
   count-none n zero W C r ix R k e h = let y : R ≡ k + 0 = e ∙ ap (λ (l : List Work). k + changes n l) (counted n .stops W C r ix) in omega arith
   count-none n (suc f) W C r ix R k e h = absurd (omega arith)
 
-  -- the sum fits, and stays below four a turn
+  -- the sum fits, and stays below four a round
   module _ (n : ℕ) (W C : List ℕ) (ix : ℕ) (t : T.Next) (k f : ℕ) (e : reach t ≡ changes n (hulls n W C ix)) (m : k + 4 * f ≤ 144) (h : 0 < f) where
     pub sum-fits : (q i j : ℕ) → t ≡ ts.Again q i j → k + j < 18446744073709551616
     sum-fits q i j z = let y : j ≤ 4 = rw (← (ap reach z), e) (counted n .most W C ix) in omega arith

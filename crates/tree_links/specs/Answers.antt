@@ -1,11 +1,11 @@
--- What a turn's answer stands for. Together the definitions tell any two answers apart.
+-- What a round's answer stands for. Together the definitions tell any two answers apart.
 use mathlib.Core.List.{List}
 use Prim.Native.Nat.{ℕ}
 use Rattle.tree_edit.specs.Rounds as rule
 use Rattle.tree_links.specs.declared.Next.{Next}
 use Rattle.tree_links.specs.declared.Next.the-variants.{Done, Again}
 
--- a turn's answer, with the words and the colours that it leaves
+-- a round's answer, with the words and the colours that it leaves
 abbrev pub next : Next → List ℕ → List ℕ → rule.Next
 next (Done r k) W C = rule.done W C r
 next (Again r ix k) W C = rule.again W C r ix

@@ -16,10 +16,12 @@ ghost use Rattle.tree_edit.specs.Links.{adopt, setChild, redirected, removeChil
 ghost use Rattle.tree_edit.specs.Rotations.{rotate};
 ghost use Rattle.tree_edit.specs.Reach.{differs, changes, bothHulls, upHulls};
 
-// The root; where the loop goes on, the slot that it stands at; and how many hulls changed in this turn.
+// What a round of a repair comes to: the root, and how many hulls changed in the round.
 pub enum Next {
-    Done(u64, u64),
-    Again(u64, u64, u64),
+    // The repair is done.
+    Done { root: u64, reach: u64 },
+    // It goes on at the slot `at`.
+    Again { root: u64, at: u64, reach: u64 },
 }
 
 // The root after a repair, and how many hulls changed in it.
@@ -110,7 +112,7 @@ pub fn replace_children(nodes: &mut [u64], count: u64, root: u64, old: u64, new:
     root_below(count, root, parent, new)
 }
 
-// The sibling turns into the place of the parent, as in case two with the last two writes in the other order: case five's
+// The sibling comes up into the place of the parent, as in case two with the last two writes in the other order: case five's
 // links, and those of a rotation after an insertion. The answer is the root.
 pub fn rotate_up(
     nodes: &mut [u64],

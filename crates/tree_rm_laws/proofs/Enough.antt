@@ -1,4 +1,4 @@
--- The rule's numbers of turns, of links and of hulls suffice: on every store that passes the check any greater ones come to the same store, value
+-- The rule's numbers of rounds, of links and of hulls suffice: on every store that passes the check any greater ones come to the same store, value
 -- and pairs.
 use mathlib.Core.Path.{_≡_, refl, sym, _∙_}
 use mathlib.Core.Bool.{Bool, true, false}
@@ -174,7 +174,7 @@ module _ (W C : List ℕ) (n r s : ℕ) (small : n ≤ 65535) (fit : n * 8 ≤ l
     unfolding removeFromWith removeFrom finishWith finish
     from-more = rw (same-store, same-words) refl
 
-  -- greater numbers of turns, of links and of hulls than the rule's 36, 32 and 32 come to the same store, value and pairs
+  -- greater numbers of rounds, of links and of hulls than the rule's 36, 32 and 32 come to the same store, value and pairs
   pub enough : (rounds links hulls : ℕ) → 36 ≤ rounds → 32 ≤ links → 32 ≤ hulls → removeWith rounds links hulls W C n r s ≡ removeRule W C n r s
   unfolding removeWith removeRule
   enough rounds links hulls i j k =

@@ -108,7 +108,7 @@ module _ (X C : List ℕ) (n r x : ℕ) (b : Bool) (c : List Frame) (near : Tree
           hulls = h .hulls;
         }
 
-    -- x is black: 36 turns suffice
+    -- x is black: 36 rounds suffice
     pub as-black : red C x ≡ false → Lighter n x base 36 X (red C) r x
     as-black e =
         let (way, o) = at-x X C n r x b c near h in

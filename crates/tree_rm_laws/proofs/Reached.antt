@@ -24,7 +24,7 @@ use Rattle.tree_edit.proofs.Links.{by-link, kept-rotate, kept-rotate-2, kept-ro
 use Rattle.tree_edit.proofs.Reached.{kept-stays, from, then, linked, linked-next, follows-up, changes-le, up-most}
 
 module _ (n : ℕ) where
-  -- a turn of the repair
+  -- a round of the repair
   follows-act : (k : Case) (W C : List ℕ) (r ix : ℕ) (b : Bool) (P S c d : ℕ)
       → Follows n W (actHulls n k W b P S c) (ending (act n k W C r ix b P S c d) .words)
   follows-act one W C r ix b P S c d = λ a. refl
@@ -112,7 +112,7 @@ cut-then-moved W C n r s = refl
 
 -- how much it can be, on any words
 module _ (n : ℕ) where
-  -- a turn works out two hulls at the most
+  -- a round works out two hulls at the most
   round-two : (W C : List ℕ) (ix : ℕ) → length (roundHulls n W C ix) ≤ 2
   unfolding roundHulls roundAtHulls roundOfHulls
   round-two W C ix =

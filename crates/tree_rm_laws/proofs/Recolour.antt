@@ -37,7 +37,7 @@ module _ (K L : ℕ → Bool) (b : Bool) (P S : ℕ) (c : List Frame) (m : ℕ)
         }),
       )
 
-  -- black parent, red sibling: the sibling turns into the place of the parent
+  -- black parent, red sibling: the sibling comes up into the place of the parent
   pub case-2 : (C D : Tree) → K P ≡ false → K S ≡ true → L P ≡ true → L S ≡ false → Keeps K L C → Keeps K L D
       → Fits K (frame b P (bin b C S D) ∷ c) (suc m) false
       → Fits L (frame b P C ∷ frame b S D ∷ c) (suc m) false
@@ -80,7 +80,7 @@ module _ (K L : ℕ → Bool) (b : Bool) (P S : ℕ) (c : List Frame) (m : ℕ)
         rest = rw (lp, one-add) (way (suc m) false (fits-black K c (suc m) true (rw (kp, zero-add) at (h .rest))));
       }
 
-  -- black sibling, red close nephew Q, black distant one: Q turns into the place of the sibling
+  -- black sibling, red close nephew Q, black distant one: Q comes up into the place of the sibling
   pub case-4 : (X : Tree) (Q : ℕ) (Y D : Tree) → K S ≡ false → K Q ≡ true → rootRed K D ≡ false
       → L P ≡ K P → L S ≡ true → L Q ≡ false → Keeps K L X → Keeps K L Y → Keeps K L D
       → Fits K (frame b P (bin b (bin b X Q Y) S D) ∷ c) (suc m) false
@@ -112,7 +112,7 @@ module _ (K L : ℕ → Bool) (b : Bool) (P S : ℕ) (c : List Frame) (m : ℕ)
         rest = rw lp (way (blackOf (K P) + suc m) (K P) (h .rest));
       }
 
-  -- black sibling, red distant nephew Q: the sibling turns into the place of the parent and takes its colour. That is the end
+  -- black sibling, red distant nephew Q: the sibling comes up into the place of the parent and takes its colour. That is the end
   pub case-5 : (C X : Tree) (Q : ℕ) (Y : Tree) → K S ≡ false → K Q ≡ true
       → L P ≡ false → L S ≡ K P → L Q ≡ false → Keeps K L C → Keeps K L X → Keeps K L Y
       → Fits K (frame b P (bin b C S (bin b X Q Y)) ∷ c) (suc m) false

@@ -1,4 +1,4 @@
--- The repair, step by step on the bytes: each turn keeps the loop's invariant and weighs less, so that 36 turns suffice.
+-- The repair, step by step on the bytes: each round keeps the loop's invariant and weighs less, so that 36 rounds suffice.
 use mathlib.Core.Path.{_≡_, refl, sym, _∙_}
 use mathlib.Core.Bool.{Bool, true, false, not, false≢true}
 use mathlib.Core.List.{List, [], _∷_}
@@ -23,7 +23,7 @@ use Rattle.tree_edit.proofs.Fits.{open-redBlack, root-bin}
 use Rattle.tree_rm_laws.proofs.Weight.{weight-is, weigh, weight}
 use Rattle.tree_rm_laws.proofs.Loop.{Bare, LoopInvariant, Loop, Lighter, Fixed, ended, good-1, good-2, good-3, good-4, good-5}
 
--- after a turn: the end, or a lighter place
+-- after a round: the end, or a lighter place
 abbrev Good : ℕ → ℕ → List ℕ → ℕ → Next → Type 0
 Good n x base w (done W C r) = Fixed n x base W (red C) r × (n ≤ length C * 8)
 Good n x base w (again W C r ix) = Lighter n x base w W (red C) r ix × (n ≤ length C * 8)
@@ -32,7 +32,7 @@ red-live : (W : List ℕ) (K : ℕ → Bool) (n p k : ℕ) (t : Tree) → Shape 
 red-live W K n p k leaf h e = absurd (false≢true e)
 red-live W K n p k (node l s r) h e = rw (h .here) (h .live)
 
--- one turn, below P with the sibling S
+-- one round, below P with the sibling S
 module _ (n x : ℕ) (base W Y : List ℕ) (r ix : ℕ) (b : Bool) (P S : ℕ) (c : List Frame) (C D : Tree) (i : List Frame) (m : ℕ)
     (bits : n ≤ length Y * 8) (invariant : LoopInvariant n x base W (red Y) r ix P (frame b P (bin b C S D) ∷ c) i m) where
   abbrev h : Stand W n r ix P (frame b P (bin b C S D) ∷ c) (plug i (Bare x))
@@ -116,7 +116,7 @@ module _ (n x : ℕ) (base W Y : List ℕ) (r ix : ℕ) (b : Bool) (P S : ℕ) (
       go true false true true p s c d = as-5 s d
       go true true kc kd p s c d = no-P p s
 
--- a step comes to a turn where there are a parent and a sibling
+-- a step comes to a round where there are a parent and a sibling
 step-is : (n : ℕ) (W C : List ℕ) (r ix P : ℕ) (b : Bool) (S : ℕ) → par W ix ≡ P → P < n → eqb (kid W true P) ix ≡ b → kid W (not b) P ≡ S → S < n
     → round n W C r ix ≡ roundOf n W C r ix P b S
 unfolding round roundAt

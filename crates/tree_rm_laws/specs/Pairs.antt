@@ -9,8 +9,8 @@ use Rattle.words.specs.declared.pair.Pairs.{Pairs}
 abbrev pub none : Pair
 none = record { old = U; new = U }
 
--- a, and b where a is c
-unfoldable pub movedTo : ℕ → ℕ → ℕ → ℕ
+-- slot a after slot c's content moved to b
+unfoldable pub movedTo : (from to slot : ℕ) → ℕ
 movedTo c b a = cond (eqb a c) b a
 
 -- the slot that is emptied: the child's where there is one

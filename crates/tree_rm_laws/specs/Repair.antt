@@ -27,7 +27,7 @@ act n three W C r ix b P S c d = done W (paint (paint C P false) S true) r
 act n four W C r ix b P S c d = again (fix n (fix n (rotate-4 n W b P S c) S) c) (paint (paint C c false) S true) r ix
 act n five W C r ix b P S c d = done (rotate n W b P S) (paintAt n (paint (paint C S (red C P)) P false) d false) (rootAfter n W r P S)
 
--- one turn of the loop, with the parent, the side and the sibling at hand
+-- one round of the loop, with the parent, the side and the sibling at hand
 unfoldable pub roundOf : ℕ → List ℕ → List ℕ → ℕ → ℕ → ℕ → Bool → ℕ → Next
 roundOf n W C r ix P b S =
     act n (choose (red C P) (red C S) (redAt n C (kid W b S)) (redAt n C (kid W (not b) S))) W C r ix b P S (kid W b S) (kid W (not b) S)
@@ -40,7 +40,7 @@ roundAt n W C r ix P b = onLink n (kid W (not b) P) (λ S. roundOf n W C r ix P 
 unfoldable pub round : ℕ → List ℕ → List ℕ → ℕ → ℕ → Next
 round n W C r ix = onLink n (par W ix) (λ P. roundAt n W C r ix P (eqb (kid W true P) ix)) (done W C r)
 
--- the loop, at most `rounds` turns of it
+-- the loop, at most `rounds` rounds of it
 unfoldable pub repair : ℕ → ℕ → List ℕ → List ℕ → ℕ → ℕ → Next
 repair n zero W C r ix = again W C r ix
 repair n (suc rounds) W C r ix = goOn (round n W C r ix) (λ X D q i. repair n rounds X D q i)

@@ -1,4 +1,4 @@
--- The removal with other numbers than the rule's 36, 32 and 32: so many turns of the repair at the most, so many links down to the slot to vacate, so
+-- The removal with other numbers than the rule's 36, 32 and 32: so many rounds of the repair at the most, so many links down to the slot to vacate, so
 -- many hulls up.
 use mathlib.Core.Bool.{true, false, cond}
 use mathlib.Core.List.{List}

@@ -76,7 +76,7 @@ fn case_at(colours: &[u8], count: u64, parent: u64, sibling: u64, close: u64, di
     )
 }
 
-// Case two's links: the sibling turns into the place of the parent; the answer is the root.
+// Case two's links: the sibling comes up into the place of the parent; the answer is the root.
 fn rotate_two(
     nodes: &mut [u64],
     count: u64,
@@ -95,7 +95,7 @@ fn rotate_two(
     top
 }
 
-// Case four's links: the close nephew turns into the place of the sibling.
+// Case four's links: the close nephew comes up into the place of the sibling.
 fn rotate_four(
     nodes: &mut [u64],
     count: u64,
@@ -129,7 +129,11 @@ fn case_two(
     set_red(colours, parent);
     set_black(colours, sibling);
     let top = rotate_two(nodes, count, root, node_is_left, parent, sibling);
-    Next::Again(top, ix, 0)
+    Next::Again {
+        root: top,
+        at: ix,
+        reach: 0,
+    }
 }
 
 fn case_four(
@@ -150,7 +154,11 @@ fn case_four(
     set_red(colours, sibling);
     rotate_four(nodes, count, node_is_left, parent, sibling, close);
     let changed = rework_both(nodes, count, sibling, close);
-    Next::Again(root, ix, changed)
+    Next::Again {
+        root,
+        at: ix,
+        reach: changed,
+    }
 }
 
 fn case_five(
@@ -170,7 +178,10 @@ fn case_five(
     set_black(colours, parent);
     set_black_at(colours, count, distant);
     let top = rotate_up(nodes, count, root, node_is_left, parent, sibling);
-    Next::Done(top, 0)
+    Next::Done {
+        root: top,
+        reach: 0,
+    }
 }
 
 // What the case writes, for the node ix with its parent, its sibling and the link words of the nephews.
@@ -194,7 +205,11 @@ fn act_on(
     match case {
         Case::One => {
             set_red(colours, sibling);
-            Next::Again(root, parent, 0)
+            Next::Again {
+                root,
+                at: parent,
+                reach: 0,
+            }
         }
         Case::Two => case_two(
             nodes,
@@ -209,7 +224,7 @@ fn act_on(
         Case::Three => {
             set_black(colours, parent);
             set_red(colours, sibling);
-            Next::Done(root, 0)
+            Next::Done { root, reach: 0 }
         }
         Case::Four => case_four(
             nodes,
@@ -235,7 +250,7 @@ fn act_on(
     }
 }
 
-// One turn of the loop, with the parent, the side and the sibling at hand.
+// One round of the loop, with the parent, the side and the sibling at hand.
 fn round_of(
     nodes: &mut [u64],
     colours: &mut [u8],
@@ -283,7 +298,7 @@ fn round_at(
         × (reach r ≡ changes count (roundAtHulls count (now (nodes .entry)) (now (colours .entry)) parent «node_is_left»)) ⌝ }
 {
     let Link::Slot(sibling) = Link::new(child_of(nodes, parent, !node_is_left), count) else {
-        return Next::Done(root, 0);
+        return Next::Done { root, reach: 0 };
     };
     round_of(
         nodes,
@@ -304,13 +319,13 @@ fn one_round(nodes: &mut [u64], colours: &mut [u8], count: u64, root: u64, ix: u
 {
     // Case (terminal): Node is the root of the tree.
     let Link::Slot(parent) = Link::new(parent_of(nodes, ix), count) else {
-        return Next::Done(root, 0);
+        return Next::Done { root, reach: 0 };
     };
     let node_is_left = child_of(nodes, parent, true) == ix;
     round_at(nodes, colours, count, root, ix, parent, node_is_left)
 }
 
-// Restructure the tree before removing ix. In a store that passes the check 36 turns suffice.
+// Restructure the tree before removing ix. In a store that passes the check 36 rounds suffice.
 fn restructure_rm_complex_cases(
     nodes: &mut [u64],
     colours: &mut [u8],
@@ -328,13 +343,17 @@ fn restructure_rm_complex_cases(
     let mut rounds: u64 = 36;
     while rounds > 0 {
         match one_round(nodes, colours, count, top, at) {
-            Next::Done(r, k) => {
+            Next::Done { root: r, reach: k } => {
                 return Repaired {
                     root: r,
                     reach: reach + k,
                 };
             }
-            Next::Again(r, i, k) => {
+            Next::Again {
+                root: r,
+                at: i,
+                reach: k,
+            } => {
                 top = r;
                 at = i;
                 reach += k;
