@@ -198,7 +198,7 @@ NAMES = [
     ("Removed", "RemovalGuarantee", r"crates/tree_rm_laws/|crates/iset/(specs/Demands|proofs/(Removals|Answers|After))\.antt", FIRST),
     ("Removal", "Removed", r"crates/tree_rm_laws/|crates/tree_rm/proofs/Removes\.antt|crates/iset/(specs/Demands|proofs/(Sequence|Demands|After))\.antt", FIRST),
     ("SameRemoval", "SameRemoved", r"crates/(tree_rm_laws|iset)/"),
-    ("Inserted", "InsertionGuarantee", r"crates/(tree_in_laws|iset)/"),
+    ("Inserted", "InsertionGuarantee", r"crates/tree_in_laws/|crates/iset/(specs|proofs)/", FIRST),
 ]
 
 # Places that take more than a name: path, old text, new text. They go first.

@@ -13,7 +13,7 @@ ghost use Rattle.iset.specs.Check.{checkNumber};
 ghost use Rattle.iset.specs.Insert.{entryOf, fullNumber, openInsertNumber, roomThenCheck, insertAnswer, insertEntry, openInsertCall, insertCall};
 
 // The map with the entry, the entry's slot, and how many hulls changed.
-pub struct InsertionGuarantee {
+pub struct Inserted {
     pub map: Map,
     pub slot: u64,
     pub reach: u64,
@@ -21,7 +21,7 @@ pub struct InsertionGuarantee {
 
 // What an insertion answers. Where it is refused the map is as it was given.
 pub enum Insertion {
-    Done(InsertionGuarantee),
+    Done(Inserted),
     Refused(Refusal),
 }
 
@@ -65,7 +65,7 @@ impl Map {
             ≡ insertEntry self (now (nodes .entry)) (now (colours .entry)) entry ⌝ }
     {
         let r = force_insert(nodes, colours, self.count, self.root, entry);
-        Insertion::Done(InsertionGuarantee {
+        Insertion::Done(Inserted {
             map: Map {
                 count: self.count + 1,
                 root: r.root,
