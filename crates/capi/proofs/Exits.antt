@@ -12,7 +12,8 @@ abbrev rest : List (List ℕ) → List (List ℕ)
 rest [] = []
 rest (x ∷ l) = l
 
--- of a call that writes nothing but its answer; of one that writes the store; of one that writes an output
+-- of a call that writes nothing but its answer; of one that writes the store; of one that writes an
+-- output
 module _ {n k : ℕ} {A B : List ℕ} {x : Exit} where
   pub same-answer : exit n A [] ≡ x → exit k B [] ≡ x → (n ≡ k) × (A ≡ B)
   same-answer p q =

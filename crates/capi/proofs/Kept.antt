@@ -41,7 +41,8 @@ slices-kept b A R old new f d = go (ltb (length A) (length (R .numbers))) b d
 pub exit-kept : (b : Bool) (A : List ℕ) (R : Reply) (old new : List (List ℕ)) → ((R .no ≡ 0 → ⊥) → new ≡ old) → Kept (exitOf b A R old new) A old
 exit-kept b A R old new f d = rw (answer-kept b A R d, slices-kept b A R old new f d)
 
--- a call that is refused by the number k, or not: one that writes the store, and one that writes an output
+-- a call that is refused by the number k, or not: one that writes the store, and one that writes an
+-- output
 pub change-kept : {K : Type 0} (reply : K → Reply) (A W C : List ℕ) (k : ℕ) (x : Change K) (a : K) → reply (x .answer) .no ≡ 0
     → Kept (changeExit reply A W C (cond (eqb k 0) x (change a W C))) A (W ∷ C ∷ [])
 change-kept reply A W C zero x a z = exit-kept true A _ _ _ (λ d. absurd (d z))

@@ -37,7 +37,8 @@ unbounded-exit b t A R old new e q h =
     let f : b ≡ false = sym e ∙ q in
     rw (f, le-ltb (length A) (length (R .numbers)) h)
 
--- a call that was made: its reply R, the slices that it left, and what the export has done with the answer
+-- a call that was made: its reply R, the slices that it left, and what the export has done with the
+-- answer
 module _ (A : List ℕ) (R : Reply) (old new : List (List ℕ)) (h : length (R .numbers) ≤ length A) where
   made-refused : 0 < R .no → exit (R .no) A new ≡ exitOf true A R old new
   unfolding number handed left
@@ -47,7 +48,8 @@ module _ (A : List ℕ) (R : Reply) (old new : List (List ℕ)) (h : length (R .
   unfolding number handed left
   made-done z = rw (le-ltb (length A) (length (R .numbers)) h, z)
 
--- The code's answer is t, known to be v. What it stands for goes by g, what was given: a map or a cursor.
+-- The code's answer is t, known to be v. What it stands for goes by g, what was given: a map or a
+-- cursor.
 module _ {G T K : Type 0} (stands : G → T → K) (reply : K → Reply) (g : G) (A : List ℕ) (t v : T) (q : t ≡ v) where
   -- an export of a call that writes nothing
   module _ (k : K) (e : stands g t ≡ k) (h : length (reply k .numbers) ≤ length A) where
@@ -76,7 +78,8 @@ module _ {G T K : Type 0} (stands : G → T → K) (reply : K → Reply) (g : G)
         → exit 0 X (Y ∷ []) ≡ outputExit reply true A out k
     done-output X p z = rw (← e, q, p) (made-done A (reply (stands g v)) (out ∷ []) (Y ∷ []) (rw (← e, q) at h) z)
 
--- A range that a function made, whose bounds have kinds: a step or a plain lookup; and a drain. They serve the public calls and the opened ones.
+-- A range that a function made, whose bounds have kinds: a step or a plain lookup; and a drain.
+-- They serve the public calls and the opened ones.
 pub bounded : {T : Type 0} (rule : Bool → List ℕ → Map → List ℕ → List ℕ → Query → T → Exit) (A : List ℕ) (m : Map) (W C : List ℕ) (x : T)
     (made query : Query) (b t : Bool) → made ≡ query → t ≡ b → t ≡ true → (r : Exit) → r ≡ rule true A m W C made x → r ≡ rule b A m W C query x
 bounded rule A m W C x made query b t e f q r p = let c : b ≡ true = sym f ∙ q in rw (c, ← e) p

@@ -25,6 +25,7 @@ use Rattle.iset.specs.Remove.{RemoveAnswer, removeCall}
 use Rattle.iset.specs.Insert.{InsertAnswer, insertCall}
 use Rattle.iset.specs.Lookup.{startCall, stepCall, drainCall}
 use Rattle.iset.specs.Plain.{plainCall}
+use Rattle.iset.specs.Maps.{mapOf}
 use Rattle.iset.specs.Refusals.{Rows, accept, refuse, Exactly, checkRows, buildRows, removeRows, insertRows, startRows, stepRows, drainRows, plainRows}
 use Rattle.iset.specs.declared.Map.{Map}
 use Rattle.iset.proofs.Refusals.{Lacks, passed-row, failed-row, check-refusals, build-refusals, remove-refusals, insert-refusals, start-refusals, step-refusals, drain-refusals, plain-refusals}
@@ -99,8 +100,8 @@ module _ (rows : Rows) (R : Reply) (A X : List ℕ) (r lo-kind hi-kind : ℕ) wh
 -- `iset_check`: its number is all
 pub check-told : (κs : Lfts 2) (a : K.Dens κs check-kinds.ps) (r : K.resT check-kinds.r κs .Denot) (s : AtExit (K.endedOf 2 check-kinds.ps check-kinds.r) κs)
     → check-reads.Post κs a r s
-    → Exactly (checkRows (record { count = a .0; root = a .1 .0 }) (now (a .1 .1 .0)) (now (a .1 .1 .1 .0))) r
-check-told κs a r s p = rw p (check-refusals (record { count = a .0; root = a .1 .0 }) (now (a .1 .1 .0)) (now (a .1 .1 .1 .0)))
+    → Exactly (checkRows (mapOf (a .0) (a .1 .0)) (now (a .1 .1 .0)) (now (a .1 .1 .1 .0))) r
+check-told κs a r s p = rw p (check-refusals (mapOf (a .0) (a .1 .0)) (now (a .1 .1 .0)) (now (a .1 .1 .1 .0)))
 
 -- `iset_build`: count, root
 pub build-told : (κs : Lfts 4) (a : K.Dens κs build-kinds.ps) (r : K.resT build-kinds.r κs .Denot) (s : AtExit (K.endedOf 4 build-kinds.ps build-kinds.r) κs)
@@ -115,7 +116,7 @@ build-told κs a r s p = told _ true _ _ _ r (omega arith) (build-refusals _ _ _
 -- `iset_remove`: value, count, root, then three pairs, old slot, new slot, and how many hulls changed
 pub remove-told : (κs : Lfts 3) (a : K.Dens κs remove-kinds.ps) (r : K.resT remove-kinds.r κs .Denot) (s : AtExit (K.endedOf 3 remove-kinds.ps remove-kinds.r) κs)
     → remove-reads.Post κs a r s
-    → let m : Map = record { count = a .0; root = a .1 .0 } in
+    → let m : Map = mapOf (a .0) (a .1 .0) in
     let W : List ℕ = now (a .1 .1 .0) in
     let C : List ℕ = now (a .1 .1 .1 .0) in
     let slot : ℕ = a .1 .1 .1 .1 .0 in
@@ -129,7 +130,7 @@ remove-told κs a r s p = told _ true _ _ _ r (omega arith) (remove-refusals _ _
 -- `iset_insert`: count, root, the new entry's slot, and how many hulls changed
 pub insert-told : (κs : Lfts 3) (a : K.Dens κs insert-kinds.ps) (r : K.resT insert-kinds.r κs .Denot) (s : AtExit (K.endedOf 3 insert-kinds.ps insert-kinds.r) κs)
     → insert-reads.Post κs a r s
-    → let m : Map = record { count = a .0; root = a .1 .0 } in
+    → let m : Map = mapOf (a .0) (a .1 .0) in
     let W : List ℕ = now (a .1 .1 .0) in
     let C : List ℕ = now (a .1 .1 .1 .0) in
     let e : Entry = record { start = a .1 .1 .1 .1 .0; end = a .1 .1 .1 .1 .1 .0; value = a .1 .1 .1 .1 .1 .1 .0 } in
@@ -145,7 +146,7 @@ fresh-told κs a r s p = told accept true _ _ _ r (omega arith) refl _ _ _ p
 -- `iset_fresh_exact`: slot, levels, bits
 pub fresh-exact-told : (κs : Lfts 3) (a : K.Dens κs fresh-exact-kinds.ps) (r : K.resT fresh-exact-kinds.r κs .Denot) (s : AtExit (K.endedOf 3 fresh-exact-kinds.ps fresh-exact-kinds.r) κs)
     → fresh-exact-reads.Post κs a r s
-    → let m : Map = record { count = a .0; root = a .1 .0 } in
+    → let m : Map = mapOf (a .0) (a .1 .0) in
     let W : List ℕ = now (a .1 .1 .0) in
     let C : List ℕ = now (a .1 .1 .1 .0) in
     let x : Interval = record { start = a .1 .1 .1 .1 .0; end = a .1 .1 .1 .1 .1 .0 } in
@@ -156,7 +157,7 @@ fresh-exact-told κs a r s p = told _ true _ _ _ r (omega arith) (start-refusals
 -- `iset_step`
 pub step-told : (κs : Lfts 3) (a : K.Dens κs step-kinds.ps) (r : K.resT step-kinds.r κs .Denot) (s : AtExit (K.endedOf 3 step-kinds.ps step-kinds.r) κs)
     → step-reads.Post κs a r s
-    → let m : Map = record { count = a .0; root = a .1 .0 } in
+    → let m : Map = mapOf (a .0) (a .1 .0) in
     let W : List ℕ = now (a .1 .1 .0) in
     let C : List ℕ = now (a .1 .1 .1 .0) in
     let b = a .1 .1 .1 .1 in
@@ -165,7 +166,7 @@ pub step-told : (κs : Lfts 3) (a : K.Dens κs step-kinds.ps) (r : K.resT step-k
     Told (refuse 102 (BadBound (b .0) (b .1 .1 .0)) (stepRows m W C q c)) (stepPlaces (stepCall m W C q c))
     (now (b .1 .1 .1 .1 .1 .1 .1 .0)) (now (s .1 .1 .1 .1 .1 .1 .1 .1 .1 .1 .1 .0)) r
 step-told κs a r s p =
-    let m : Map = record { count = a .0; root = a .1 .0 } in
+    let m : Map = mapOf (a .0) (a .1 .0) in
     let W : List ℕ = now (a .1 .1 .0) in
     let C : List ℕ = now (a .1 .1 .1 .0) in
     let b = a .1 .1 .1 .1 in
@@ -177,7 +178,7 @@ step-told κs a r s p =
 -- `iset_step_exact`
 pub step-exact-told : (κs : Lfts 3) (a : K.Dens κs step-exact-kinds.ps) (r : K.resT step-exact-kinds.r κs .Denot) (s : AtExit (K.endedOf 3 step-exact-kinds.ps step-exact-kinds.r) κs)
     → step-exact-reads.Post κs a r s
-    → let m : Map = record { count = a .0; root = a .1 .0 } in
+    → let m : Map = mapOf (a .0) (a .1 .0) in
     let W : List ℕ = now (a .1 .1 .0) in
     let C : List ℕ = now (a .1 .1 .1 .0) in
     let b = a .1 .1 .1 .1 in
@@ -185,7 +186,7 @@ pub step-exact-told : (κs : Lfts 3) (a : K.Dens κs step-exact-kinds.ps) (r : K
     let c : Cursor = record { slot = b .1 .1 .0; levels = b .1 .1 .1 .0; bits = b .1 .1 .1 .1 .0 } in
     Told (stepRows m W C q c) (stepPlaces (stepCall m W C q c)) (now (b .1 .1 .1 .1 .1 .0)) (now (s .1 .1 .1 .1 .1 .1 .1 .1 .1 .0)) r
 step-exact-told κs a r s p =
-    let m : Map = record { count = a .0; root = a .1 .0 } in
+    let m : Map = mapOf (a .0) (a .1 .0) in
     let W : List ℕ = now (a .1 .1 .0) in
     let C : List ℕ = now (a .1 .1 .1 .0) in
     let b = a .1 .1 .1 .1 in
@@ -197,7 +198,7 @@ step-exact-told κs a r s p =
 -- `iset_drain`
 pub drain-told : (κs : Lfts 4) (a : K.Dens κs drain-kinds.ps) (r : K.resT drain-kinds.r κs .Denot) (s : AtExit (K.endedOf 4 drain-kinds.ps drain-kinds.r) κs)
     → drain-reads.Post κs a r s
-    → let m : Map = record { count = a .0; root = a .1 .0 } in
+    → let m : Map = mapOf (a .0) (a .1 .0) in
     let W : List ℕ = now (a .1 .1 .0) in
     let C : List ℕ = now (a .1 .1 .1 .0) in
     let b = a .1 .1 .1 .1 in
@@ -208,7 +209,7 @@ pub drain-told : (κs : Lfts 4) (a : K.Dens κs drain-kinds.ps) (r : K.resT drai
     Told (refuse 102 (BadBound (b .0) (b .1 .1 .0)) (drainRows m W C q c limit (length out))) (drainPlaces (drainCall m W C q c limit out .answer))
     (now (b .1 .1 .1 .1 .1 .1 .1 .1 .1 .0)) (now (s .1 .1 .1 .1 .1 .1 .1 .1 .1 .1 .1 .1 .1 .0)) r
 drain-told κs a r s p =
-    let m : Map = record { count = a .0; root = a .1 .0 } in
+    let m : Map = mapOf (a .0) (a .1 .0) in
     let W : List ℕ = now (a .1 .1 .0) in
     let C : List ℕ = now (a .1 .1 .1 .0) in
     let b = a .1 .1 .1 .1 in
@@ -223,7 +224,7 @@ drain-told κs a r s p =
 -- `iset_drain_exact`
 pub drain-exact-told : (κs : Lfts 4) (a : K.Dens κs drain-exact-kinds.ps) (r : K.resT drain-exact-kinds.r κs .Denot) (s : AtExit (K.endedOf 4 drain-exact-kinds.ps drain-exact-kinds.r) κs)
     → drain-exact-reads.Post κs a r s
-    → let m : Map = record { count = a .0; root = a .1 .0 } in
+    → let m : Map = mapOf (a .0) (a .1 .0) in
     let W : List ℕ = now (a .1 .1 .0) in
     let C : List ℕ = now (a .1 .1 .1 .0) in
     let b = a .1 .1 .1 .1 in
@@ -234,7 +235,7 @@ pub drain-exact-told : (κs : Lfts 4) (a : K.Dens κs drain-exact-kinds.ps) (r :
     Told (drainRows m W C q c limit (length out)) (drainPlaces (drainCall m W C q c limit out .answer))
     (now (b .1 .1 .1 .1 .1 .1 .1 .0)) (now (s .1 .1 .1 .1 .1 .1 .1 .1 .1 .1 .1 .0)) r
 drain-exact-told κs a r s p =
-    let m : Map = record { count = a .0; root = a .1 .0 } in
+    let m : Map = mapOf (a .0) (a .1 .0) in
     let W : List ℕ = now (a .1 .1 .0) in
     let C : List ℕ = now (a .1 .1 .1 .0) in
     let b = a .1 .1 .1 .1 in
@@ -249,7 +250,7 @@ drain-exact-told κs a r s p =
 -- `iset_plain`
 pub plain-told : (κs : Lfts 4) (a : K.Dens κs plain-kinds.ps) (r : K.resT plain-kinds.r κs .Denot) (s : AtExit (K.endedOf 4 plain-kinds.ps plain-kinds.r) κs)
     → plain-reads.Post κs a r s
-    → let m : Map = record { count = a .0; root = a .1 .0 } in
+    → let m : Map = mapOf (a .0) (a .1 .0) in
     let W : List ℕ = now (a .1 .1 .0) in
     let C : List ℕ = now (a .1 .1 .1 .0) in
     let b = a .1 .1 .1 .1 in
@@ -258,7 +259,7 @@ pub plain-told : (κs : Lfts 4) (a : K.Dens κs plain-kinds.ps) (r : K.resT plai
     Told (refuse 102 (BadBound (b .0) (b .1 .1 .0)) (plainRows m W C q (length out))) (plainPlaces (plainCall m W C q out .answer))
     (now (b .1 .1 .1 .1 .1 .0)) (now (s .1 .1 .1 .1 .1 .1 .1 .1 .1 .0)) r
 plain-told κs a r s p =
-    let m : Map = record { count = a .0; root = a .1 .0 } in
+    let m : Map = mapOf (a .0) (a .1 .0) in
     let W : List ℕ = now (a .1 .1 .0) in
     let C : List ℕ = now (a .1 .1 .1 .0) in
     let b = a .1 .1 .1 .1 in
@@ -271,7 +272,7 @@ plain-told κs a r s p =
 -- `iset_plain_exact`
 pub plain-exact-told : (κs : Lfts 4) (a : K.Dens κs plain-exact-kinds.ps) (r : K.resT plain-exact-kinds.r κs .Denot) (s : AtExit (K.endedOf 4 plain-exact-kinds.ps plain-exact-kinds.r) κs)
     → plain-exact-reads.Post κs a r s
-    → let m : Map = record { count = a .0; root = a .1 .0 } in
+    → let m : Map = mapOf (a .0) (a .1 .0) in
     let W : List ℕ = now (a .1 .1 .0) in
     let C : List ℕ = now (a .1 .1 .1 .0) in
     let b = a .1 .1 .1 .1 in
@@ -280,7 +281,7 @@ pub plain-exact-told : (κs : Lfts 4) (a : K.Dens κs plain-exact-kinds.ps) (r :
     Told (plainRows m W C q (length out)) (plainPlaces (plainCall m W C q out .answer))
     (now (b .1 .1 .1 .0)) (now (s .1 .1 .1 .1 .1 .1 .1 .0)) r
 plain-exact-told κs a r s p =
-    let m : Map = record { count = a .0; root = a .1 .0 } in
+    let m : Map = mapOf (a .0) (a .1 .0) in
     let W : List ℕ = now (a .1 .1 .0) in
     let C : List ℕ = now (a .1 .1 .1 .0) in
     let b = a .1 .1 .1 .1 in

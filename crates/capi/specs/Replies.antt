@@ -1,5 +1,6 @@
--- What a caller in another language gets of a public call: the number that an export returns, its answer's numbers, in the order in which
--- docs/DRIVE.md prints them, and what it leaves in each lent slice.
+-- What a caller in another language gets of a public call: the number that an export returns, its
+-- answer's numbers, in the order in which docs/DRIVE.md prints them, and what it leaves in each
+-- lent slice.
 use mathlib.Core.Bool.{Bool, true, cond}
 use mathlib.Core.List.{List, [], _∷_}
 use Prim.Native.Nat.{ℕ}
@@ -26,7 +27,8 @@ pub record Reply : Type 0 where
   pub no : ℕ
   pub numbers : List ℕ
 
--- What an export returns and leaves: its number, the answer slice, and the other slices that it may write.
+-- What an export returns and leaves: its number, the answer slice, and the other slices that it may
+-- write.
 pub record Exit : Type 0 where
   pub number : ℕ
   pub answer : List ℕ
@@ -35,8 +37,9 @@ pub record Exit : Type 0 where
 abbrev pub exit : ℕ → List ℕ → List (List ℕ) → Exit
 exit n A l = record { number = n; answer = A; slices = l }
 
--- An export has two refusals of its own, before those of the call, which is not made then. 101, ShortAnswer: the answer A has fewer places than there
--- are numbers. 102, BadBound: a bound has no kind. So b says whether each bound has one; without a range it is true.
+-- An export has two refusals of its own, before those of the call, which is not made then. 101,
+-- ShortAnswer: the answer A has fewer places than there are numbers. 102, BadBound: a bound has no
+-- kind. So b says whether each bound has one; without a range it is true.
 unfoldable pub number : Bool → List ℕ → Reply → ℕ
 number b A R = cond (ltb (length A) (length (R .numbers))) 101 (cond b (R .no) 102)
 
@@ -51,7 +54,8 @@ left b A R old new = cond (ltb (length A) (length (R .numbers))) old (cond b new
 abbrev pub exitOf : Bool → List ℕ → Reply → List (List ℕ) → List (List ℕ) → Exit
 exitOf b A R old new = exit (number b A R) (handed b A R) (left b A R old new)
 
--- of a call that writes nothing but its answer; of one that writes the store; of one that writes an output
+-- of a call that writes nothing but its answer; of one that writes the store; of one that writes an
+-- output
 abbrev pub answerExit : Bool → List ℕ → Reply → Exit
 answerExit b A R = exitOf b A R [] []
 
@@ -60,10 +64,6 @@ changeExit reply A W C k = exitOf true A (reply (k .answer)) (W ∷ C ∷ []) (k
 
 abbrev pub outputExit : {K : Type 0} → (K → Reply) → Bool → List ℕ → List ℕ → Output K → Exit
 outputExit reply b A out k = exitOf b A (reply (k .answer)) (out ∷ []) (k .output ∷ [])
-
--- "A map is a count and a root by value."
-abbrev pub mapOf : ℕ → ℕ → Map
-mapOf count root = record { count = count; root = root }
 
 abbrev pub cursorOf : ℕ → ℕ → ℕ → Cursor
 cursorOf slot levels bits = record { slot = slot; levels = levels; bits = bits }

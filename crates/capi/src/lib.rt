@@ -25,7 +25,8 @@ ghost use mathlib.Core.List.{[], _∷_};
 ghost use Rattle.iset.specs.Check.{checkRule};
 ghost use Rattle.iset.specs.Remove.{slotAfter};
 ghost use Rattle.iset.specs.Insert.{entryOf};
-ghost use Rattle.capi.specs.Replies.{mapOf, exit, pairsOf, buildExit, removeExit, insertExit};
+ghost use Rattle.iset.specs.Maps.{mapOf};
+ghost use Rattle.capi.specs.Replies.{exit, pairsOf, buildExit, removeExit, insertExit};
 
 // The exports' own refusals. Their numbers leave room for refusals that the map may get after the ten of crate words.
 pub const SHORT_ANSWER: u64 = 101;

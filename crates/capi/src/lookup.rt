@@ -19,7 +19,8 @@ ghost use mathlib.Core.List.{[], _∷_};
 ghost use Prim.Native.Nat.{_≤_};
 ghost use lib.ListN.{length};
 ghost use Rattle.iter.specs.Cursors.{fresh};
-ghost use Rattle.capi.specs.Replies.{mapOf, cursorOf, exit, freshReply, answerExit, startExit, stepExit, drainExit};
+ghost use Rattle.iset.specs.Maps.{mapOf};
+ghost use Rattle.capi.specs.Replies.{cursorOf, exit, freshReply, answerExit, startExit, stepExit, drainExit};
 ghost use Rattle.capi.specs.Ranges.{rangeOf, intervalOf, exactOf, kinds};
 
 // The fresh cursor of an overlap lookup. Answer: slot, levels, bits. The map is tested where the cursor is used.

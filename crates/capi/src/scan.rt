@@ -13,7 +13,8 @@ ghost use mathlib.Core.Bool.{true};
 ghost use mathlib.Core.List.{[], _∷_};
 ghost use Prim.Native.Nat.{_≤_};
 ghost use lib.ListN.{length};
-ghost use Rattle.capi.specs.Replies.{mapOf, exit, plainExit};
+ghost use Rattle.iset.specs.Maps.{mapOf};
+ghost use Rattle.capi.specs.Replies.{exit, plainExit};
 ghost use Rattle.capi.specs.Ranges.{rangeOf, exactOf, kinds};
 
 // A plain lookup of either kind.

@@ -1,4 +1,5 @@
--- "Nothing lent changes" where an opened call is refused, by an export's own refusals too: the answer, and each slice that the call may write.
+-- "Nothing lent changes" where an opened call is refused, by an export's own refusals too: the
+-- answer, and each slice that the call may write.
 use mathlib.Core.Path.{refl}
 use mathlib.Core.Bool.{Bool}
 use mathlib.Core.List.{List, [], _∷_}

@@ -1,4 +1,5 @@
--- On a store that passes the check an export returns and leaves what the export of crate capi of that name does.
+-- On a store that passes the check an export returns and leaves what the export of crate capi of
+-- that name does.
 use mathlib.Core.Path.{_≡_, ap}
 use mathlib.Core.Bool.{Bool, true}
 use mathlib.Core.List.{List}

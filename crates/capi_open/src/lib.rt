@@ -12,7 +12,8 @@ use iset::remove::Removal;
 ghost use mathlib.Core.Path.{_≡_};
 ghost use mathlib.Core.List.{[], _∷_};
 ghost use Rattle.iset.specs.Insert.{entryOf};
-ghost use Rattle.capi.specs.Replies.{mapOf, exit};
+ghost use Rattle.iset.specs.Maps.{mapOf};
+ghost use Rattle.capi.specs.Replies.{exit};
 ghost use Rattle.capi_open.specs.Replies.{openRemoveExit, openInsertExit};
 
 // Removes the entry of a slot. Answer: value, count, root, then the moved entries, three times old slot, new slot, and how many hulls

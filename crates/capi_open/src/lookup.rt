@@ -22,7 +22,8 @@ ghost use mathlib.Core.List.{[], _∷_};
 ghost use Prim.Native.Nat.{_≤_};
 ghost use lib.ListN.{length};
 ghost use Rattle.iter.specs.Cursors.{fresh};
-ghost use Rattle.capi.specs.Replies.{mapOf, cursorOf, exit};
+ghost use Rattle.iset.specs.Maps.{mapOf};
+ghost use Rattle.capi.specs.Replies.{cursorOf, exit};
 ghost use Rattle.capi.specs.Ranges.{rangeOf, intervalOf, exactOf, kinds};
 ghost use Rattle.capi_open.specs.Replies.{openStartExit, openStepExit, openDrainExit};
 

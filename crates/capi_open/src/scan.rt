@@ -13,7 +13,8 @@ ghost use mathlib.Core.Bool.{true};
 ghost use mathlib.Core.List.{[], _∷_};
 ghost use Prim.Native.Nat.{_≤_};
 ghost use lib.ListN.{length};
-ghost use Rattle.capi.specs.Replies.{mapOf, exit};
+ghost use Rattle.iset.specs.Maps.{mapOf};
+ghost use Rattle.capi.specs.Replies.{exit};
 ghost use Rattle.capi.specs.Ranges.{rangeOf, exactOf, kinds};
 ghost use Rattle.capi_open.specs.Replies.{openPlainExit};
 

@@ -25,12 +25,7 @@ use Rattle.iset.specs.Insert.{InsertAnswer, insertCall}
 use Rattle.iset.specs.Lookup.{StartAnswer, StepAnswer, DrainAnswer, startCall, stepCall, drainCall}
 use Rattle.iset.specs.Plain.{PlainAnswer, plainCall}
 use Rattle.iset.specs.Sequence.{State}
-use Rattle.iset.specs.declared.Map.{Map}
 use Rattle.examples.specs.Stores.{buildIn, _plus_, treeOf, touched, boundOf}
-
--- a map, by its count and its root
-abbrev pub mapOf : ℕ → ℕ → Map
-mapOf count root = record { count = count; root = root }
 
 -- a pair (old slot, new slot)
 infix 70 _to_

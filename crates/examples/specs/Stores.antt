@@ -1,4 +1,5 @@
--- How a build, a removal and an insertion leave a map with what is lent with it, and the tree that its links make.
+-- How a build, a removal and an insertion leave a map with what is lent with it, and the tree that
+-- its links make.
 use mathlib.Core.Bool.{true, false, cond}
 use mathlib.Core.List.{List}
 use Prim.Native.Nat.{ℕ, zero, suc, _+_, _-_, _*_, _/_}

@@ -14,9 +14,10 @@ use Rattle.tree.specs.Tree.{Tree, leaf, node}
 use Rattle.iter.specs.Cursors.{fresh, ended}
 use Rattle.iter.specs.declared.Cursor.{Cursor}
 use Rattle.iter.specs.declared.rules.Query.the-variants.{Overlap, Exact}
+use Rattle.iset.specs.Maps.{mapOf}
 use Rattle.iset.specs.Sequence.{State}
 use Rattle.examples.specs.Stores.{buildIn, _minus_, _plus_}
-use Rattle.examples.specs.Rows.{Row, _gives_, mapOf, _to_, moved, colours, _entering_, hit, end, build, remove, insert, rootRight, slot, overlap, step, drain, exact, plain, span, built, removed, inserted, link, holds, found, stepped, drained, started, looked}
+use Rattle.examples.specs.Rows.{Row, _gives_, _to_, moved, colours, _entering_, hit, end, build, remove, insert, rootRight, slot, overlap, step, drain, exact, plain, span, built, removed, inserted, link, holds, found, stepped, drained, started, looked}
 
 -- "Store A, built from [10,20) 1, [10,30) 2, [25,40) 3, [40,50) 4, [45,60) 5", in 40 words and a byte
 abbrev pub listA : List ℕ

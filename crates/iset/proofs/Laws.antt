@@ -19,6 +19,7 @@ use Rattle.tree_rm.specs.Answers.{removal}
 use Rattle.tree_rm.specs.declared.remove.Removed.{Removed}
 use Rattle.iset.specs.Changes.{Change, change}
 use Rattle.iset.specs.Check.{checkNumber}
+use Rattle.iset.specs.Maps.{mapOf}
 use Rattle.iset.specs.Remove.{openRemoveNumber, RemoveAnswer, refusedRemoval, removeDone}
 use Rattle.iset.specs.declared.Map.{Map}
 use Rattle.iset.specs.Build.{buildNumber, BuildAnswer, refusedBuild}
@@ -80,9 +81,9 @@ module _ (words bytes : ℕ) (S : List ℕ) (t : Checked) (e : checkNumber t ≡
   built-bytes = omega (arith, built-room)
 
 pub done-build : (n r s : ℕ) (W C X D : List ℕ) → r ≡ s → W ≡ X → C ≡ D
-    → _≡_ {A = Change BuildAnswer} (change (record { no = 0; map = record { count = n; root = r } }) W C)
-    (change (record { no = 0; map = record { count = n; root = s } }) X D)
-done-build n r s W C X D e f g = λ i. change (record { no = 0; map = record { count = n; root = e i } }) (f i) (g i)
+    → _≡_ {A = Change BuildAnswer} (change (record { no = 0; map = mapOf n r }) W C)
+    (change (record { no = 0; map = mapOf n s }) X D)
+done-build n r s W C X D e f g = λ i. change (record { no = 0; map = mapOf n (e i) }) (f i) (g i)
 
 -- a refusal by the number of the test that made it
 module _ (k : ℕ) (t : Checked) (z : Refusal) (e : checkNumber t ≡ k) (q : t ≡ Refused z) (W C : List ℕ) where
@@ -115,7 +116,7 @@ module _ (m : Map) (W C : List ℕ) (s : ℕ) (t : Checked) (e : checkNumber t �
 -- what the removal's code answers and leaves
 pub removed-slot : (a : Removed) (X K : List ℕ) (R : rule.Removed) → removal a X K ≡ R → (m : Map) (k : ℕ) → a .reach ≡ k
     → _≡_ {A = Change RemoveAnswer}
-    (change (record { no = 0; value = a .value; map = record { count = m .count - 1; root = a .root }; pairs = a .pairs; reach = a .reach }) X K)
+    (change (record { no = 0; value = a .value; map = mapOf (m .count - 1) (a .root); pairs = a .pairs; reach = a .reach }) X K)
     (change (removeDone m R k) (R .store .words) (R .store .colours))
 removed-slot a X K R e m k f = λ t. change (removeDone m (e t) (f t)) (e t .store .words) (e t .store .colours)
 
@@ -132,6 +133,6 @@ module _ (m : Map) (W C : List ℕ) (e : Entry) (t : Checked) (f : checkNumber t
 
 -- what the insertion's code answers and leaves
 pub inserted-entry : (r : ℕ) (X K : List ℕ) (S : Store) → store X K r ≡ S → (m : Map) (j k : ℕ) → j ≡ k
-    → _≡_ {A = Change InsertAnswer} (change (record { no = 0; slot = m .count; map = record { count = m .count + 1; root = r }; reach = j }) X K)
+    → _≡_ {A = Change InsertAnswer} (change (record { no = 0; slot = m .count; map = mapOf (m .count + 1) r; reach = j }) X K)
     (change (insertDone m S k) (S .words) (S .colours))
 inserted-entry r X K S e m j k f = λ t. change (insertDone m (e t) (f t)) (e t .words) (e t .colours)

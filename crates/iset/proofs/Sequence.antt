@@ -27,7 +27,7 @@ use Rattle.iset.specs.Check.{checkRule}
 use Rattle.iset.specs.Build.{buildNumber, BuildAnswer, refusedBuild, buildList, buildCall}
 use Rattle.iset.specs.Remove.{removeNumber, RemoveAnswer, refusedRemoval, removeSlot, removeCall}
 use Rattle.iset.specs.Insert.{insertNumber, InsertAnswer, refusedInsertion, insertEntry, insertCall}
-use Rattle.iset.specs.Maps.{emptyMap}
+use Rattle.iset.specs.Maps.{mapOf, emptyMap}
 use Rattle.iset.specs.Sequence.{Call, build, remove, insert, State, left, removed, inserted, answered, allAnswered, openAnswered, allOpenAnswered}
 use Rattle.iset.specs.declared.Map.{Map}
 use Rattle.iset.proofs.Builds.{Accepted, accepted, builds}
@@ -88,7 +88,7 @@ module _ (m : Map) (W C : List ℕ) where
       (change (refusedBuild (buildNumber (length W) (length C) l)) W C)
       (λ e. let a : Accepted (length W) (length C) l = accepted (length W) (length C) l e in
       let b = rw (eq-eqb (buildNumber (length W) (length C) l) 0 e) at (builds W C l e) in
-      zero-check (record { count = length l / 3; root = buildRoot (length l / 3) }) (buildWords l (length l / 3) W) (buildColours (length l / 3) C)
+      zero-check (mapOf (length l / 3) (buildRoot (length l / 3))) (buildWords l (length l / 3) W) (buildColours (length l / 3) C)
       (rw (b .words-length, b .bits-length) (a .room-for)) (b .passes))
       (empty-passes W C)
 
@@ -102,7 +102,7 @@ module _ (m : Map) (W C : List ℕ) where
         let R : Removed = removeRule W C (m .count) (m .root) s in
         by-number (λ (a : RemoveAnswer). a .map) (removeNumber m W C s) (removeSlot m W C s) (change (refusedRemoval m (removeNumber m W C s)) W C)
         (λ e. let i : Inside (m .count) W C (R .store) = removed-inside W C (m .count) (m .root) s (removals.accepts m W C s e .1) in
-        zero-check (record { count = m .count - 1; root = R .store .root }) (R .store .words) (R .store .colours)
+        zero-check (mapOf (m .count - 1) (R .store .root)) (R .store .words) (R .store .colours)
         (rw (i .words-length, i .colours-length) (omega (arith, fits))) (removals.by-rule m W C s e .passes))
         h
 
@@ -112,7 +112,7 @@ module _ (m : Map) (W C : List ℕ) where
         let R : Store = insertRule W C (m .count) (m .root) e in
         by-number (λ (a : InsertAnswer). a .map) (insertNumber m W C e) (insertEntry m W C e) (change (refusedInsertion m (insertNumber m W C e)) W C)
         (λ z. let i : Inside (m .count + 1) W C R = inserted-inside W C (m .count) (m .root) e in
-        zero-check (record { count = m .count + 1; root = R .root }) (R .words) (R .colours)
+        zero-check (mapOf (m .count + 1) (R .root)) (R .words) (R .colours)
         (rw (i .words-length, i .colours-length) (omega (arith, insertions.accepts m W C e z .0))) (insertions.by-rule m W C e z .passes))
         h
 

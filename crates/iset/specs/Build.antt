@@ -9,7 +9,7 @@ use Rattle.words.specs.Refusals.{refusalNumber}
 use Rattle.builder.specs.Input.{allProper, sorted}
 use Rattle.builder.specs.Build.{buildWords, buildColours, buildRoot}
 use Rattle.iset.specs.Changes.{Change, change}
-use Rattle.iset.specs.Maps.{emptyMap}
+use Rattle.iset.specs.Maps.{mapOf, emptyMap}
 use Rattle.iset.specs.declared.Map.{Map}
 use Rattle.iset.specs.declared.build.Built.{Built}
 use Rattle.iset.specs.declared.build.Built.the-variants.{Done, Refused}
@@ -39,7 +39,7 @@ buildAnswer (Refused y) = refusedBuild (refusalNumber y)
 abbrev pub buildList : List ℕ → List ℕ → List ℕ → Change BuildAnswer
 buildList W C S =
     let n : ℕ = length S / 3 in
-    change (record { no = 0; map = record { count = n; root = buildRoot n } }) (buildWords S n W) (buildColours n C)
+    change (record { no = 0; map = mapOf n (buildRoot n) }) (buildWords S n W) (buildColours n C)
 
 -- the call: in the words W and the colours C, from the list S
 unfoldable pub buildCall : List ℕ → List ℕ → List ℕ → Change BuildAnswer

@@ -14,6 +14,7 @@ use Rattle.tree_in_laws.specs.Insert.{insertRule}
 use Rattle.tree_in_laws.specs.Reach.{insertHulls}
 use Rattle.iset.specs.Changes.{Change, change}
 use Rattle.iset.specs.Check.{first, checkRule}
+use Rattle.iset.specs.Maps.{mapOf}
 use Rattle.iset.specs.declared.Map.{Map}
 use Rattle.iset.specs.declared.insert.Insertion.{Insertion}
 use Rattle.iset.specs.declared.insert.Insertion.the-variants.{Done, Refused}
@@ -54,7 +55,7 @@ insertAnswer m (Refused y) = refusedInsertion m (refusalNumber y)
 
 -- what the rule of insertion answers, with k changed hulls: "slot count is always the next one"
 abbrev pub insertDone : Map → Store → ℕ → InsertAnswer
-insertDone m S k = record { no = 0; slot = m .count; map = record { count = m .count + 1; root = S .root }; reach = k }
+insertDone m S k = record { no = 0; slot = m .count; map = mapOf (m .count + 1) (S .root); reach = k }
 
 -- how many of the hulls that an insertion works out change
 abbrev pub insertReach : Map → List ℕ → List ℕ → Entry → ℕ

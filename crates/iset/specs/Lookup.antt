@@ -79,8 +79,9 @@ stepNumber m W C q c = first (checkRule m W C) (openStepNumber m W C q c)
 unfoldable pub drainNumber : Map → List ℕ → List ℕ → Query → Cursor → ℕ → ℕ → ℕ
 drainNumber m W C q c limit room = first (checkRule m W C) (openDrainNumber m W C q c limit room)
 
--- What the calls answer. A refusal has the cursor as given, slot U, counts 0; a fresh cursor that is refused is the ended one. `startAnswer`,
--- `stepAnswer` and `drainAnswer` say what the code's answers stand for.
+-- What the calls answer. A refusal has the cursor as given, slot U, counts 0; a fresh cursor that
+-- is refused is the ended one. `startAnswer`, `stepAnswer` and `drainAnswer` say what the code's
+-- answers stand for.
 pub record StartAnswer : Type 0 where
   pub no : ℕ
   pub cursor : Cursor

@@ -33,8 +33,9 @@ drainSlots m W C q c limit out = let r : Output DrainAnswer = drainCall m W C q 
 
 -- A plain lookup for q into `out`, in a store with the tree t: p says which entries are asked for, c is the fresh cursor.
 pub record PlainRun (m : Map) (W C : List ℕ) (q : Query) (c : Cursor) (p : ℕ → Bool) (t : Tree) (out : List ℕ) : Type 0 where
-  -- it is not refused, and "Its entered count is the map's count"; "demand 3's list holds for it too": exactly the entries that are asked for, in
-  -- tree order, once each; the places past them stay
+  -- it is not refused, and "Its entered count is the map's count"; "demand 3's list holds for it
+  -- too": exactly the entries that are asked for, in tree order, once each; the places past them
+  -- stay
   pub told : plainCall m W C q out ≡ output (record { no = 0; hits = length (those p (slots t)); entered = m .count }) (filled (those p (slots t)) out)
   pub once-each : OnceEach (m .count) p (those p (slots t))
   -- "its list of slots equals that of a fresh drain run to its end": any limit above the number of hits

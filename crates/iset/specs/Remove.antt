@@ -13,6 +13,7 @@ use Rattle.words.specs.declared.pair.Pair.{Pair}
 use Rattle.words.specs.declared.pair.Pairs.{Pairs}
 use Rattle.iset.specs.Changes.{Change, change}
 use Rattle.iset.specs.Check.{first, countNumber, checkRule}
+use Rattle.iset.specs.Maps.{mapOf}
 use Rattle.iset.specs.declared.Map.{Map}
 use Rattle.iset.specs.declared.remove.Removal.{Removal}
 use Rattle.iset.specs.declared.remove.Removal.the-variants.{Done, Refused}
@@ -25,7 +26,8 @@ openRemoveNumber m W C s = first (countNumber m W C) (cond (ltb s (m .count)) 0 
 unfoldable pub removeNumber : Map → List ℕ → List ℕ → ℕ → ℕ
 removeNumber m W C s = first (checkRule m W C) (openRemoveNumber m W C s)
 
--- what it answers: "removed value, new map, and up to three pairs", and document 02, item 9: how many hulls changed
+-- what it answers: "removed value, new map, and up to three pairs", and document 02, item 9: how
+-- many hulls changed
 pub record RemoveAnswer : Type 0 where
   pub no : ℕ
   pub value : ℕ
@@ -44,7 +46,7 @@ removeAnswer m (Refused y) = refusedRemoval m (refusalNumber y)
 
 -- what the rule of removal answers, with k changed hulls
 abbrev pub removeDone : Map → rule.Removal → ℕ → RemoveAnswer
-removeDone m R k = record { no = 0; value = R .value; map = record { count = m .count - 1; root = R .store .root }; pairs = R .pairs; reach = k }
+removeDone m R k = record { no = 0; value = R .value; map = mapOf (m .count - 1) (R .store .root); pairs = R .pairs; reach = k }
 
 -- how many of the hulls that a removal works out change
 abbrev pub removeReach : Map → List ℕ → List ℕ → ℕ → ℕ
