@@ -207,6 +207,7 @@ TEXTS = [
     ("crates/examples/proofs/Examples.antt", "turnOf turnAt step repair", "turnOf turnAt round repair"),
     ("crates/examples/proofs/Examples.antt", "lower, upper, sorted, moved}", "lower, upper, byOldSlot, moved}"),
     ("crates/examples/proofs/Examples.antt", "lower upper sorted moved", "lower upper byOldSlot moved"),
+    ("crates/iset/specs/Remove.antt", "rule.Removal", "rule.Removed"),
     ("crates/iset/proofs/Laws.antt", "specs.Remove.{Removal}", "specs.Remove as rule"),
     ("crates/iset/proofs/Laws.antt", "(R : Removal)", "(R : rule.Removed)"),
     ("crates/iset/proofs/Laws.antt", "(S : Removal)", "(S : rule.Removed)"),

@@ -9,15 +9,15 @@ use Rattle.builder.specs.Build.{spanHull, spanWords, painted, log, levels, buil
 use Rattle.tree_edit.specs.Links.{adopt, setChild, redirected, removeChild, redirect, replaced, rootAfter, fixUp, leftmost}
 use Rattle.tree_edit.specs.Rotations.{rotate, rotate-2, rotate-4}
 use Rattle.bitvec.specs.Colours.{paintAt}
-use Rattle.tree_rm_laws.specs.Repair.{choose, roundOf, roundAt, round, repair}
+use Rattle.tree_rm_laws.specs.Repair.{choose, roundOf, roundAt, round}
 use Rattle.tree_rm_laws.specs.Pairs.{movedTo, emptied, home, named, lower, upper, byOldSlot, moved}
 use Rattle.tree_rm_laws.specs.Remove.{vacated, exchanged, child, restructure, handed, above, cutWords, cutRoot, copied, relinked, cleared, swapRemove, finish, removeFrom, removeRule}
-use Rattle.tree_edit.specs.Reach.{differs, upHulls}
-use Rattle.tree_rm_laws.specs.Reach.{roundOfHulls, roundAtHulls, roundHulls, repairHulls, restructureHulls, cutHulls, vacateHulls, removeHullsFrom, removeHulls}
+use Rattle.tree_edit.specs.Reach.{differs, upHulls, loopHulls}
+use Rattle.tree_rm_laws.specs.Reach.{roundOfHulls, roundAtHulls, roundHulls, restructureHulls, cutHulls, vacateHulls, removeHullsFrom, removeHulls}
 use Rattle.tree_in_laws.specs.Descent.{goesLeft, descend, under}
-use Rattle.tree_in_laws.specs.InsertRepair.{rotated, outer, inner, recoloured, insertRoundAt, insertRoundBelow, insertRound, insertRepair}
+use Rattle.tree_in_laws.specs.InsertRepair.{rotated, outer, inner, recoloured, insertRoundAt, insertRoundBelow, insertRound}
 use Rattle.tree_in_laws.specs.Insert.{hungNode, hungWords, hungRoot, hung, insertAt, insertRule}
-use Rattle.tree_in_laws.specs.Reach.{rotatedHulls, outerHulls, innerHulls, insertRoundAtHulls, insertRoundBelowHulls, insertRoundHulls, insertRepairHulls, insertAtHulls, insertHulls}
+use Rattle.tree_in_laws.specs.Reach.{rotatedHulls, outerHulls, innerHulls, insertRoundAtHulls, insertRoundBelowHulls, insertRoundHulls, insertAtHulls, insertHulls}
 use Rattle.stack.specs.States.{stateAt, putState, top, marked, pushed, popped}
 use Rattle.iter.specs.Cursors.{upTo}
 use Rattle.iter.specs.Walk.{deeper, mark, down, move, enters, hits, seek, step as stepOf}
@@ -36,6 +36,7 @@ use Rattle.iset.specs.Plain.{openPlainNumber, plainNumber, plainCall}
 use Rattle.examples.specs.Stores.{buildIn, _minus_, _plus_, treeAt, treeOf, touched, boundOf}
 use Rattle.examples.specs.Rows.{Each, outcome, stepsFrom, foundFrom, leftIn, tell}
 use Rattle.examples.specs.Table.{storeA, storeA′, storeB, storeC, table}
+use Rattle.tree_edit.specs.Rounds.{loop}
 
 -- What the rows compute with, layer by layer: to unfold one of these names is to unfold all that its line names.
 reading : Unit {0}
@@ -51,7 +52,7 @@ unfolding startOf endOf valueOf every properAt inOrder allProper sortedList span
 building = record {}
 
 repairing : Unit {0}
-unfolding adopt setChild redirected removeChild redirect replaced rootAfter fixUp rotate rotate-2 rotate-4 paintAt choose roundOf roundAt round repair
+unfolding adopt setChild redirected removeChild redirect replaced rootAfter fixUp rotate rotate-2 rotate-4 paintAt choose roundOf roundAt round loop
 repairing = record {}
 
 naming : Unit {0}
@@ -63,11 +64,11 @@ unfolding leftmost vacated exchanged child restructure handed above cutWords cut
 removing = record {}
 
 inserting : Unit {0}
-unfolding goesLeft descend under rotated outer inner recoloured insertRoundAt insertRoundBelow insertRound insertRepair hungNode hungWords hungRoot hung insertAt insertRule
+unfolding goesLeft descend under rotated outer inner recoloured insertRoundAt insertRoundBelow insertRound hungNode hungWords hungRoot hung insertAt insertRule
 inserting = record {}
 
 reaching : Unit {0}
-unfolding altered differs upHulls roundOfHulls roundAtHulls roundHulls repairHulls restructureHulls cutHulls vacateHulls removeHullsFrom removeHulls rotatedHulls outerHulls innerHulls insertRoundAtHulls insertRoundBelowHulls insertRoundHulls insertRepairHulls insertAtHulls insertHulls
+unfolding altered differs upHulls roundOfHulls roundAtHulls roundHulls loopHulls restructureHulls cutHulls vacateHulls removeHullsFrom removeHulls rotatedHulls outerHulls innerHulls insertRoundAtHulls insertRoundBelowHulls insertRoundHulls insertAtHulls insertHulls
 reaching = record {}
 
 walking : Unit {0}

@@ -45,7 +45,7 @@ removeAnswer m (Done g) = record { no = 0; value = g .value; map = g .map; pairs
 removeAnswer m (Refused y) = refusedRemoval m (refusalNumber y)
 
 -- what the rule of removal answers, with k changed hulls
-abbrev pub removeDone : Map → rule.Removal → ℕ → RemoveAnswer
+abbrev pub removeDone : Map → rule.Removed → ℕ → RemoveAnswer
 removeDone m R k = record { no = 0; value = R .value; map = mapOf (m .count - 1) (R .store .root); pairs = R .pairs; reach = k }
 
 -- how many of the hulls that a removal works out change

@@ -12,5 +12,6 @@ pub mod InPlace
 pub mod Inside
 pub mod Reached
 pub mod Below
+pub mod Rounds
 pub mod Told
 pub mod Examples

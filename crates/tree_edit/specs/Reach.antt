@@ -1,7 +1,7 @@
 -- Document 02, item 9: the hulls that a change works out, one after the other, and how many of them change.
 use mathlib.Core.Path.{_≡_}
 use mathlib.Core.Bool.{cond}
-use mathlib.Core.List.{List, [], _∷_}
+use mathlib.Core.List.{List, [], _∷_, _++_}
 use Prim.Native.Nat.{ℕ, zero, suc, _+_}
 use Rattle.words.specs.Ix.{onLink}
 use Rattle.words.specs.Nodes.{par, hull, altered, fix}
@@ -39,6 +39,11 @@ upHulls n (suc height) W k =
 abbrev pub onward : Next → (List ℕ → List ℕ → ℕ → ℕ → List Work) → List Work
 onward (done W C r) f = []
 onward (again W C r ix) f = f W C r ix
+
+-- those of the loop over the round f, where h gives those of a round
+unfoldable pub loopHulls : (List ℕ → List ℕ → ℕ → ℕ → Next) → (List ℕ → List ℕ → ℕ → List Work) → ℕ → List ℕ → List ℕ → ℕ → ℕ → List Work
+loopHulls f h zero W C r ix = []
+loopHulls f h (suc rounds) W C r ix = h W C ix ++ onward (f W C r ix) (λ X D q i. loopHulls f h rounds X D q i)
 
 -- no hull is other than it was
 abbrev pub Stays : List ℕ → List ℕ → Type 0

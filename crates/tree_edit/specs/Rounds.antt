@@ -1,6 +1,6 @@
--- One round of a repair's loop: what it comes to, and how the loop goes on.
+-- The loop of a repair: what a round comes to, and how the loop goes on.
 use mathlib.Core.List.{List}
-use Prim.Native.Nat.{ℕ}
+use Prim.Native.Nat.{ℕ, zero, suc}
 use Rattle.tree_edit.specs.Store.{Store, store}
 
 -- words, colours and root; and where the loop goes on, the slot that it stands at
@@ -16,3 +16,8 @@ ending (again W C r ix) = store W C r
 abbrev pub goOn : Next → (List ℕ → List ℕ → ℕ → ℕ → Next) → Next
 goOn (done W C r) f = done W C r
 goOn (again W C r ix) f = f W C r ix
+
+-- the loop over the round f, at most `rounds` rounds of it
+unfoldable pub loop : (List ℕ → List ℕ → ℕ → ℕ → Next) → ℕ → List ℕ → List ℕ → ℕ → ℕ → Next
+loop f zero W C r ix = again W C r ix
+loop f (suc rounds) W C r ix = goOn (f W C r ix) (λ X D q i. loop f rounds X D q i)

@@ -18,11 +18,10 @@ use Rattle.tree_edit.specs.Rounds.{Next, done, again}
 use Rattle.tree_edit.specs.Reach.{Work, changes, bothHulls}
 use Rattle.tree_edit.proofs.Reached.{changes-append, changes-le}
 use Rattle.tree_links.proofs.LinkLaws.{read-linked, read-unlinked, hulls-linked, hulls-unlinked}
-use Rattle.tree_links.proofs.Loops.{Loop, Counted, link-stays, at-side, side-changes}
+use Rattle.tree_links.proofs.Loops.{link-stays, at-side, side-changes}
 use Rattle.tree_edit.proofs.Colours.{red-child, red-fits}
-use Rattle.tree_in_laws.specs.InsertRepair.{rotated, outer, inner, recoloured, insertRoundAt, insertRoundBelow, insertRound, insertRepair}
-use Rattle.tree_in_laws.specs.Reach.{rotatedHulls, outerHulls, innerHulls, insertRoundAtHulls, insertRoundBelowHulls, insertRoundHulls, insertRepairHulls}
-use Rattle.tree_in_laws.proofs.Reached.{insertRound-le}
+use Rattle.tree_in_laws.specs.InsertRepair.{rotated, outer, inner, recoloured, insertRoundAt, insertRoundBelow, insertRound}
+use Rattle.tree_in_laws.specs.Reach.{rotatedHulls, outerHulls, innerHulls, insertRoundAtHulls, insertRoundBelowHulls, insertRoundHulls}
 
 -- the rotations
 module _ (n : ℕ) (W : List ℕ) (b : Bool) (P S : ℕ) (W₁ : List ℕ) (e : W₁ ≡ rotate n W b P S) where
@@ -146,15 +145,7 @@ module _ (n : ℕ) (W C : List ℕ) (r x w : ℕ) (l : Link) (e : w ≡ par W x)
     unfolding insertRound
     parent-black z = read-linked (done W C r) n (par W x) w l below (done W (paint C x false) r) e f p q (rw (sym g ∙ z))
 
--- the loop
-pub insert-rounds : (n : ℕ) → Loop (insertRound n) (insertRepair n)
-unfolding insertRepair
-insert-rounds n = record { stops = λ W C r x. refl; rounds = λ f W C r x. refl }
-
-pub insert-hulls : (n : ℕ) → Counted n (insertRound n) (insertRoundHulls n) (insertRepairHulls n)
-unfolding insertRepairHulls
-insert-hulls n = record { stops = λ W C r x. refl; rounds = λ f W C r x. refl; most = λ W C x. insertRound-le n W C x }
-
+-- the loop stands at a slot
 pub insert-stays : (n : ℕ) (W C : List ℕ) (r x : ℕ) (X D : List ℕ) (q i : ℕ) → x < n → insertRound n W C r x ≡ again X D q i → i < n
 unfolding insertRound insertRoundBelow insertRoundAt recoloured inner outer
 insert-stays n W C r x X D q i h e =

@@ -69,26 +69,30 @@ pub hung-is : (W C X D : List ℕ) (n r q : ℕ) (e : Entry) (p : ℕ) → D ≡
 unfolding hung
 hung-is W C X D n r q e p f g h = rw (← f, ← g, ← h)
 
--- the whole insertion
-pub insertAt-is : (W C X D Y : List ℕ) (n r q x : ℕ) → store X D q ≡ ending (insertRepair n 32 W C r x) → Y ≡ fixUp n 32 X x
-    → store Y D q ≡ insertAt (store W C r) n x
-unfolding insertAt
-insertAt-is W C X D Y n r q x e f = rw (← e, ← f)
+-- the new node hangs in S, and the repair and the walk upward come after it
+module _ (W C X D Y : List ℕ) (n r q p : ℕ) (e : Entry) (h : store X D q ≡ hung W C n r e p) where
+  pub insertAt-is : (Z B : List ℕ) (t : ℕ) → store Y B t ≡ ending (insertRepair (n + 1) 32 X D q n) → Z ≡ fixUp (n + 1) 32 Y n
+      → store Z B t ≡ insertAt W C n r e p
+  unfolding insertAt
+  insertAt-is Z B t f g = rw (← h, ← f, ← g)
 
-module _ (n : ℕ) (W C : List ℕ) (r x j : ℕ) (e : j ≡ changes n (insertRepairHulls n 32 W C r x)) (X : List ℕ) (k : ℕ) (f : k ≡ changes n (upHulls n 32 X x)) where
-  pub insertAt-changes : (D : List ℕ) (q : ℕ) → store X D q ≡ ending (insertRepair n 32 W C r x) → j + k ≡ changes n (insertAtHulls (store W C r) n x)
+  pub insertAt-changes : (B : List ℕ) (t j k : ℕ) → store Y B t ≡ ending (insertRepair (n + 1) 32 X D q n)
+      → j ≡ changes (n + 1) (insertRepairHulls (n + 1) 32 X D q n) → k ≡ changes (n + 1) (upHulls (n + 1) 32 Y n)
+      → j + k ≡ changes (n + 1) (insertAtHulls W C n r e p)
   unfolding insertAtHulls
-  insertAt-changes D q g = rw (← g, changes-append n (insertRepairHulls n 32 W C r x) (upHulls n 32 X x), ← e, ← f)
+  insertAt-changes B t j k f g i =
+      rw (← h, ← f, changes-append (n + 1) (insertRepairHulls (n + 1) 32 X D q n) (upHulls (n + 1) 32 Y n), ← g, ← i)
 
-  pub insertAt-fits : j + k < 18446744073709551616
-  insertAt-fits = omega (arith, insertRepair-most n 32 W C r x, changes-le n (upHulls n 32 X x), up-most n 32 X x)
+pub insertAt-fits : (n : ℕ) (X D Y : List ℕ) (q x j k : ℕ) → j ≡ changes n (insertRepairHulls n 32 X D q x) → k ≡ changes n (upHulls n 32 Y x)
+    → j + k < 18446744073709551616
+insertAt-fits n X D Y q x j k e f = omega (arith, insertRepair-most n 32 X D q x, changes-le n (upHulls n 32 Y x), up-most n 32 Y x)
 
-pub insert-changes : (W C X D : List ℕ) (n r q p : ℕ) (e : Entry) (i : Interval) (k : ℕ) → i ≡ own e → p ≡ under n W r i
-    → store X D q ≡ hung W C n r e p → k ≡ changes (n + 1) (insertAtHulls (store X D q) (n + 1) n) → k ≡ changes (n + 1) (insertHulls W C n r e)
-unfolding insertHulls
-insert-changes W C X D n r q p e i k f g h j = rw (← f, ← g, ← h) j
+-- the whole insertion
+module _ (W C : List ℕ) (n r p : ℕ) (e : Entry) (i : Interval) (f : i ≡ own e) (g : p ≡ under n W r i) where
+  pub insert-is : (S : Store) → S ≡ insertAt W C n r e p → S ≡ insertRule W C n r e
+  unfolding insertRule
+  insert-is S j = rw (← f, ← g) j
 
-pub insert-is : (W C X D : List ℕ) (n r q p : ℕ) (e : Entry) (i : Interval) (S : Store) → i ≡ own e → p ≡ under n W r i
-    → store X D q ≡ hung W C n r e p → S ≡ insertAt (store X D q) (n + 1) n → S ≡ insertRule W C n r e
-unfolding insertRule
-insert-is W C X D n r q p e i S f g h j = rw (← f, ← g, ← h) j
+  pub insert-changes : (k : ℕ) → k ≡ changes (n + 1) (insertAtHulls W C n r e p) → k ≡ changes (n + 1) (insertHulls W C n r e)
+  unfolding insertHulls
+  insert-changes k j = rw (← f, ← g) j

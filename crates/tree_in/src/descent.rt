@@ -43,8 +43,8 @@ fn last_down(nodes: &[u64], count: u64, top: u64, interval: Interval) -> u64
     current
 }
 
-// The slot that the new node hangs under; U where the map is empty.
-pub(crate) fn slot_above(nodes: &[u64], count: u64, root: u64, interval: Interval) -> u64
+// The way down: the slot that the new node hangs under, U if the map is empty.
+pub(crate) fn insert_inner(nodes: &[u64], count: u64, root: u64, interval: Interval) -> u64
     requires { ⌜ count * 8 ≤ length (now nodes) ⌝ }
     ensures { λ r. ⌜ r ≡ under count (now (nodes .entry)) root interval ⌝ }
 {

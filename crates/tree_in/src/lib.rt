@@ -4,7 +4,7 @@ pub mod descent;
 pub mod repair;
 
 use crate::descent::goes_left;
-use crate::descent::slot_above;
+use crate::descent::insert_inner;
 use crate::repair::insert_repair;
 use bitvec::colours::set_red;
 use tree_links::Repaired;
@@ -58,7 +58,7 @@ fn hang_node(nodes: &mut [u64], count: u64, root: u64, entry: Entry, parent: u64
 }
 
 // Hangs the new red node in slot `count` below the link word `parent`; the answer is the root.
-fn insert_at(
+fn hang_red(
     nodes: &mut [u64],
     colours: &mut [u8],
     count: u64,
@@ -73,14 +73,23 @@ fn insert_at(
     hang_node(nodes, count, root, entry, parent)
 }
 
-// The repair from the new node, and then its hull and those of all above it.
-fn mend_from(nodes: &mut [u64], colours: &mut [u8], count: u64, root: u64, index: u64) -> Repaired
-    requires { ⌜ (count * 8 ≤ length (now nodes)) × (count ≤ length (now colours) * 8) × (index < count) ⌝ }
-    ensures { λ r. ⌜ (store (now (nodes .exit)) (now (colours .exit)) (r .root) ≡ insertAt (store (now (nodes .entry)) (now (colours .entry)) root) count index)
-        × (r .reach ≡ changes count (insertAtHulls (store (now (nodes .entry)) (now (colours .entry)) root) count index)) ⌝ }
+// Hangs the new node, repairs the tree from it, and then works out its hull and those of all above it. The answer is the root
+// and how many hulls changed.
+fn insert_at(
+    nodes: &mut [u64],
+    colours: &mut [u8],
+    count: u64,
+    root: u64,
+    entry: Entry,
+    parent: u64,
+) -> Repaired
+    requires { ⌜ (count * 8 + 8 ≤ length (now nodes)) × (count < length (now colours) * 8) ⌝ }
+    ensures { λ r. ⌜ (store (now (nodes .exit)) (now (colours .exit)) (r .root) ≡ insertAt (now (nodes .entry)) (now (colours .entry)) count root entry parent)
+        × (r .reach ≡ changes (count + 1) (insertAtHulls (now (nodes .entry)) (now (colours .entry)) count root entry parent)) ⌝ }
 {
-    let repaired = insert_repair(nodes, colours, count, root, index);
-    let changed = fix_intervals_up(nodes, count, index);
+    let top = hang_red(nodes, colours, count, root, entry, parent);
+    let repaired = insert_repair(nodes, colours, count + 1, top, count);
+    let changed = fix_intervals_up(nodes, count + 1, count);
     Repaired {
         root: repaired.root,
         reach: repaired.reach + changed,
@@ -100,7 +109,6 @@ pub fn force_insert(
     ensures { λ r. ⌜ (store (now (nodes .exit)) (now (colours .exit)) (r .root) ≡ insertRule (now (nodes .entry)) (now (colours .entry)) count root entry)
         × (r .reach ≡ changes (count + 1) (insertHulls (now (nodes .entry)) (now (colours .entry)) count root entry)) ⌝ }
 {
-    let parent = slot_above(nodes, count, root, interval_in(entry));
-    let top = insert_at(nodes, colours, count, root, entry, parent);
-    mend_from(nodes, colours, count + 1, top, count)
+    let parent = insert_inner(nodes, count, root, interval_in(entry));
+    insert_at(nodes, colours, count, root, entry, parent)
 }

@@ -25,14 +25,6 @@ ghost use Rattle.tree_links.specs.Answers.{next, reach};
 ghost use Rattle.tree_in_laws.specs.InsertRepair.{rotated, outer, inner, insertRoundAt, insertRoundBelow, insertRound, insertRepair};
 ghost use Rattle.tree_in_laws.specs.Reach.{rotatedHulls, outerHulls, innerHulls, insertRoundAtHulls, insertRoundBelowHulls, insertRoundHulls, insertRepairHulls};
 
-// The link word of the sibling of the child on that side.
-fn sibling(nodes: &[u64], parent: u64, left_side: bool) -> u64
-    requires { ⌜ parent * 8 + 8 ≤ length (now nodes) ⌝ }
-    ensures { λ r. ⌜ r ≡ kid (now (nodes .entry)) (not «left_side») parent ⌝ }
-{
-    child_of(nodes, parent, !left_side)
-}
-
 // Rotates left where `left_side`, else right: slot `up`, the child of `index` on the other side, comes up over it. The hull of
 // the one that went down is worked out first: the other's depends on it.
 fn rotate(
@@ -178,7 +170,7 @@ fn round_at(
     ensures { λ r. ⌜ (next r (now (nodes .exit)) (now (colours .exit)) ≡ insertRoundAt count (now (nodes .entry)) (now (colours .entry)) root index parent grandparent «left_side»)
         × (reach r ≡ changes count (insertRoundAtHulls count (now (nodes .entry)) (now (colours .entry)) index parent grandparent «left_side»)) ⌝ }
 {
-    let uncle = sibling(nodes, grandparent, left_side);
+    let uncle = child_of(nodes, grandparent, !left_side);
     if is_black_or_nil(colours, count, uncle) {
         return round_rotated(
             nodes,

@@ -18,16 +18,17 @@ use Rattle.bitvec.specs.Colours.{red, redAt, paint}
 use Rattle.bitvec.proofs.Bytes.{length-setBit, bitAt-same, bitAt-other}
 use Rattle.tree.proofs.Cases.{compare}
 use Rattle.tree_edit.specs.Rotations.{rotate}
-use Rattle.tree_edit.specs.Rounds.{Next, done, again, goOn, ending}
+use Rattle.tree_edit.specs.Rounds.{Next, done, ending}
 use Rattle.tree_edit.specs.Reach.{Work, changes, upHulls}
 use Rattle.tree.specs.Below.{Agree, SameColours}
 use Rattle.tree_edit.specs.Below.{Alike}
 use Rattle.tree_edit.proofs.Colours.{red-slot}
-use Rattle.tree_edit.proofs.Below.{link-same, same-redAt, agree-put, agree-putNode, agree-fix, agree-fixUp, agree-rotate, same-rootAfter, Both, both-paint, SameNext, AlikeIn, same-ending, Sums, sums-append, sums-both, sums-up, sums-onward}
+use Rattle.tree_edit.proofs.Below.{link-same, same-redAt, agree-put, agree-putNode, agree-fix, agree-fixUp, agree-rotate, same-rootAfter, Both, both-paint, SameNext, AlikeIn, same-ending, Sums, sums-append, sums-both, sums-up}
 use Rattle.tree_in_laws.specs.Descent.{goesLeft, descend, under}
 use Rattle.tree_in_laws.specs.InsertRepair.{rotated, outer, inner, recoloured, insertRoundAt, insertRoundBelow, insertRound, insertRepair}
 use Rattle.tree_in_laws.specs.Insert.{own, hungNode, hungWords, hungRoot, hung, insertAt, insertRule}
 use Rattle.tree_in_laws.specs.Reach.{rotatedHulls, outerHulls, innerHulls, insertRoundAtHulls, insertRoundBelowHulls, insertRoundHulls, insertRepairHulls, insertAtHulls, insertHulls}
+use Rattle.tree_edit.proofs.Rounds.{same-loop, sums-loop}
 
 -- the repair of n entries
 module _ (n : ℕ) where
@@ -95,16 +96,7 @@ module _ (n : ℕ) where
         go P lp false = (A, B, refl)
 
   same-insertRepair : (rounds : ℕ) (W X C D : List ℕ) (r x : ℕ) → Agree n W X → Both n C D → x < n → SameNext n (insertRepair n rounds W C r x) (insertRepair n rounds X D r x)
-  unfolding insertRepair
-  same-insertRepair zero W X C D r x A B l = (A, B, refl, refl, l)
-  same-insertRepair (suc rounds) W X C D r x A B l = go (same-insertRepair rounds) (insertRound n W C r x) (insertRound n X D r x) (same-insertRound W X C D A B r x l)
-    where
-      go : ((W X C D : List ℕ) (r x : ℕ) → Agree n W X → Both n C D → x < n → SameNext n (insertRepair n rounds W C r x) (insertRepair n rounds X D r x))
-          → (s t : Next) → SameNext n s t → SameNext n (goOn s (λ X D q i. insertRepair n rounds X D q i)) (goOn t (λ X D q i. insertRepair n rounds X D q i))
-      go rec (done W C r) (done X D q) h = h
-      go rec (done W C r) (again X D q j) h = absurd h
-      go rec (again W C r i) (done X D q) h = absurd h
-      go rec (again W C r i) (again X D q j) h = rw (← (h .2), ← (h .3)) (rec W X C D r i (h .0) (h .1) (h .4))
+  same-insertRepair = same-loop (insertRound n) n (λ W X C D r x A B l. same-insertRound W X C D A B r x l)
 
   -- the hulls that are worked out: as many of them change
   sums-rotated : (W X : List ℕ) (b : Bool) (P S : ℕ) → P < n → S < n → Agree n W X → Sums n (rotatedHulls n W b P S) (rotatedHulls n X b P S)
@@ -150,11 +142,8 @@ module _ (n : ℕ) where
         go P lp false = refl
 
   sums-insertRepair : (rounds : ℕ) (W X C D : List ℕ) (r x : ℕ) → Agree n W X → Both n C D → x < n → Sums n (insertRepairHulls n rounds W C r x) (insertRepairHulls n rounds X D r x)
-  unfolding insertRepairHulls
-  sums-insertRepair zero W X C D r x A B l = refl
-  sums-insertRepair (suc rounds) W X C D r x A B l =
-      sums-append n (insertRoundHulls n W C x) _ (insertRoundHulls n X D x) _ (sums-insertRound W X C D A B x l)
-      (sums-onward n (λ X D q i. insertRepairHulls n rounds X D q i) (sums-insertRepair rounds) (insertRound n W C r x) (insertRound n X D r x) (same-insertRound W X C D A B r x l))
+  sums-insertRepair =
+      sums-loop (insertRound n) n (λ W X C D r x A B l. same-insertRound W X C D A B r x l) (insertRoundHulls n) (λ W X C D x A B l. sums-insertRound W X C D A B x l)
 
   -- the way down
   module _ (W X : List ℕ) (A : Agree n W X) (x : Interval) where
@@ -231,11 +220,11 @@ module _ (W X C D : List ℕ) (n r : ℕ) (e : Entry) (room : (n + 1) * 8 ≤ le
       (insertRepair (n + 1) 32 (hungWords X n e p) (paint D n true) (hungRoot n r p) n)
       (same-insertRepair (n + 1) 32 (hungWords W n e p) (hungWords X n e p) (paint C n true) (paint D n true) (hungRoot n r p) n (agree-hungWords p) both-hung (omega arith))
 
-  same-insertAt : (p : ℕ) → Alike (n + 1) (insertAt (hung W C n r e p) (n + 1) n) (insertAt (hung X D n r e p) (n + 1) n)
+  same-insertAt : (p : ℕ) → Alike (n + 1) (insertAt W C n r e p) (insertAt X D n r e p)
   unfolding insertAt hung
   same-insertAt p = let m = same-repaired p in (agree-fixUp (n + 1) 32 _ _ n (m .0), m .1 .1, m .2)
 
-  sums-insertAt : (p : ℕ) → Sums (n + 1) (insertAtHulls (hung W C n r e p) (n + 1) n) (insertAtHulls (hung X D n r e p) (n + 1) n)
+  sums-insertAt : (p : ℕ) → Sums (n + 1) (insertAtHulls W C n r e p) (insertAtHulls X D n r e p)
   unfolding insertAtHulls hung
   sums-insertAt p =
       let Y : List ℕ = hungWords W n e p in

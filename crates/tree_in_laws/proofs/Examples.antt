@@ -10,11 +10,12 @@ use Rattle.bitvec.specs.Bits.{bit, put as putBit, bitAt, setBit}
 use Rattle.tree_edit.specs.Links.{adopt, setChild, redirected, redirect, replaced, rootAfter, fixUp}
 use Rattle.tree_edit.specs.Rotations.{rotate}
 use Rattle.tree_edit.specs.Store.{Store, store}
-use Rattle.tree_edit.specs.Reach.{differs, changes, upHulls}
+use Rattle.tree_edit.specs.Reach.{differs, changes, upHulls, loopHulls}
 use Rattle.tree_in_laws.specs.Descent.{goesLeft, descend, under}
-use Rattle.tree_in_laws.specs.InsertRepair.{rotated, outer, inner, recoloured, insertRoundAt, insertRoundBelow, insertRound, insertRepair}
+use Rattle.tree_in_laws.specs.InsertRepair.{rotated, outer, inner, recoloured, insertRoundAt, insertRoundBelow, insertRound}
 use Rattle.tree_in_laws.specs.Insert.{hungNode, hungWords, hungRoot, hung, insertAt, insertRule}
-use Rattle.tree_in_laws.specs.Reach.{rotatedHulls, outerHulls, innerHulls, insertRoundAtHulls, insertRoundBelowHulls, insertRoundHulls, insertRepairHulls, insertAtHulls, insertHulls}
+use Rattle.tree_in_laws.specs.Reach.{rotatedHulls, outerHulls, innerHulls, insertRoundAtHulls, insertRoundBelowHulls, insertRoundHulls, insertAtHulls, insertHulls}
+use Rattle.tree_edit.specs.Rounds.{loop}
 
 -- what the rows compute with
 reading : Unit {0}
@@ -26,11 +27,11 @@ unfolding adopt setChild redirected redirect replaced rootAfter fixUp rotate
 linking = record {}
 
 inserting : Unit {0}
-unfolding goesLeft descend under rotated outer inner recoloured insertRoundAt insertRoundBelow insertRound insertRepair hungNode hungWords hungRoot hung insertAt insertRule
+unfolding goesLeft descend under rotated outer inner recoloured insertRoundAt insertRoundBelow insertRound loop hungNode hungWords hungRoot hung insertAt insertRule
 inserting = record {}
 
 reaching : Unit {0}
-unfolding altered differs upHulls rotatedHulls outerHulls innerHulls insertRoundAtHulls insertRoundBelowHulls insertRoundHulls insertRepairHulls insertAtHulls insertHulls
+unfolding altered differs upHulls rotatedHulls outerHulls innerHulls insertRoundAtHulls insertRoundBelowHulls insertRoundHulls loopHulls insertAtHulls insertHulls
 reaching = record {}
 
 abbrev entryOf : ℕ → ℕ → ℕ → Entry

@@ -16,7 +16,7 @@ use Rattle.tree.proofs.Slots.{hit-same, occ-bin}
 use Rattle.tree.proofs.Frames.{off-link, open-bin}
 use Rattle.tree.proofs.Once.{root-par}
 use Rattle.tree_edit.specs.Links.{rootAfter}
-use Rattle.tree_edit.specs.Rounds.{Next, done, again, goOn}
+use Rattle.tree_edit.specs.Rounds.{Next, done, again, goOn, loop}
 use Rattle.tree_edit.proofs.Links.{on-slot, on-none}
 use Rattle.tree_edit.proofs.Stand.{Stand}
 use Rattle.tree_edit.proofs.Rotations.{side-of}
@@ -198,7 +198,7 @@ Finished n z base (again W C r x) = ⊥
 
 pub insertRepaired : (rounds n z : ℕ) (base W C : List ℕ) (r x : ℕ) → n ≤ length C * 8 → Loop n z base rounds W (red C) r x
     → Finished n z base (insertRepair n rounds W C r x)
-unfolding insertRepair
+unfolding loop
 insertRepaired zero n z base W C r x bits l = absurd (omega (arith, l .short))
 insertRepaired (suc rounds) n z base W C r x bits l =
     go (insertRepaired rounds n z base) (insertRound n W C r x) (round-good n z base W C r x (l .p) (l .t) (l .m) bits (l .c) (l .invariant))

@@ -34,12 +34,11 @@ use Rattle.tree_edit.proofs.Fits.{plug-fits}
 use Rattle.tree_edit.proofs.Beside.{HullsBy, occs-parts, by-same, hulls-by}
 use Rattle.tree_edit.proofs.Rows.{map-same}
 use Rattle.tree_in_laws.specs.Descent.{under}
-use Rattle.tree_in_laws.specs.InsertRepair.{insertRepair}
+use Rattle.tree_in_laws.specs.InsertRepair.{insertRepair, insertRound}
 use Rattle.tree_in_laws.specs.Insert.{own, hungWords, hungRoot, hung, insertAt, insertRule}
 use Rattle.tree_in_laws.specs.InsertionGuarantee.{notGreater, greater, InsertionGuarantee, insertWith}
 use Rattle.tree_in_laws.proofs.Ways.{front, back, slots-way, front-le, back-gt}
 use Rattle.tree_in_laws.proofs.Between.{first-part, second-part, rising-between, upto-map, before-map}
-use Rattle.tree_in_laws.proofs.Enough.{Ended, insertRepair-more}
 use Rattle.tree_in_laws.proofs.Partly.{partly-hulls, partly-way}
 use Rattle.tree_in_laws.proofs.Reds.{BlackRoot, reddened, withColour-fits}
 use Rattle.tree_in_laws.proofs.HungWords.{kept-hung}
@@ -47,6 +46,7 @@ use Rattle.tree_in_laws.proofs.Hang.{Hung, hangs, under-more}
 use Rattle.tree_in_laws.proofs.Loop.{LoopInvariant, Settled, rooted}
 use Rattle.tree_in_laws.proofs.InsertRepaired.{Finished, insertRepaired}
 use Rattle.tree_in_laws.proofs.Inside.{entry-stays, entry-comes}
+use Rattle.tree_edit.proofs.Rounds.{Ended, loop-more}
 
 -- what is left when the repair is at its end
 settled-of : (n z : ℕ) (base : List ℕ) (s : Next) → Finished n z base s
@@ -304,6 +304,6 @@ module _ (W C : List ℕ) (n r : ℕ) (e : Entry) (small : n + 1 ≤ 65535) (fit
   enough levels rounds height i j k =
       rw (
         under-more W n r e small fit t (h .shape) (omega (arith, low)) (h .rising) levels i,
-        insertRepair-more (n + 1) 32 rounds X Y q n j (ended-of (n + 1) n base end finished),
+        loop-more (insertRound (n + 1)) 32 rounds X Y q n j (ended-of (n + 1) n base end finished),
         walk-more (n + 1) n base (ending end .words) (red (ending end .colours)) (ending end .root) small settled there height k,
       ) refl

@@ -3,7 +3,7 @@ use mathlib.Core.Path.{_≡_, refl, _∙_}
 use mathlib.Core.Logic.{_≢_}
 use mathlib.Core.Bool.{Bool, true, false, cond, not}
 use mathlib.Core.List.{List}
-use Prim.Native.Nat.{ℕ, zero, suc, _+_, _*_, _<_, _≤_}
+use Prim.Native.Nat.{ℕ, _+_, _*_, _<_, _≤_}
 use native.Mathlib.Omega.{arith}
 use lib.ListN.{length}
 use lib.Dec.{eqb}
@@ -13,30 +13,22 @@ use Rattle.words.specs.declared.node.Entry.{Entry}
 use Rattle.words.specs.declared.node.Field.the-variants.{Child}
 use Rattle.bitvec.specs.Colours.{red, paint, redAt}
 use Rattle.tree_edit.specs.Rotations.{rotate}
-use Rattle.tree_edit.specs.Rounds.{Next, done, again, goOn, ending}
+use Rattle.tree_edit.specs.Rounds.{done, ending}
 use Rattle.tree_edit.specs.Store.{Store, store}
 use Rattle.tree_edit.specs.Inside.{Inside}
 use Rattle.tree_edit.proofs.Carried.{kept-entry}
 use Rattle.tree_edit.proofs.Links.{by-link, kept-rotate}
 use Rattle.tree_edit.proofs.Upward.{entry-fix, entry-fixUp}
 use Rattle.tree_edit.proofs.Low.{Low, low-trans, low-three, low-put, low-putNode, low-fix, low-fixUp, low-rotate, low-paint, lowColours-refl}
-use Rattle.tree_edit.proofs.InPlace.{InPlace, in-place-refl}
+use Rattle.tree_edit.proofs.InPlace.{InPlace, in-place-refl, in-place-trans}
 use Rattle.tree_edit.proofs.Colours.{red-slot}
 use Rattle.tree_in_laws.specs.Descent.{goesLeft, under}
 use Rattle.tree_in_laws.specs.InsertRepair.{rotated, outer, inner, recoloured, insertRoundAt, insertRoundBelow, insertRound, insertRepair}
 use Rattle.tree_in_laws.specs.Insert.{own, hungNode, hungWords, hung, insertAt, insertRule}
 use Rattle.tree_in_laws.proofs.HungWords.{by-hung, kept-hung, entry-hung}
+use Rattle.tree_edit.proofs.Rounds.{NextIn, loop-in-place}
 
 module _ (n : ℕ) where
-  -- one after the other
-  steady-trans : (W C : List ℕ) (S T : Store) → InPlace n W C S → InPlace n (S .words) (S .colours) T → InPlace n W C T
-  steady-trans W C S T f g =
-      record {
-        words-in = low-trans n W (S .words) (T .words) (f .words-in) (g .words-in);
-        colours-in = (g .colours-in .0 ∙ f .colours-in .0, λ a u. g .colours-in .1 a u ∙ f .colours-in .1 a u);
-        entries = λ a. g .entries a ∙ f .entries a;
-      }
-
   -- words rotated at P, and nothing painted
   steady-rotated : (W C : List ℕ) (r : ℕ) (b : Bool) (P S : ℕ) → P < n → S < n → InPlace n W C (store (rotated n W b P S) C r)
   unfolding rotated
@@ -57,19 +49,18 @@ module _ (n : ℕ) where
   steady-outer : (W C : List ℕ) (r : ℕ) (b : Bool) (P G : ℕ) → P < n → G < n → InPlace n W C (ending (outer n W C r b P G))
   unfolding outer
   steady-outer W C r b P G lp lg =
-      steady-trans W C (store (rotated n W (not b) G P) C r) _ (steady-rotated W C r (not b) G P lg lp) (steady-two _ C _ P G false true lp lg)
+      in-place-trans n W C (store (rotated n W (not b) G P) C r) _ (steady-rotated W C r (not b) G P lg lp) (steady-two _ C _ P G false true lp lg)
 
   steady-inner : (W C : List ℕ) (r x : ℕ) (b : Bool) (P G : ℕ) → x < n → P < n → G < n → InPlace n W C (ending (inner n W C r x b P G))
   unfolding inner
   steady-inner W C r x b P G lx lp lg =
-      steady-trans W C (store (rotated n W b P x) C r) _ (steady-rotated W C r b P x lp lx) (steady-outer (rotated n W b P x) C r b x G lx lg)
+      in-place-trans n W C (store (rotated n W b P x) C r) _ (steady-rotated W C r b P x lp lx) (steady-outer (rotated n W b P x) C r b x G lx lg)
 
-  -- a step, and where the loop goes on
-  abbrev Steady : List ℕ → List ℕ → Next → Type 0
-  Steady W C (done X D q) = InPlace n W C (store X D q)
-  Steady W C (again X D q x) = InPlace n W C (store X D q) × (x < n)
+  -- the loop stands at a slot
+  abbrev Live : ℕ → Type 0
+  Live x = x < n
 
-  steady-at : (W C : List ℕ) (r x P G : ℕ) (b : Bool) → x < n → P < n → G < n → Steady W C (insertRoundAt n W C r x P G b)
+  steady-at : (W C : List ℕ) (r x P G : ℕ) (b : Bool) → x < n → P < n → G < n → NextIn n Live W C (insertRoundAt n W C r x P G b)
   unfolding insertRoundAt recoloured outer inner
   steady-at W C r x P G b lx lp lg = go (redAt n C (kid W (not b) G)) refl (eqb (kid W (not b) P) x)
     where
@@ -77,34 +68,27 @@ module _ (n : ℕ) where
       u = kid W (not b) G
 
       go : (k : Bool) → redAt n C u ≡ k → (i : Bool)
-          → Steady W C (cond k (recoloured W C r P u G) (cond i (inner n W C r x b P G) (outer n W C r b P G)))
+          → NextIn n Live W C (cond k (recoloured W C r P u G) (cond i (inner n W C r x b P G) (outer n W C r b P G)))
       go true e i = (steady-paint W C _ r r G true lg (steady-two W C r P u false false lp (red-slot n C u e)), lg)
       go false e true = steady-inner W C r x b P G lx lp lg
       go false e false = steady-outer W C r b P G lp lg
 
-  steady-round : (W C : List ℕ) (r x : ℕ) → x < n → Steady W C (insertRound n W C r x)
+  steady-round : (W C : List ℕ) (r x : ℕ) → x < n → NextIn n Live W C (insertRound n W C r x)
   unfolding insertRound insertRoundBelow
   steady-round W C r x lx =
-      by-link n (par W x) (λ s. Steady W C s) (λ P. cond (red C P) (insertRoundBelow n W C r x P) (done W C r)) (done W (paint C x false) r)
+      by-link n (par W x) (λ s. NextIn n Live W C s) (λ P. cond (red C P) (insertRoundBelow n W C r x P) (done W C r)) (done W (paint C x false) r)
       (λ lp. go (par W x) lp (red C (par W x)))
       (λ u. steady-paint W C C r r x false lx (in-place-refl n W C r))
     where
-      go : (P : ℕ) → P < n → (k : Bool) → Steady W C (cond k (insertRoundBelow n W C r x P) (done W C r))
+      go : (P : ℕ) → P < n → (k : Bool) → NextIn n Live W C (cond k (insertRoundBelow n W C r x P) (done W C r))
       go P lp true =
-          by-link n (par W P) (λ s. Steady W C s) (λ G. insertRoundAt n W C r x P G (eqb (kid W true G) P)) (done W C r)
+          by-link n (par W P) (λ s. NextIn n Live W C s) (λ G. insertRoundAt n W C r x P G (eqb (kid W true G) P)) (done W C r)
           (λ lg. steady-at W C r x P (par W P) (eqb (kid W true (par W P)) P) lx lp lg)
           (λ u. in-place-refl n W C r)
       go P lp false = in-place-refl n W C r
 
   steady : (rounds : ℕ) (W C : List ℕ) (r x : ℕ) → x < n → InPlace n W C (ending (insertRepair n rounds W C r x))
-  unfolding insertRepair
-  steady zero W C r x lx = in-place-refl n W C r
-  steady (suc rounds) W C r x lx = go (steady rounds) (insertRound n W C r x) (steady-round W C r x lx)
-    where
-      go : ((X D : List ℕ) (q i : ℕ) → i < n → InPlace n X D (ending (insertRepair n rounds X D q i))) → (s : Next) → Steady W C s
-          → InPlace n W C (ending (goOn s (λ X D q i. insertRepair n rounds X D q i)))
-      go rec (done X D q) m = m
-      go rec (again X D q i) m = steady-trans W C (store X D q) (ending (insertRepair n rounds X D q i)) (m .0) (rec X D q i (m .1))
+  steady = loop-in-place (insertRound n) n Live steady-round
 
 -- the whole of it, where p is the slot to hang under
 module _ (W C : List ℕ) (n r : ℕ) (e : Entry) where

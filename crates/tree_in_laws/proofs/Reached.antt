@@ -2,8 +2,8 @@
 use mathlib.Core.Path.{_≡_, refl, _∙_}
 use mathlib.Core.Logic.{_≢_}
 use mathlib.Core.Bool.{Bool, true, false, cond, not}
-use mathlib.Core.List.{List, [], _++_}
-use Prim.Native.Nat.{ℕ, zero, suc, _+_, _*_, _≤_}
+use mathlib.Core.List.{List, []}
+use Prim.Native.Nat.{ℕ, _+_, _*_, _≤_}
 use native.Mathlib.Omega.{arith}
 use lib.ListN.{length}
 use lib.Dec.{eqb, leb}
@@ -14,16 +14,17 @@ use Rattle.words.proofs.Nodes.{word-put-field, inLinks, hull-putNode}
 use Rattle.words.specs.declared.node.Entry.{Entry}
 use Rattle.bitvec.specs.Colours.{red, redAt, paint}
 use Rattle.tree_edit.specs.Rotations.{rotate}
-use Rattle.tree_edit.specs.Rounds.{Next, done, again, goOn, ending}
+use Rattle.tree_edit.specs.Rounds.{done, ending}
 use Rattle.tree_edit.specs.Store.{Store}
-use Rattle.tree_edit.specs.Reach.{changes, onward, upHulls, Follows}
+use Rattle.tree_edit.specs.Reach.{changes, upHulls, Follows}
 use Rattle.tree_edit.proofs.Links.{by-link, kept-rotate}
-use Rattle.tree_edit.proofs.Reached.{kept-hull, kept-stays, then, follows-up, changes-append, changes-le}
+use Rattle.tree_edit.proofs.Reached.{kept-hull, kept-stays, then, follows-up, changes-le}
 use Rattle.tree_in_laws.specs.Descent.{goesLeft, under}
 use Rattle.tree_in_laws.specs.InsertRepair.{rotated, outer, inner, recoloured, insertRoundAt, insertRoundBelow, insertRound, insertRepair}
 use Rattle.tree_in_laws.specs.Insert.{own, hungNode, hungWords, hungRoot, hung, insertAt, insertRule}
 use Rattle.tree_in_laws.proofs.HungWords.{by-hung, kept-hung}
 use Rattle.tree_in_laws.specs.Reach.{rotatedHulls, outerHulls, innerHulls, insertRoundAtHulls, insertRoundBelowHulls, insertRoundHulls, insertRepairHulls, insertAtHulls, insertHulls}
+use Rattle.tree_edit.proofs.Rounds.{follows-loop, loop-most}
 
 module _ (n : ℕ) where
   follows-rotated : (W : List ℕ) (b : Bool) (P S : ℕ) → Follows n W (rotatedHulls n W b P S) (rotated n W b P S)
@@ -59,15 +60,7 @@ module _ (n : ℕ) where
       go false true false = follows-at W C r x P (par W P) (eqb (kid W true (par W P)) P)
 
   follows-insertRepair : (rounds : ℕ) (W C : List ℕ) (r x : ℕ) → Follows n W (insertRepairHulls n rounds W C r x) (ending (insertRepair n rounds W C r x) .words)
-  unfolding insertRepairHulls insertRepair
-  follows-insertRepair zero W C r x = λ a. refl
-  follows-insertRepair (suc rounds) W C r x = go (follows-insertRepair rounds) (insertRound n W C r x) (follows-round W C r x)
-    where
-      go : ((X D : List ℕ) (q i : ℕ) → Follows n X (insertRepairHulls n rounds X D q i) (ending (insertRepair n rounds X D q i) .words)) → (s : Next)
-          → Follows n W (insertRoundHulls n W C x) (ending s .words)
-          → Follows n W (insertRoundHulls n W C x ++ onward s (λ X D q i. insertRepairHulls n rounds X D q i)) (ending (goOn s (λ X D q i. insertRepair n rounds X D q i)) .words)
-      go rec (done X D q) f = then n W X (insertRoundHulls n W C x) [] X f (λ a. refl)
-      go rec (again X D q i) f = then n W X (insertRoundHulls n W C x) (insertRepairHulls n rounds X D q i) (ending (insertRepair n rounds X D q i) .words) f (rec X D q i)
+  follows-insertRepair = follows-loop (insertRound n) (insertRoundHulls n) n follows-round
 
 -- hanging the new node leaves every old hull
 pub hung-stays : (W : List ℕ) (n : ℕ) (e : Entry) (p a : ℕ) → a ≢ n → hull (hungWords W n e p) a ≡ hull W a
@@ -95,9 +88,11 @@ reached W C n r e =
 
 -- how much it can be, on any words: a round works out four hulls at the most
 module _ (n : ℕ) where
-  pub insertRound-le : (W C : List ℕ) (x : ℕ) → changes n (insertRoundHulls n W C x) ≤ 4
+  round-four : (W C : List ℕ) (x : ℕ) → length (insertRoundHulls n W C x) ≤ 4
   unfolding insertRoundHulls insertRoundBelowHulls insertRoundAtHulls innerHulls outerHulls rotatedHulls
-  insertRound-le W C x = omega (arith, changes-le n (insertRoundHulls n W C x), few)
+  round-four W C x =
+      by-link n (par W x) (λ l. length l ≤ 4) (λ P. cond (red C P) (insertRoundBelowHulls n W C x P) []) []
+      (λ h. below (par W x) (red C (par W x))) (λ h. omega arith)
     where
       at : (P G : ℕ) (b i j : Bool) → length (cond i [] (cond j (innerHulls n W x b P G) (outerHulls n W b P G))) ≤ 4
       at P G b true j = omega arith
@@ -112,19 +107,9 @@ module _ (n : ℕ) where
           (λ h. omega arith)
       below P false = omega arith
 
-      few : length (insertRoundHulls n W C x) ≤ 4
-      few =
-          by-link n (par W x) (λ l. length l ≤ 4) (λ P. cond (red C P) (insertRoundBelowHulls n W C x P) []) []
-          (λ h. below (par W x) (red C (par W x))) (λ h. omega arith)
+  pub insertRound-le : (W C : List ℕ) (x : ℕ) → changes n (insertRoundHulls n W C x) ≤ 4
+  insertRound-le W C x = omega (arith, changes-le n (insertRoundHulls n W C x), round-four W C x)
 
   pub insertRepair-most : (rounds : ℕ) (W C : List ℕ) (r x : ℕ) → changes n (insertRepairHulls n rounds W C r x) ≤ rounds * 4
-  unfolding insertRepairHulls
-  insertRepair-most zero W C r x = omega arith
-  insertRepair-most (suc rounds) W C r x =
-      rw (changes-append n (insertRoundHulls n W C x) (onward (insertRound n W C r x) (λ X D q i. insertRepairHulls n rounds X D q i)))
-      (go (insertRepair-most rounds) (insertRound n W C r x))
-    where
-      go : ((X D : List ℕ) (q i : ℕ) → changes n (insertRepairHulls n rounds X D q i) ≤ rounds * 4) → (s : Next)
-          → changes n (insertRoundHulls n W C x) + changes n (onward s (λ X D q i. insertRepairHulls n rounds X D q i)) ≤ suc rounds * 4
-      go rec (done X D q) = omega (arith, insertRound-le W C x)
-      go rec (again X D q i) = omega (arith, insertRound-le W C x, rec X D q i)
+  insertRepair-most rounds W C r x =
+      omega (arith, changes-le n (insertRepairHulls n rounds W C r x), loop-most (insertRound n) (insertRoundHulls n) 4 round-four rounds W C r x)

@@ -16,6 +16,6 @@ unfoldable pub descend : ℕ → ℕ → List ℕ → Interval → ℕ → ℕ
 descend n zero W x k = k
 descend n (suc height) W x k = onLink n (kid W (goesLeft W x k) k) (λ s. descend n height W x s) k
 
--- the link word of the slot that the new node hangs under: no slot where the map is empty
+-- `insert_inner`: the link word of the slot that the new node hangs under, no slot if the map is empty
 unfoldable pub under : ℕ → List ℕ → ℕ → Interval → ℕ
 under n W r x = onLink n r (λ s. descend n 32 W x s) U

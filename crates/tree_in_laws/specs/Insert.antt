@@ -31,12 +31,13 @@ hungRoot n r p = onLink n p (λ s. r) n
 unfoldable pub hung : List ℕ → List ℕ → ℕ → ℕ → Entry → ℕ → Store
 hung W C n r e p = store (hungWords W n e p) (paint C n true) (hungRoot n r p)
 
--- the repair of a store of n entries from slot x, and "after the repair hulls are worked out from the new node to the root"
-unfoldable pub insertAt : Store → ℕ → ℕ → Store
-insertAt S n x =
-    let t : Store = ending (insertRepair n 32 (S .words) (S .colours) (S .root) x) in
-    store (fixUp n 32 (t .words) x) (t .colours) (t .root)
+-- `insert_at`: the new node hangs below the link word p, the repair starts at it, and "after the repair hulls are worked out from the new node to the root"
+unfoldable pub insertAt : List ℕ → List ℕ → ℕ → ℕ → Entry → ℕ → Store
+insertAt W C n r e p =
+    let S : Store = hung W C n r e p in
+    let t : Store = ending (insertRepair (n + 1) 32 (S .words) (S .colours) (S .root) n) in
+    store (fixUp (n + 1) 32 (t .words) n) (t .colours) (t .root)
 
--- the new entry goes to slot n; the count is n + 1 then
+-- `force_insert`: the new entry goes to slot n; the count is n + 1 then
 unfoldable pub insertRule : List ℕ → List ℕ → ℕ → ℕ → Entry → Store
-insertRule W C n r e = insertAt (hung W C n r e (under n W r (own e))) (n + 1) n
+insertRule W C n r e = insertAt W C n r e (under n W r (own e))

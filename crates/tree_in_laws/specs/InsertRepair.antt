@@ -2,14 +2,14 @@
 -- `insert_repair` does it.
 use mathlib.Core.Bool.{Bool, true, false, cond, not}
 use mathlib.Core.List.{List}
-use Prim.Native.Nat.{ℕ, zero, suc}
+use Prim.Native.Nat.{ℕ}
 use lib.Dec.{eqb}
 use Rattle.words.specs.Ix.{onLink}
 use Rattle.words.specs.Nodes.{kid, par, fix}
 use Rattle.bitvec.specs.Colours.{red, redAt, paint}
 use Rattle.tree_edit.specs.Links.{rootAfter}
 use Rattle.tree_edit.specs.Rotations.{rotate}
-use Rattle.tree_edit.specs.Rounds.{Next, done, again, goOn}
+use Rattle.tree_edit.specs.Rounds.{Next, done, again, loop}
 
 -- `rotate_left` at `true`, `rotate_right` at `false`: the child S of P on the side that b is not comes up over P. "A rotation works out the hull
 -- of the node that went down, then of the one that came up".
@@ -44,6 +44,5 @@ insertRound n W C r x =
     onLink n (par W x) (λ P. cond (red C P) (insertRoundBelow n W C r x P) (done W C r)) (done W (paint C x false) r)
 
 -- the loop, at most `rounds` rounds of it
-unfoldable pub insertRepair : ℕ → ℕ → List ℕ → List ℕ → ℕ → ℕ → Next
-insertRepair n zero W C r x = again W C r x
-insertRepair n (suc rounds) W C r x = goOn (insertRound n W C r x) (λ X D q i. insertRepair n rounds X D q i)
+abbrev pub insertRepair : ℕ → ℕ → List ℕ → List ℕ → ℕ → ℕ → Next
+insertRepair n rounds W C r x = loop (insertRound n) rounds W C r x

@@ -1,7 +1,7 @@
 -- Document 02, item 9: the hulls that an insertion works out, one after the other. The new node's first hull is set and not worked out.
 use mathlib.Core.Bool.{Bool, true, not, cond}
 use mathlib.Core.List.{List, [], _++_}
-use Prim.Native.Nat.{ℕ, zero, suc, _+_}
+use Prim.Native.Nat.{ℕ, _+_}
 use lib.Dec.{eqb}
 use Rattle.words.specs.Ix.{onLink}
 use Rattle.words.specs.Nodes.{kid, par}
@@ -10,7 +10,7 @@ use Rattle.bitvec.specs.Colours.{red, redAt}
 use Rattle.tree_edit.specs.Rotations.{rotate}
 use Rattle.tree_edit.specs.Store.{Store}
 use Rattle.tree_edit.specs.Rounds.{ending}
-use Rattle.tree_edit.specs.Reach.{Work, bothHulls, onward, upHulls}
+use Rattle.tree_edit.specs.Reach.{Work, bothHulls, upHulls, loopHulls}
 use Rattle.tree_in_laws.specs.Descent.{under}
 use Rattle.tree_in_laws.specs.InsertRepair.{rotated, insertRound, insertRepair}
 use Rattle.tree_in_laws.specs.Insert.{own, hung}
@@ -35,14 +35,15 @@ insertRoundBelowHulls n W C x P = onLink n (par W P) (λ G. insertRoundAtHulls n
 unfoldable pub insertRoundHulls : ℕ → List ℕ → List ℕ → ℕ → List Work
 insertRoundHulls n W C x = onLink n (par W x) (λ P. cond (red C P) (insertRoundBelowHulls n W C x P) []) []
 
-unfoldable pub insertRepairHulls : ℕ → ℕ → List ℕ → List ℕ → ℕ → ℕ → List Work
-insertRepairHulls n zero W C r x = []
-insertRepairHulls n (suc rounds) W C r x = insertRoundHulls n W C x ++ onward (insertRound n W C r x) (λ X D q i. insertRepairHulls n rounds X D q i)
+abbrev pub insertRepairHulls : ℕ → ℕ → List ℕ → List ℕ → ℕ → ℕ → List Work
+insertRepairHulls n rounds W C r x = loopHulls (insertRound n) (insertRoundHulls n) rounds W C r x
 
 -- the repair, and "after the repair hulls are worked out from the new node to the root"
-unfoldable pub insertAtHulls : Store → ℕ → ℕ → List Work
-insertAtHulls S n x =
-    insertRepairHulls n 32 (S .words) (S .colours) (S .root) x ++ upHulls n 32 (ending (insertRepair n 32 (S .words) (S .colours) (S .root) x) .words) x
+unfoldable pub insertAtHulls : List ℕ → List ℕ → ℕ → ℕ → Entry → ℕ → List Work
+insertAtHulls W C n r e p =
+    let S : Store = hung W C n r e p in
+    insertRepairHulls (n + 1) 32 (S .words) (S .colours) (S .root) n
+    ++ upHulls (n + 1) 32 (ending (insertRepair (n + 1) 32 (S .words) (S .colours) (S .root) n) .words) n
 
 unfoldable pub insertHulls : List ℕ → List ℕ → ℕ → ℕ → Entry → List Work
-insertHulls W C n r e = insertAtHulls (hung W C n r e (under n W r (own e))) (n + 1) n
+insertHulls W C n r e = insertAtHulls W C n r e (under n W r (own e))

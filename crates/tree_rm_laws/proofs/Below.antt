@@ -15,7 +15,7 @@ use Rattle.bitvec.specs.Colours.{red, redAt, paint, paintAt}
 use Rattle.tree_edit.specs.Links.{redirected, removeChild, fixUp, leftmost}
 use Rattle.tree_edit.specs.Rotations.{rotate-4}
 use Rattle.tree_rm_laws.specs.Repair.{Case, one, two, three, four, five, choose, act, roundOf, roundAt, round, repair}
-use Rattle.tree_edit.specs.Rounds.{Next, done, again, goOn, ending}
+use Rattle.tree_edit.specs.Rounds.{Next, done, ending}
 use Rattle.tree_rm_laws.specs.Pairs.{movedTo, emptied}
 use Rattle.tree_rm_laws.specs.Remove.{vacated, exchanged, child, restructure, handed, above, cutWords, cutRoot, copied, relinked, cleared, swapRemove, Removed, finish, removeFrom, removeRule}
 use Rattle.tree_edit.specs.Store.{Store, store}
@@ -27,7 +27,8 @@ use Rattle.tree_rm_laws.proofs.Steps.{emptied-live}
 use Rattle.tree_edit.proofs.Colours.{red-slot}
 use Rattle.tree_rm_laws.proofs.RepairInPlace.{four-close}
 use Rattle.tree_rm_laws.proofs.Inside.{vacated-live}
-use Rattle.tree_edit.proofs.Below.{link-same, same-redAt, agree-putEntry, same-entry, agree-putNode, agree-fix, agree-fixUp, agree-adopt, agree-redirected, agree-redirect, same-rootAfter, agree-rotate, agree-rotate-2, agree-rotate-4, Both, both-paint, SameNext, AlikeIn, same-ending, Sums, sums-append, sums-both, sums-up, sums-onward}
+use Rattle.tree_edit.proofs.Below.{link-same, same-redAt, agree-putEntry, same-entry, agree-putNode, agree-fix, agree-fixUp, agree-adopt, agree-redirected, agree-redirect, same-rootAfter, agree-rotate, agree-rotate-2, agree-rotate-4, Both, both-paint, SameNext, AlikeIn, same-ending, Sums, sums-append, sums-both, sums-up}
+use Rattle.tree_edit.proofs.Rounds.{same-loop, sums-loop}
 
 module _ (n : ℕ) where
   agree-swap : (W X : List ℕ) (i j : ℕ) → i < n → j < n → Agree n W X → Agree n (swap W i j) (swap X i j)
@@ -96,16 +97,7 @@ module _ (n : ℕ) where
         (λ lp. rw (A .1 (Child true) (par X ix) lp) (same-roundAt r ix (par X ix) (eqb (kid X true (par X ix)) ix) li lp)) (A, B, refl))
 
   same-repair : (rounds : ℕ) (W X C D : List ℕ) (r ix : ℕ) → Agree n W X → Both n C D → ix < n → SameNext n (repair n rounds W C r ix) (repair n rounds X D r ix)
-  unfolding repair
-  same-repair zero W X C D r ix A B l = (A, B, refl, refl, l)
-  same-repair (suc rounds) W X C D r ix A B l = go (same-repair rounds) (round n W C r ix) (round n X D r ix) (same-round W X C D A B r ix l)
-    where
-      go : ((W X C D : List ℕ) (r ix : ℕ) → Agree n W X → Both n C D → ix < n → SameNext n (repair n rounds W C r ix) (repair n rounds X D r ix))
-          → (s t : Next) → SameNext n s t → SameNext n (goOn s (λ X D q i. repair n rounds X D q i)) (goOn t (λ X D q i. repair n rounds X D q i))
-      go rec (done W C r) (done X D q) h = h
-      go rec (done W C r) (again X D q j) h = absurd h
-      go rec (again W C r i) (done X D q) h = absurd h
-      go rec (again W C r i) (again X D q j) h = rw (← (h .2), ← (h .3)) (rec W X C D r i (h .0) (h .1) (h .4))
+  same-repair = same-loop (round n) n (λ W X C D r x A B l. same-round W X C D A B r x l)
 
   same-restructure : (W X C D : List ℕ) (r x y : ℕ) → Agree n W X → Both n C D → x < n → AlikeIn n (restructure n W C r x y) (restructure n X D r x y)
   unfolding restructure
@@ -231,11 +223,8 @@ module _ (n : ℕ) where
         (λ h. sums-up n 32 (redirected W g v U) (redirected X g v U) g (agree-redirected n W X g v U h A)) refl
 
   sums-repair : (rounds : ℕ) (W X C D : List ℕ) (r ix : ℕ) → Agree n W X → Both n C D → ix < n → Sums n (repairHulls n rounds W C r ix) (repairHulls n rounds X D r ix)
-  unfolding repairHulls
-  sums-repair zero W X C D r ix A B l = refl
-  sums-repair (suc rounds) W X C D r ix A B l =
-      sums-append n (roundHulls n W C ix) _ (roundHulls n X D ix) _ (sums-round W X C D A B ix l)
-      (sums-onward n (λ X D q i. repairHulls n rounds X D q i) (sums-repair rounds) (round n W C r ix) (round n X D r ix) (same-round W X C D A B r ix l))
+  sums-repair =
+      sums-loop (round n) n (λ W X C D r x A B l. same-round W X C D A B r x l) (roundHulls n) (λ W X C D x A B l. sums-round W X C D A B x l)
 
   sums-restructure : (W X C D : List ℕ) (r x y : ℕ) → Agree n W X → Both n C D → x < n → Sums n (restructureHulls n W C r x y) (restructureHulls n X D r x y)
   unfolding restructureHulls

@@ -3,7 +3,7 @@
 use mathlib.Core.Path.{_≡_, refl, sym, _∙_}
 use mathlib.Core.Bool.{Bool, true, false}
 use mathlib.Core.List.{List, [], _∷_}
-use Prim.Native.Nat.{ℕ, zero, suc, _+_, _*_, _<_, _≤_}
+use Prim.Native.Nat.{ℕ, _+_, _*_, _<_, _≤_}
 use native.Mathlib.Omega.{arith}
 use lib.ListN.{length}
 use borrow.Author.Tests.{le-leb}
@@ -17,7 +17,7 @@ use Rattle.tree.proofs.Slots.{hit-same}
 use Rattle.tree.proofs.Frames.{unplug-shape, find, way-height}
 use Rattle.tree.proofs.Checked.{slot-once, tree-low}
 use Rattle.tree_edit.specs.Links.{redirected, removeChild, redirect, rootAfter, fixUp, leftmost}
-use Rattle.tree_edit.specs.Rounds.{Next, done, again, goOn}
+use Rattle.tree_edit.specs.Rounds.{Next, done, again}
 use Rattle.tree_rm_laws.specs.Repair.{round, repair}
 use Rattle.tree_rm_laws.specs.Remove.{vacated, exchanged, child, restructure, handed, above, cutWords, finish, removeFrom, removeRule}
 use Rattle.tree_edit.specs.Store.{Store, store}
@@ -34,6 +34,7 @@ use Rattle.tree_rm_laws.proofs.Repaired.{Finished, repaired}
 use Rattle.tree_rm_laws.proofs.Prepare.{ReadyIn, live-y, reds, as-black}
 use Rattle.tree_rm_laws.proofs.Cut.{two, place, short}
 use Rattle.tree_rm_laws.proofs.Removal.{count, spot, ready}
+use Rattle.tree_edit.proofs.Rounds.{Ended, loop-more}
 
 -- with its own numbers it is the rule, on any words
 pub with-own : (W C : List ℕ) (n r s : ℕ) → removeWith 36 32 32 W C n r s ≡ removeRule W C n r s
@@ -51,19 +52,10 @@ leftmost-more W n small i j p k l s r h a b =
     first : (m m′ : ℕ) (rest rest′ : List ℕ) → m ∷ rest ≡ m′ ∷ rest′ → m ≡ m′
     first m m′ rest rest′ e = cc
 
--- the repair, where it came to an end
-repair-more : (n x : ℕ) (base : List ℕ) (rounds m : ℕ) (W C : List ℕ) (r ix : ℕ) → rounds ≤ m → Finished n x base (repair n rounds W C r ix)
-    → repair n m W C r ix ≡ repair n rounds W C r ix
-unfolding repair
-repair-more n x base zero m W C r ix h e = absurd e
-repair-more n x base (suc rounds) zero W C r ix h e = absurd (omega arith)
-repair-more n x base (suc rounds) (suc m) W C r ix h e = go (λ W C r ix. repair-more n x base rounds m W C r ix (omega arith)) (round n W C r ix) e
-  where
-    go : ((W C : List ℕ) (r ix : ℕ) → Finished n x base (repair n rounds W C r ix) → repair n m W C r ix ≡ repair n rounds W C r ix)
-        → (s : Next) → Finished n x base (goOn s (λ X D q i. repair n rounds X D q i))
-        → goOn s (λ X D q i. repair n m X D q i) ≡ goOn s (λ X D q i. repair n rounds X D q i)
-    go rec (done W C r) e = refl
-    go rec (again W C r ix) e = rec W C r ix e
+-- the repair came to its end
+ended-of : (n x : ℕ) (base : List ℕ) (s : Next) → Finished n x base s → Ended s
+ended-of n x base (done W C r) e = tt
+ended-of n x base (again W C r ix) e = absurd e
 
 -- the words after the cut
 cut-with : (m n : ℕ) (W : List ℕ) (g v : ℕ) → cutWordsWith m n W g v ≡ fixUp n m (redirect n W g v U) g
@@ -101,7 +93,7 @@ module _ (X C : List ℕ) (n r x : ℕ) (b : Bool) (c : List Frame) (near : Tree
   same-repair : near ≡ leaf → red C x ≡ false → repair n rounds X C r x ≡ repair n 36 X C r x
   same-repair e f =
       let (o, u) = as-black X C n r x b c near h e f in
-      repair-more n x base 36 rounds X C r x i (repaired 36 n x base X C r x (h .bits) o u)
+      loop-more (round n) 36 rounds X C r x i (ended-of n x base (repair n 36 X C r x) (repaired 36 n x base X C r x (h .bits) o u))
 
   bare-more : near ≡ leaf → (y : ℕ) → restructureWith rounds n X C r x y ≡ restructure n X C r x y
   unfolding restructureWith restructure

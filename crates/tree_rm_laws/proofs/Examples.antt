@@ -7,12 +7,13 @@ use Rattle.words.specs.Nodes.{word, put, putEntry, putHull, swap, joined, hullO
 use Rattle.bitvec.specs.Bits.{bit, put as putBit, bitAt, setBit}
 use Rattle.tree_edit.specs.Links.{adopt, setChild, redirected, removeChild, redirect, replaced, rootAfter, fixUp, leftmost}
 use Rattle.tree_edit.specs.Rotations.{rotate, rotate-2, rotate-4}
-use Rattle.tree_rm_laws.specs.Repair.{four, roundOf, roundAt, round, repair}
+use Rattle.tree_rm_laws.specs.Repair.{four, roundOf, roundAt, round}
 use Rattle.bitvec.specs.Colours.{paintAt}
 use Rattle.tree_rm_laws.specs.Pairs.{emptied}
 use Rattle.tree_rm_laws.specs.Remove.{vacated, exchanged, child, restructure, handed, above}
-use Rattle.tree_edit.specs.Reach.{differs, changes, upHulls}
-use Rattle.tree_rm_laws.specs.Reach.{actHulls, roundOfHulls, roundAtHulls, roundHulls, repairHulls, restructureHulls, cutHulls, vacateHulls, removeHullsFrom, removeHulls}
+use Rattle.tree_edit.specs.Reach.{differs, changes, upHulls, loopHulls}
+use Rattle.tree_rm_laws.specs.Reach.{actHulls, roundOfHulls, roundAtHulls, roundHulls, restructureHulls, cutHulls, vacateHulls, removeHullsFrom, removeHulls}
+use Rattle.tree_edit.specs.Rounds.{loop}
 
 -- what the rows compute with
 reading : Unit {0}
@@ -20,11 +21,11 @@ unfolding onLink word put putEntry putHull swap joined hullOf altered fix bit pu
 reading = record {}
 
 repairing : Unit {0}
-unfolding adopt setChild redirected removeChild redirect replaced rootAfter fixUp rotate rotate-2 rotate-4 paintAt roundOf roundAt round repair
+unfolding adopt setChild redirected removeChild redirect replaced rootAfter fixUp rotate rotate-2 rotate-4 paintAt roundOf roundAt round loop
 repairing = record {}
 
 reaching : Unit {0}
-unfolding leftmost vacated exchanged child restructure handed above emptied differs upHulls roundOfHulls roundAtHulls roundHulls repairHulls restructureHulls cutHulls vacateHulls removeHullsFrom removeHulls
+unfolding leftmost vacated exchanged child restructure handed above emptied differs upHulls roundOfHulls roundAtHulls roundHulls loopHulls restructureHulls cutHulls vacateHulls removeHullsFrom removeHulls
 reaching = record {}
 
 -- [0, 5) black in slot 0, and [10, 15) red to its right. Slot 0 is removed: the entry of slot 1 goes there, and its hull, which stayed, changes. Had the

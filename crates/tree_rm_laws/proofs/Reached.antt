@@ -2,9 +2,9 @@
 use mathlib.Core.Path.{_≡_, refl}
 use mathlib.Core.Bool.{Bool, true, false, cond, not}
 use mathlib.Core.List.{List, [], _++_}
-use Prim.Native.Nat.{ℕ, zero, suc, _+_, _*_, _≤_}
+use Prim.Native.Nat.{ℕ, _+_, _*_, _≤_}
 use native.Mathlib.Omega.{arith}
-use lib.ListN.{length, length-append}
+use lib.ListN.{length}
 use lib.Dec.{eqb}
 use Rattle.words.specs.Ix.{U}
 use Rattle.words.specs.Nodes.{kid, par, swap, putKid}
@@ -15,13 +15,14 @@ use Rattle.tree_edit.specs.Links.{removeChild, redirected, fixUp}
 use Rattle.tree_rm_laws.specs.Pairs.{emptied}
 use Rattle.tree_edit.specs.Rotations.{rotate, rotate-2, rotate-4}
 use Rattle.tree_rm_laws.specs.Repair.{Case, one, two, three, four, five, choose, act, roundOf, roundAt, round, repair}
-use Rattle.tree_edit.specs.Rounds.{Next, done, again, goOn, ending}
+use Rattle.tree_edit.specs.Rounds.{ending}
 use Rattle.tree_rm_laws.specs.Remove.{vacated, exchanged, child, restructure, handed, above, cutWords, finish, removeFrom, removeRule}
 use Rattle.tree_edit.specs.Store.{Store, store}
-use Rattle.tree_edit.specs.Reach.{changes, upHulls, onward, Stays, Follows}
+use Rattle.tree_edit.specs.Reach.{changes, upHulls, Stays, Follows}
 use Rattle.tree_rm_laws.specs.Reach.{actHulls, roundOfHulls, roundAtHulls, roundHulls, repairHulls, restructureHulls, cutHulls, vacateHulls, removeHullsFrom, removeHulls, cutFrom, lastStep}
 use Rattle.tree_edit.proofs.Links.{by-link, kept-rotate, kept-rotate-2, kept-rotate-4}
 use Rattle.tree_edit.proofs.Reached.{kept-stays, from, then, linked, linked-next, follows-up, changes-le, up-most}
+use Rattle.tree_edit.proofs.Rounds.{follows-loop, loop-most}
 
 module _ (n : ℕ) where
   -- a round of the repair
@@ -46,15 +47,7 @@ module _ (n : ℕ) where
           W C r ix b P (kid W (not b) P) (kid W b (kid W (not b) P)) (kid W (not b) (kid W (not b) P)))
 
   follows-repair : (rounds : ℕ) (W C : List ℕ) (r ix : ℕ) → Follows n W (repairHulls n rounds W C r ix) (ending (repair n rounds W C r ix) .words)
-  unfolding repairHulls repair
-  follows-repair zero W C r ix = λ a. refl
-  follows-repair (suc rounds) W C r ix = go (follows-repair rounds) (round n W C r ix) (follows-round W C r ix)
-    where
-      go : ((X D : List ℕ) (q i : ℕ) → Follows n X (repairHulls n rounds X D q i) (ending (repair n rounds X D q i) .words)) → (s : Next)
-          → Follows n W (roundHulls n W C ix) (ending s .words)
-          → Follows n W (roundHulls n W C ix ++ onward s (λ X D q i. repairHulls n rounds X D q i)) (ending (goOn s (λ X D q i. repair n rounds X D q i)) .words)
-      go rec (done X D q) f = then n W X (roundHulls n W C ix) [] X f (λ a. refl)
-      go rec (again X D q i) f = then n W X (roundHulls n W C ix) (repairHulls n rounds X D q i) (ending (repair n rounds X D q i) .words) f (rec X D q i)
+  follows-repair = follows-loop (round n) (roundHulls n) n follows-round
 
   follows-restructure : (W C : List ℕ) (r x y : ℕ) → Follows n W (restructureHulls n W C r x y) (restructure n W C r x y .words)
   unfolding restructureHulls restructure
@@ -142,15 +135,7 @@ module _ (n : ℕ) where
       (λ h. omega (arith, changes-le n (upHulls n 32 (removeChild W g v) g), up-most n 32 (removeChild W g v) g)) (λ h. omega arith)
 
   repair-most : (rounds : ℕ) (W C : List ℕ) (r ix : ℕ) → length (repairHulls n rounds W C r ix) ≤ rounds * 2
-  unfolding repairHulls
-  repair-most zero W C r ix = omega arith
-  repair-most (suc rounds) W C r ix =
-      rw length-append (go (repair-most rounds) (round n W C r ix))
-    where
-      go : ((X D : List ℕ) (q i : ℕ) → length (repairHulls n rounds X D q i) ≤ rounds * 2) → (s : Next)
-          → length (roundHulls n W C ix) + length (onward s (λ X D q i. repairHulls n rounds X D q i)) ≤ suc rounds * 2
-      go rec (done X D q) = omega (arith, round-two W C ix)
-      go rec (again X D q i) = omega (arith, round-two W C ix, rec X D q i)
+  repair-most = loop-most (round n) (roundHulls n) 2 round-two
 
   pub restructure-most : (W C : List ℕ) (r x y : ℕ) → changes n (restructureHulls n W C r x y) ≤ 144
   unfolding restructureHulls

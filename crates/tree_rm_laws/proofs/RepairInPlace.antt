@@ -2,11 +2,11 @@
 use mathlib.Core.Path.{_≡_, refl, sym, ap, _∙_}
 use mathlib.Core.Bool.{Bool, true, false, cond, not, false≢true}
 use mathlib.Core.List.{List}
-use Prim.Native.Nat.{ℕ, zero, suc, _<_}
+use Prim.Native.Nat.{ℕ, _<_}
 use lib.Dec.{eqb}
 use Rattle.words.specs.Nodes.{kid, par, fix}
 use Rattle.bitvec.specs.Colours.{red, paint, redAt, paintAt}
-use Rattle.tree_edit.specs.Rounds.{done, Next, goOn, again, ending}
+use Rattle.tree_edit.specs.Rounds.{done, Next, again, ending}
 use Rattle.tree_edit.specs.Rotations.{rotate, rotate-2, rotate-4}
 use Rattle.tree_rm_laws.specs.Repair.{Case, choose, act, roundOf, roundAt, round, repair, one, two, three, four, five}
 use Rattle.tree_edit.specs.Store.{store}
@@ -14,9 +14,10 @@ use Rattle.tree_rm_laws.specs.Remove.{restructure}
 use Rattle.tree_edit.proofs.Carried.{kept-entry}
 use Rattle.tree_edit.proofs.Links.{by-link, kept-rotate, kept-rotate-2, kept-rotate-4}
 use Rattle.tree_edit.proofs.Upward.{entry-fix}
-use Rattle.tree_edit.proofs.Low.{low-refl, low-trans, low-fix, low-three, low-rotate, low-rotate-2, low-rotate-4, LowColours, lowColours-refl, low-paint}
+use Rattle.tree_edit.proofs.Low.{low-refl, low-fix, low-three, low-rotate, low-rotate-2, low-rotate-4, LowColours, lowColours-refl, low-paint}
 use Rattle.tree_edit.proofs.Colours.{red-slot}
 use Rattle.tree_edit.proofs.InPlace.{InPlace, in-place-refl}
+use Rattle.tree_edit.proofs.Rounds.{NextIn, loop-in-place}
 
 abbrev isFour : Case → Bool
 isFour one = false
@@ -87,21 +88,14 @@ module _ (n : ℕ) where
       (λ lp. roundAt-in-place W C r ix (par W ix) (eqb (kid W true (par W ix)) ix) lp)
       (λ u. in-place-refl n W C r)
 
+  -- a round's end does not depend on where it stands
+  next-in : (W C : List ℕ) (s : Next) → InPlace n W C (ending s) → NextIn n (λ i. Unit {0}) W C s
+  next-in W C (done X D q) m = m
+  next-in W C (again X D q i) m = (m, tt)
+
   pub repair-in-place : (rounds : ℕ) (W C : List ℕ) (r ix : ℕ) → InPlace n W C (ending (repair n rounds W C r ix))
-  unfolding repair
-  repair-in-place zero W C r ix = in-place-refl n W C r
-  repair-in-place (suc rounds) W C r ix = go (repair-in-place rounds) (round n W C r ix) (round-in-place W C r ix)
-    where
-      go : ((X D : List ℕ) (q i : ℕ) → InPlace n X D (ending (repair n rounds X D q i))) → (s : Next) → InPlace n W C (ending s)
-          → InPlace n W C (ending (goOn s (λ X D q i. repair n rounds X D q i)))
-      go rec (done X D q) m = m
-      go rec (again X D q i) m =
-          let o = rec X D q i in
-          record {
-            words-in = low-trans n W X (ending (repair n rounds X D q i) .words) (m .words-in) (o .words-in);
-            colours-in = (o .colours-in .0 ∙ m .colours-in .0, λ a u. o .colours-in .1 a u ∙ m .colours-in .1 a u);
-            entries = λ a. o .entries a ∙ m .entries a;
-          }
+  repair-in-place rounds W C r ix =
+      loop-in-place (round n) n (λ i. Unit {0}) (λ W C r x p. next-in W C (round n W C r x) (round-in-place W C r x)) rounds W C r ix tt
 
   pub restructure-in-place : (W C : List ℕ) (r x y : ℕ) → InPlace n W C (restructure n W C r x y)
   unfolding restructure

@@ -13,7 +13,7 @@ use Rattle.tree.specs.Zipper.{bin, Frame, plug, frame}
 use Rattle.tree.specs.RedBlack.{rootRed, RedBlackNode, RedBlack}
 use Rattle.tree.proofs.Frames.{shape-root, open-bin}
 use Rattle.tree.proofs.Once.{root-par}
-use Rattle.tree_edit.specs.Rounds.{done, Next, goOn, again}
+use Rattle.tree_edit.specs.Rounds.{done, Next, goOn, again, loop}
 use Rattle.tree_rm_laws.specs.Repair.{choose, act, roundOf, roundAt, round, repair, one, two, three, four, five}
 use Rattle.tree_edit.proofs.Links.{on-slot, on-none}
 use Rattle.tree_edit.proofs.Stand.{Stand}
@@ -169,7 +169,7 @@ Finished n x base (again W C r ix) = ⊥
 -- the loop ends, and leaves a tree that is even once x is cut off
 pub repaired : (rounds n x : ℕ) (base W C : List ℕ) (r ix : ℕ) → n ≤ length C * 8 → (l : Loop n x base W (red C) r ix) → weight (red C) (l .c) < rounds
     → Finished n x base (repair n rounds W C r ix)
-unfolding repair
+unfolding loop
 repaired zero n x base W C r ix bits l h = absurd (omega arith)
 repaired (suc rounds) n x base W C r ix bits l h = go (repaired rounds n x base) (round n W C r ix) (step-good n x base W C r ix bits l)
   where

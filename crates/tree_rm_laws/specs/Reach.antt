@@ -1,7 +1,7 @@
 -- Document 02, item 9: the hulls that a removal works out, one after the other, and how many of them change.
 use mathlib.Core.Bool.{Bool, true, not, cond}
 use mathlib.Core.List.{List, [], _++_}
-use Prim.Native.Nat.{ℕ, zero, suc, _+_, _-_}
+use Prim.Native.Nat.{ℕ, _+_, _-_}
 use lib.Dec.{eqb}
 use Rattle.words.specs.Ix.{onLink}
 use Rattle.words.specs.Nodes.{kid, par}
@@ -12,7 +12,7 @@ use Rattle.tree_edit.specs.Rotations.{rotate-4}
 use Rattle.tree_rm_laws.specs.Repair.{Case, one, two, three, four, five, choose, round}
 use Rattle.tree_rm_laws.specs.Remove.{vacated, vacated′, exchanged, child, restructure, handed, above, cutWords, cutRoot, swapRemove}
 use Rattle.tree_edit.specs.Store.{Store}
-use Rattle.tree_edit.specs.Reach.{Work, bothHulls, upHulls, onward}
+use Rattle.tree_edit.specs.Reach.{Work, bothHulls, upHulls, loopHulls}
 
 -- "the two worked out in removal's close-nephew case"
 abbrev pub actHulls : ℕ → Case → List ℕ → Bool → ℕ → ℕ → ℕ → List Work
@@ -32,9 +32,8 @@ roundAtHulls n W C P b = onLink n (kid W (not b) P) (λ S. roundOfHulls n W C P 
 unfoldable pub roundHulls : ℕ → List ℕ → List ℕ → ℕ → List Work
 roundHulls n W C ix = onLink n (par W ix) (λ P. roundAtHulls n W C P (eqb (kid W true P) ix)) []
 
-unfoldable pub repairHulls : ℕ → ℕ → List ℕ → List ℕ → ℕ → ℕ → List Work
-repairHulls n zero W C r ix = []
-repairHulls n (suc rounds) W C r ix = roundHulls n W C ix ++ onward (round n W C r ix) (λ X D q i. repairHulls n rounds X D q i)
+abbrev pub repairHulls : ℕ → ℕ → List ℕ → List ℕ → ℕ → ℕ → List Work
+repairHulls n rounds W C r ix = loopHulls (round n) (roundHulls n) rounds W C r ix
 
 unfoldable pub restructureHulls : ℕ → List ℕ → List ℕ → ℕ → ℕ → ℕ → List Work
 restructureHulls n W C r x y =

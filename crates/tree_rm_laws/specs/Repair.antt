@@ -1,14 +1,14 @@
 -- "Otherwise the five cases of `restructure_rm_complex_cases` run in the file's order."
 use mathlib.Core.Bool.{Bool, true, false, cond, not, _&&_}
 use mathlib.Core.List.{List}
-use Prim.Native.Nat.{ℕ, zero, suc}
+use Prim.Native.Nat.{ℕ}
 use lib.Dec.{eqb}
 use Rattle.words.specs.Ix.{onLink}
 use Rattle.words.specs.Nodes.{kid, par, fix}
 use Rattle.bitvec.specs.Colours.{red, redAt, paint, paintAt}
 use Rattle.tree_edit.specs.Links.{rootAfter}
 use Rattle.tree_edit.specs.Rotations.{rotate, rotate-2, rotate-4}
-use Rattle.tree_edit.specs.Rounds.{Next, done, again, goOn}
+use Rattle.tree_edit.specs.Rounds.{Next, done, again, loop}
 
 pub data Case : Type 0 where
   one two three four five : Case
@@ -41,6 +41,5 @@ unfoldable pub round : ℕ → List ℕ → List ℕ → ℕ → ℕ → Next
 round n W C r ix = onLink n (par W ix) (λ P. roundAt n W C r ix P (eqb (kid W true P) ix)) (done W C r)
 
 -- the loop, at most `rounds` rounds of it
-unfoldable pub repair : ℕ → ℕ → List ℕ → List ℕ → ℕ → ℕ → Next
-repair n zero W C r ix = again W C r ix
-repair n (suc rounds) W C r ix = goOn (round n W C r ix) (λ X D q i. repair n rounds X D q i)
+abbrev pub repair : ℕ → ℕ → List ℕ → List ℕ → ℕ → ℕ → Next
+repair n rounds W C r ix = loop (round n) rounds W C r ix

@@ -2,7 +2,7 @@
 use mathlib.Core.Path.{_≡_, refl, sym, ap, _∙_}
 use mathlib.Core.Bool.{Bool, true, false, cond, not, _&&_, Bool·not-not}
 use mathlib.Core.List.{List}
-use Prim.Native.Nat.{ℕ, _<_}
+use Prim.Native.Nat.{ℕ, _<_, _≤_}
 use native.Mathlib.Omega.{arith}
 use lib.Dec.{eqb}
 use Rattle.words.specs.Ix.{linkOf}
@@ -22,7 +22,7 @@ use Rattle.tree_rm_repair.specs.declared.Case.the-variants as ks
 use Rattle.tree_edit.specs.Reach.{changes, bothHulls}
 use Rattle.tree_rm_laws.specs.Reach.{actHulls, roundOfHulls, roundAtHulls, roundHulls, repairHulls, restructureHulls}
 use Rattle.tree_rm_laws.proofs.Reached.{round-le}
-use Rattle.tree_links.proofs.Loops.{Loop, Counted, link-stays, at-side, side-changes}
+use Rattle.tree_links.proofs.Loops.{link-stays, at-side, side-changes}
 use Rattle.tree_edit.proofs.Colours.{red-slot, red-child}
 use Rattle.tree_rm_laws.proofs.RepairInPlace.{four-close}
 
@@ -137,14 +137,8 @@ round-stays n W C r ix X D q i h e =
     at-round P b S l z =
         act-stays n (choose (red C P) (red C S) (redAt n C (kid W b S)) (redAt n C (kid W (not b) S))) W C r ix b P S (kid W b S) (kid W (not b) S) X D q i h l z
 
--- the loop
-pub repairs : (n : ℕ) → Loop (round n) (repair n)
-unfolding repair
-repairs n = record { stops = λ W C r ix. refl; rounds = λ f W C r ix. refl }
-
-pub repair-hulls : (n : ℕ) → Counted n (round n) (roundHulls n) (repairHulls n)
-unfolding repairHulls
-repair-hulls n = record { stops = λ W C r ix. refl; rounds = λ f W C r ix. refl; most = λ W C ix. omega (arith, round-le n W C ix) }
+pub most : (n : ℕ) (W C : List ℕ) (ix : ℕ) → changes n (roundHulls n W C ix) ≤ 4
+most n W C ix = omega (arith, round-le n W C ix)
 
 -- before a slot is vacated
 module _ (n : ℕ) (W C : List ℕ) (r x y : ℕ) (v : Bool) (e : v ≡ red C x) where

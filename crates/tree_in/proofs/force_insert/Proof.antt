@@ -11,7 +11,5 @@ force-insert-spec =
     (λ c κs. search needs)
     (λ c κs. search needs)
     (λ c. search needs)
-    (λ c κs. search needs)
-    (λ c. search needs)
     (λ c. search needs)
     (λ c. (search insert-is, search insert-changes)))

@@ -1,4 +1,5 @@
-use Rattle.tree_in.proofs.Inserts.{hung-is}
+use Rattle.tree_in.proofs.Inserts.{insertAt-is, insertAt-changes, insertAt-fits}
+use native.Mathlib.Omega.{arith}
 use borrow.Author.Needs.{needs}
 use Rattle.tree_in.proofs.insert_at.Statement.{statement}
 use Rattle.tree_in.proofs.insert_at.Tie as tie
@@ -8,7 +9,13 @@ insert-at-spec =
     tie.close
     (tie.spec
     (λ c κs. search needs)
+    (λ c. search needs)
     (λ c κs. search needs)
     (λ c. search needs)
+    (λ c κs. search needs)
+    (λ c. let walked = c .before .before .before in
+    let repaired = walked .before .before .before .before .before .before in
+    omega (arith, insertAt-fits _ _ _ _ _ _ _ _ (repaired .insert-repair .ensures .1) (walked .fix-intervals-up .ensures .0)))
     (λ c. search needs)
-    (λ c. search hung-is))
+    (λ c. search needs)
+    (λ c. (search insertAt-is, search insertAt-changes)))

@@ -1,5 +1,5 @@
 use Rattle.tree_links.proofs.Loops.{loop-on, loop-done, loop-none, loop-stays, count-on, count-done, count-none, sum-fits, last-fits, sum-room}
-use Rattle.tree_rm_repair.proofs.Rounds.{repairs, round-stays, repair-hulls}
+use Rattle.tree_rm_repair.proofs.Rounds.{round-stays, most}
 use Rattle.tree_rm_laws.specs.Repair.{round, repair}
 use Rattle.tree_edit.specs.Reach.{changes}
 use Rattle.tree_rm_laws.specs.Reach.{roundHulls, repairHulls}
@@ -26,15 +26,15 @@ restructure-rm-complex-cases-spec =
     (λ c. (refl, refl, refl, omega arith, search begin-sum, omega arith))
     (λ c κs. omega arith)
     (λ c. omega arith)
-    (λ c. search (last-fits round roundHulls repairHulls repair-hulls))
+    (λ c. search (last-fits roundHulls most))
     (λ c. omega arith)
     (λ c. omega arith)
-    (λ c. (search (loop-done round repair repairs), search (count-done round roundHulls repairHulls repair-hulls)))
+    (λ c. (search (loop-done round), search (count-done round roundHulls)))
     (λ c. omega arith)
-    (λ c. search (sum-fits round roundHulls repairHulls repair-hulls))
-    (λ c. omega arith)
-    (λ c. omega arith)
-    (λ c. (search (loop-on round repair repairs), omega arith, omega arith, search (loop-stays round round-stays), search (count-on round roundHulls repairHulls repair-hulls), search (sum-room round roundHulls repairHulls repair-hulls)))
+    (λ c. search (sum-fits roundHulls most))
     (λ c. omega arith)
     (λ c. omega arith)
-    (λ c. (search (loop-none round repair repairs), search (count-none round roundHulls repairHulls repair-hulls))))
+    (λ c. (search (loop-on round), omega arith, omega arith, search (loop-stays round round-stays), search (count-on round roundHulls), search (sum-room roundHulls most)))
+    (λ c. omega arith)
+    (λ c. omega arith)
+    (λ c. (search (loop-none round), search (count-none round roundHulls))))

@@ -1,4 +1,4 @@
-use Rattle.tree_in.proofs.InsertRounds.{insert-hulls, insert-stays, insert-rounds}
+use Rattle.tree_in.proofs.InsertRounds.{insert-stays}
 use Rattle.tree_in_laws.specs.InsertRepair.{insertRepair, insertRound}
 use Rattle.tree_in_laws.specs.Reach.{insertRepairHulls, insertRoundHulls}
 use Rattle.tree_edit.specs.Reach.{changes}
@@ -10,6 +10,7 @@ use mathlib.Core.Path.{_≡_, refl}
 use native.Mathlib.Omega.{arith}
 use Rattle.tree_in.proofs.repair.insert_repair.Statement.{statement}
 use Rattle.tree_in.proofs.repair.insert_repair.Tie as tie
+use Rattle.tree_in_laws.proofs.Reached.{insertRound-le}
 
 abbrev Inv-loop : tie.InvT-loop
 Inv-loop nodes₀ colours₀ count root index at₀ top₀ reach₀ rounds₀ nodes colours at top reach rounds = (insertRepair count 32 nodes₀ colours₀ root index ≡ insertRepair count rounds nodes colours top at) × (length nodes ≡ length nodes₀) × (length colours ≡ length colours₀) × (at < count) × (changes count (insertRepairHulls count 32 nodes₀ colours₀ root index) ≡ reach + changes count (insertRepairHulls count rounds nodes colours top at)) × (reach + 4 * rounds ≤ 144)
@@ -26,15 +27,15 @@ insert-repair-spec =
     (λ c. (refl, refl, refl, omega arith, search begin-sum, omega arith))
     (λ c κs. omega arith)
     (λ c. omega arith)
-    (λ c. search (last-fits insertRound insertRoundHulls insertRepairHulls insert-hulls))
+    (λ c. search (last-fits insertRoundHulls insertRound-le))
     (λ c. omega arith)
     (λ c. omega arith)
-    (λ c. (search (loop-done insertRound insertRepair insert-rounds), search (count-done insertRound insertRoundHulls insertRepairHulls insert-hulls)))
+    (λ c. (search (loop-done insertRound), search (count-done insertRound insertRoundHulls)))
     (λ c. omega arith)
-    (λ c. search (sum-fits insertRound insertRoundHulls insertRepairHulls insert-hulls))
-    (λ c. omega arith)
-    (λ c. omega arith)
-    (λ c. (search (loop-on insertRound insertRepair insert-rounds), omega arith, omega arith, search (loop-stays insertRound insert-stays), search (count-on insertRound insertRoundHulls insertRepairHulls insert-hulls), search (sum-room insertRound insertRoundHulls insertRepairHulls insert-hulls)))
+    (λ c. search (sum-fits insertRoundHulls insertRound-le))
     (λ c. omega arith)
     (λ c. omega arith)
-    (λ c. (search (loop-none insertRound insertRepair insert-rounds), search (count-none insertRound insertRoundHulls insertRepairHulls insert-hulls))))
+    (λ c. (search (loop-on insertRound), omega arith, omega arith, search (loop-stays insertRound insert-stays), search (count-on insertRound insertRoundHulls), search (sum-room insertRoundHulls insertRound-le)))
+    (λ c. omega arith)
+    (λ c. omega arith)
+    (λ c. (search (loop-none insertRound), search (count-none insertRound insertRoundHulls))))

@@ -2,12 +2,12 @@ use Rattle.tree_in_laws.specs.Descent.{under}
 use Rattle.words.proofs.Laws.{linked, slot-live, unlinked}
 use native.Mathlib.Omega.{arith}
 use borrow.Author.Needs.{needs}
-use Rattle.tree_in.proofs.descent.slot_above.Statement.{statement}
-use Rattle.tree_in.proofs.descent.slot_above.Tie as tie
+use Rattle.tree_in.proofs.descent.insert_inner.Statement.{statement}
+use Rattle.tree_in.proofs.descent.insert_inner.Tie as tie
 
-pub slot-above-spec : {M : Type 1} → statement M
+pub insert-inner-spec : {M : Type 1} → statement M
 unfolding under
-slot-above-spec =
+insert-inner-spec =
     tie.close
     (tie.spec
     (λ c κs. search needs)
