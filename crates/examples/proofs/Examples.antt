@@ -11,7 +11,7 @@ use Rattle.tree_edit.specs.Rotations.{rotate, rotate-2, rotate-4}
 use Rattle.bitvec.specs.Colours.{paintAt}
 use Rattle.tree_rm_laws.specs.Repair.{choose, roundOf, roundAt, round}
 use Rattle.tree_rm_laws.specs.Pairs.{movedTo, emptied, home, named, lower, upper, byOldSlot, moved}
-use Rattle.tree_rm_laws.specs.Remove.{vacated, exchanged, child, restructure, handed, above, cutWords, cutRoot, copied, relinked, cleared, swapRemove, finish, removeFrom, removeRule}
+use Rattle.tree_rm_laws.specs.Remove.{vacated, exchanged, child, restructure, handed, above, cutWords, cutRoot, copied, relinked, cleared, swapRemove, finish, removeFrom, removeRule, cutWordsWith, finishWith, removeFromWith, removeWith, restructureWith, vacatedWith}
 use Rattle.tree_edit.specs.Reach.{differs, upHulls, loopHulls}
 use Rattle.tree_rm_laws.specs.Reach.{roundOfHulls, roundAtHulls, roundHulls, restructureHulls, cutHulls, vacateHulls, removeHullsFrom, removeHulls}
 use Rattle.tree_in_laws.specs.Descent.{goesLeft, descend, under}
@@ -60,7 +60,7 @@ unfolding movedTo emptied home named lower upper byOldSlot moved
 naming = record {}
 
 removing : Unit {0}
-unfolding leftmost vacated exchanged child restructure handed above cutWords cutRoot copied relinked cleared swapRemove finish removeFrom removeRule
+unfolding leftmost vacatedWith exchanged child restructureWith handed above cutWordsWith cutRoot copied relinked cleared swapRemove finishWith removeFromWith removeWith
 removing = record {}
 
 inserting : Unit {0}

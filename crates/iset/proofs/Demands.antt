@@ -8,8 +8,7 @@ use borrow.Author.Tests.{eq-eqb}
 use Rattle.words.specs.Nodes.{room}
 use Rattle.words.specs.declared.node.Entry.{Entry}
 use Rattle.tree_edit.specs.Reach.{Follows}
-use Rattle.tree_rm_laws.specs.Remove.{Removed, removeRule}
-use Rattle.tree_rm_laws.specs.With.{removeWith}
+use Rattle.tree_rm_laws.specs.Remove.{Removed, removeRule, removeWith}
 use Rattle.tree_rm_laws.proofs.Enough as removal-numbers
 use Rattle.tree_rm_laws.proofs.Reached as removal-hulls
 use Rattle.tree_in_laws.specs.Descent.{under}

@@ -17,7 +17,7 @@ use Rattle.bitvec.specs.Colours.{red, paint}
 use Rattle.words.specs.declared.pair.Pairs.{Pairs}
 use Rattle.tree_edit.specs.Links.{adopt, removeChild, redirect, fixUp, leftmost}
 use Rattle.tree_rm_laws.specs.Pairs.{movedTo, emptied, moved}
-use Rattle.tree_rm_laws.specs.Remove.{vacated, restructure, exchanged, child, handed, above, cutWords, cutRoot, copied, relinked, cleared, swapRemove, Removed, finish, removeFrom, removeRule}
+use Rattle.tree_rm_laws.specs.Remove.{vacated, restructure, exchanged, child, handed, above, cutWords, cutRoot, copied, relinked, cleared, swapRemove, Removed, finish, removeFrom, removeRule, cutWordsWith, finishWith, removeFromWith, removeWith, vacatedWith}
 use Rattle.tree_edit.specs.Store.{store}
 use Rattle.tree_edit.specs.Reach.{changes, upHulls}
 use Rattle.tree_rm_laws.specs.Reach.{cutHulls, restructureHulls, vacateHulls, removeHullsFrom, removeHulls}
@@ -35,11 +35,11 @@ right-there n l e = leb-false n l (once (leb n l) false e)
 
 module _ (n : ℕ) (W : List ℕ) (s l : ℕ) (e : l ≡ kid W false s) where
   pub goes-down : (r : ℕ) → (leb n l || leb n l) ≡ false → r ≡ leftmost n 32 W l → r ≡ vacated n W s
-  unfolding vacated
+  unfolding vacatedWith
   goes-down r q p = rw (← e, once (leb n l) false q) p
 
   pub stays-here : (leb n l || leb n l) ≡ true → s ≡ vacated n W s
-  unfolding vacated
+  unfolding vacatedWith
   stays-here q = rw (← e, once (leb n l) true q)
 
 -- the least of the two links
@@ -49,7 +49,7 @@ child-is W x l r m e f q = rw (← e, ← f) q
 
 -- a slot is cut off below the link word g
 pub cut-is : (n g w s v : ℕ) (W X Y : List ℕ) (l : Link) → w ≡ g → l ≡ linkOf n w → l ≡ Slot s → X ≡ removeChild W s v → Y ≡ fixUp n 32 X s → Y ≡ cutWords n W g v
-unfolding cutWords
+unfolding cutWordsWith
 cut-is n g w s v W X Y l e p q f h =
     read-linked Y n g w l (λ (x : ℕ). fixUp n 32 (removeChild W x v) x) W e p s q (h ∙ ap (λ (Z : List ℕ). fixUp n 32 Z s) f)
 
@@ -74,7 +74,7 @@ module _ (n : ℕ) (W : List ℕ) (x y : ℕ) (l : Link) (e : l ≡ linkOf n y) 
 
   pub child-words : (s : ℕ) (X Y Z : List ℕ) → l ≡ Slot s → x < n → X ≡ swap W x s → Y ≡ removeChild X x s → Z ≡ fixUp n 32 Y x
       → Z ≡ cutWords n (handed n W x y) (above n W x y) (emptied n x y)
-  unfolding above handed emptied cutWords onLink
+  unfolding above handed emptied cutWordsWith onLink
   child-words s X Y Z z h f g d =
       let i : s ≡ y = slot-is n y s l e z in
       let k : y < n = rw i at (slot-live n y s l e z) in
@@ -159,16 +159,16 @@ last-moves n W C W₁ W₂ C₁ r z v q h e f g i = rw (ne-eqb v z h) (cc)
 pub finish-is : (n s x y : ℕ) (W C W₁ W₂ C₂ : List ℕ) (r v top item q : ℕ) (P : Pairs) → v ≡ emptied n x y → top ≡ cutRoot n r (above n W x y)
     → W₁ ≡ cutWords n (handed n W x y) (above n W x y) (emptied n x y) → item ≡ value W₁ v → store W₂ C₂ q ≡ swapRemove n W₁ C top (n - 1) v
     → P ≡ moved n (n - 1) s x y → record { store = store W₂ C₂ q; value = item; pairs = P } ≡ finish (store W C r) n s x y
-unfolding finish
+unfolding finishWith
 finish-is n s x y W C W₁ W₂ C₂ r v top item q P e f g h i j =
     let k : W₁ ≡ cutWords n (handed n W x y) (above n W x y) v = rw e g in
     rw (← e, ← f, ← k, ← h, ← i, ← j)
 
 pub from-is : (n r s x y : ℕ) (W C X : List ℕ) (R : Removed) → X ≡ exchanged W s x → y ≡ child X x → R ≡ finish (restructure n X C r x y) n s x y
     → R ≡ removeFrom W C n r s x
-unfolding removeFrom
+unfolding removeFromWith
 from-is n r s x y W C X R f g h = rw (← f, ← g) h
 
 pub remove-is : (n r s x : ℕ) (W C : List ℕ) (R : Removed) → x ≡ vacated n W s → R ≡ removeFrom W C n r s x → R ≡ removeRule W C n r s
-unfolding removeRule
+unfolding removeWith
 remove-is n r s x W C R e i = rw (← e) i

@@ -17,7 +17,7 @@ use Rattle.tree_edit.specs.Rotations.{rotate-4}
 use Rattle.tree_rm_laws.specs.Repair.{Case, one, two, three, four, five, choose, act, roundOf, roundAt, round, repair}
 use Rattle.tree_edit.specs.Rounds.{Next, done, ending}
 use Rattle.tree_rm_laws.specs.Pairs.{movedTo, emptied}
-use Rattle.tree_rm_laws.specs.Remove.{vacated, exchanged, child, restructure, handed, above, cutWords, cutRoot, copied, relinked, cleared, swapRemove, Removed, finish, removeFrom, removeRule}
+use Rattle.tree_rm_laws.specs.Remove.{vacated, exchanged, child, restructure, handed, above, cutWords, cutRoot, copied, relinked, cleared, swapRemove, Removed, finish, removeRule, cutWordsWith, finishWith, removeFromWith, removeWith, restructureWith, vacatedWith}
 use Rattle.tree_edit.specs.Store.{Store, store}
 use Rattle.tree_edit.specs.Reach.{Work, changes, upHulls}
 use Rattle.tree_rm_laws.specs.Reach.{actHulls, roundOfHulls, roundAtHulls, roundHulls, repairHulls, restructureHulls, cutHulls, vacateHulls, removeHullsFrom, removeHulls}
@@ -100,7 +100,7 @@ module _ (n : ℕ) where
   same-repair = same-loop (round n) n (λ W X C D r x A B l. same-round W X C D A B r x l)
 
   same-restructure : (W X C D : List ℕ) (r x y : ℕ) → Agree n W X → Both n C D → x < n → AlikeIn n (restructure n W C r x y) (restructure n X D r x y)
-  unfolding restructure
+  unfolding restructureWith
   same-restructure W X C D r x y A B l =
       rw (B .1 .1 x l, same-redAt n C D y (B .1)) (go (red D x) (redAt n D y) refl)
     where
@@ -120,7 +120,7 @@ module _ (n : ℕ) where
 
   module _ (W X : List ℕ) (A : Agree n W X) where
     same-vacated : (s : ℕ) → s < n → vacated n W s ≡ vacated n X s
-    unfolding vacated
+    unfolding vacatedWith
     same-vacated s l = rw (A .1 (Child false) s l) (go (leb n (kid X false s)) refl)
       where
         go : (t : Bool) → leb n (kid X false s) ≡ t → cond t s (leftmost n 32 W (kid X false s)) ≡ cond t s (leftmost n 32 X (kid X false s))
@@ -148,7 +148,7 @@ module _ (n : ℕ) where
     same-above x y l = rw (A .1 Parent x l)
 
     agree-cutWords : (g v : ℕ) → Agree n (cutWords n W g v) (cutWords n X g v)
-    unfolding cutWords removeChild
+    unfolding cutWordsWith removeChild
     agree-cutWords g v =
         link-same n {A = List ℕ} (Agree n) g (λ s. fixUp n 32 (redirected W s v U) s) (λ s. fixUp n 32 (redirected X s v U) s) W X
         (λ h. agree-fixUp n 32 (redirected W g v U) (redirected X g v U) g (agree-redirected n W X g v U h A)) A
@@ -256,7 +256,7 @@ pub record SameRemoved (n : ℕ) (R Q : Removed) : Type 0 where
 
 module _ (W X C D : List ℕ) (n r s : ℕ) (bits : n ≤ length C * 8) (ls : s < n) (A : Agree n W X) (H : SameColours n C D) where
   same-finish : (S T : Store) (x y : ℕ) → AlikeIn n S T → x < n → SameRemoved n (finish S n s x y) (finish T n s x y)
-  unfolding finish
+  unfolding finishWith
   same-finish S T x y h l =
       let v : ℕ = emptied n x y in
       let lv : v < n = emptied-live n x y l in
@@ -272,7 +272,7 @@ module _ (W X C D : List ℕ) (n r s : ℕ) (bits : n ≤ length C * 8) (ls : s 
       })
 
   pub removed-below : SameRemoved n (removeRule W C n r s) (removeRule X D n r s)
-  unfolding removeRule removeFrom
+  unfolding removeWith removeFromWith
   removed-below =
       let x : ℕ = vacated n X s in
       let lx : x < n = vacated-live n X s ls in

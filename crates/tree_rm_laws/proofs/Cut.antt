@@ -16,7 +16,7 @@ use Rattle.tree.proofs.Frames.{shape-live, unplug-shape, way-height}
 use Rattle.tree.proofs.Sizes.{size-le}
 use Rattle.tree.proofs.Balance.{height-32}
 use Rattle.tree_edit.specs.Links.{redirected, removeChild, redirect, rootAfter, fixUp}
-use Rattle.tree_rm_laws.specs.Remove.{cutWords, cutRoot}
+use Rattle.tree_rm_laws.specs.Remove.{cutWords, cutRoot, cutWordsWith}
 use Rattle.tree_edit.proofs.Carried.{kept-entry}
 use Rattle.tree_edit.proofs.Links.{by-link, on-slot, on-none, length-redirect, kept-redirect}
 use Rattle.tree_edit.proofs.Beside.{by-same}
@@ -27,12 +27,12 @@ use Rattle.tree_rm_laws.proofs.Rows.{without-at, around}
 use Rattle.tree_rm_laws.proofs.Moves.{cut-way}
 
 -- the words after the cut
-cut-is : (n : ℕ) (W : List ℕ) (g v : ℕ) → cutWords n W g v ≡ fixUp n 32 (redirect n W g v U) g
-unfolding cutWords removeChild redirect
-cut-is n W g v =
-    by-link n g (λ X. X ≡ fixUp n 32 (onLink n g (λ s. redirected W s v U) W) g) (λ s. fixUp n 32 (redirected W s v U) s) W
+pub cut-is : (hulls n : ℕ) (W : List ℕ) (g v : ℕ) → cutWordsWith hulls n W g v ≡ fixUp n hulls (redirect n W g v U) g
+unfolding cutWordsWith removeChild redirect
+cut-is hulls n W g v =
+    by-link n g (λ X. X ≡ fixUp n hulls (onLink n g (λ s. redirected W s v U) W) g) (λ s. fixUp n hulls (redirected W s v U) s) W
     (λ h. rw (on-slot n g h) refl)
-    (λ h. rw (on-none n g h) (sym (fixUp-stops n 32 W g h)))
+    (λ h. rw (on-none n g h) (sym (fixUp-stops n hulls W g h)))
 
 root-is : (n : ℕ) (W : List ℕ) (r v : ℕ) → cutRoot n r (par W v) ≡ rootAfter n W r v U
 unfolding cutRoot rootAfter
@@ -97,7 +97,7 @@ module _ (n v : ℕ) (base W : List ℕ) (K : ℕ → Bool) (r : ℕ) (small : n
       cut-way W n r q v small (h .room) lv (omega (arith, two v, hit-same v)) (λ s. omega (arith, two s)) place in
       let o = hulls-upward 32 X n (rootAfter n W r v U) q (par W v) U leaf small (rw length-redirect (h .room)) short
       (λ s. omega (arith, two s)) way refl tt (by-same W X q (λ a i. kept-redirect n W (par W v) v U a) (h .hulls)) in
-      rw (cut-is, root-is n W r v) (record {
+      rw (cut-is 32, root-is n W r v) (record {
         tree = plug q leaf;
         shape = o .1;
         order = slots-cut;

@@ -24,7 +24,7 @@ use Rattle.tree.proofs.Frames.{unplug-shape, find, way-height}
 use Rattle.tree.proofs.Checked.{slot-once, tree-low}
 use Rattle.tree_rm_laws.specs.Pairs.{none, movedTo, home, named, lower, upper, byOldSlot, moved}
 use Rattle.tree_edit.specs.Links.{leftmost}
-use Rattle.tree_rm_laws.specs.Remove.{vacated, vacated′, exchanged, child, cutWords, cutRoot, swapRemove, Removed, finish, removeFrom, removeRule, removeRule′}
+use Rattle.tree_rm_laws.specs.Remove.{vacated, vacated′, exchanged, child, cutWords, cutRoot, swapRemove, Removed, removeFrom, removeRule, removeRule′, finishWith, removeFromWith, removeWith, vacatedWith}
 use Rattle.tree_rm_laws.specs.Reach.{cutHulls, restructureHulls, vacateHulls, removeHullsFrom, removeHulls, removeHulls′}
 use Rattle.words.specs.declared.pair.Pair.{Pair}
 use Rattle.words.specs.declared.pair.Pairs.{Pairs}
@@ -96,7 +96,7 @@ module _ (W C : List ℕ) (n r s y : ℕ) (ls : s < n) (ly : y < n) (small : n �
   cutting D p = record { store = swapRemove n Z D (cutRoot n r s) (n - 1) y; value = value Z y; pairs = p }
 
   from-s : removeFrom W C n r s s ≡ cutting (paint C y true) (moved n (n - 1) s s y)
-  unfolding removeFrom finish exchanged
+  unfolding removeFromWith finishWith exchanged
   from-s =
       rw (
         eq-eqb s s refl,
@@ -108,7 +108,7 @@ module _ (W C : List ℕ) (n r s y : ℕ) (ls : s < n) (ly : y < n) (small : n �
       ) refl
 
   from-y : removeFrom W C n r s y ≡ cutting C (moved n (n - 1) s y U)
-  unfolding removeFrom finish exchanged
+  unfolding removeFromWith finishWith exchanged
   from-y =
       let X : List ℕ = swap W s y in
       rw (
@@ -179,7 +179,7 @@ module _ (W C : List ℕ) (n r s : ℕ) (small : n ≤ 65535) (fit : n * 8 ≤ l
       (same : (y : ℕ) → y < n → child W s ≡ y → child (swap W s y) y ≡ U → par W y ≡ s → red C s ≡ false → red C y ≡ true → y ≢ s → f s ≡ f y) where
     -- a right child alone
     lone : (d : List Frame) (l : Tree) (y : ℕ) (l′ : Tree) → t ≡ plug d (node leaf s (node l y l′)) → f s ≡ f (vacated n W s)
-    unfolding vacated child
+    unfolding vacatedWith child
     lone d l y l′ e =
         let low : height (plug d (node leaf s (node l y l′))) ≤ 32 = rw e at tall in
         let i : Spot W C n r s false d (node l y l′) = record {
@@ -211,7 +211,7 @@ module _ (W C : List ℕ) (n r s : ℕ) (small : n ≤ 65535) (fit : n * 8 ≤ l
         first-is m rest e = cc
 
     either-way : f (vacated′ n W s) ≡ f (vacated n W s)
-    unfolding vacated vacated′
+    unfolding vacatedWith vacated′
     either-way = find s t [] (omega (arith, h .once s ls)) go
       where
         go : (d : List Frame) (l r′ : Tree) → t ≡ plug d (node l s r′)
@@ -230,7 +230,7 @@ module _ (W C : List ℕ) (n r s : ℕ) (small : n ≤ 65535) (fit : n * 8 ≤ l
             rw (le-leb n (kid W true s) (omega (arith, sh .left))) (lone d l y l′ e)
 
   pub harmless : removeRule′ W C n r s ≡ removeRule W C n r s
-  unfolding removeRule removeRule′
+  unfolding removeWith removeRule′
   harmless = either-way (λ x. removeFrom W C n r s x) (λ y ly ks ky up bs ry ys. either W C n r s y ls ly small ks ky up bs ry ys)
 
   pub harmless-reach : removeHulls′ W C n r s ≡ removeHulls W C n r s

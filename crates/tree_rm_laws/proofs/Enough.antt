@@ -7,7 +7,7 @@ use Prim.Native.Nat.{ℕ, _+_, _*_, _<_, _≤_}
 use native.Mathlib.Omega.{arith}
 use lib.ListN.{length}
 use borrow.Author.Tests.{le-leb}
-use Rattle.words.specs.Ix.{U, onLink}
+use Rattle.words.specs.Ix.{U}
 use Rattle.words.specs.Nodes.{kid, par}
 use Rattle.bitvec.specs.Colours.{red, paint}
 use Rattle.tree.specs.Tree.{Tree, slots, occ, hit, height, Shape, leaf, node, times}
@@ -16,15 +16,14 @@ use Rattle.tree.specs.Passes.{Passes}
 use Rattle.tree.proofs.Slots.{hit-same}
 use Rattle.tree.proofs.Frames.{unplug-shape, find, way-height}
 use Rattle.tree.proofs.Checked.{slot-once, tree-low}
-use Rattle.tree_edit.specs.Links.{redirected, removeChild, redirect, rootAfter, fixUp, leftmost}
+use Rattle.tree_edit.specs.Links.{redirect, rootAfter, leftmost}
 use Rattle.tree_edit.specs.Rounds.{Next, done, again}
 use Rattle.tree_rm_laws.specs.Repair.{round, repair}
-use Rattle.tree_rm_laws.specs.Remove.{vacated, exchanged, child, restructure, handed, above, cutWords, finish, removeFrom, removeRule}
+use Rattle.tree_rm_laws.specs.Remove.{vacated, exchanged, child, restructure, handed, above, cutWords, removeFrom, removeRule, cutWordsWith, vacatedWith, restructureWith, finishWith, removeFromWith, removeWith}
 use Rattle.tree_edit.specs.Store.{Store, store}
 use Rattle.tree_rm_laws.specs.Pairs.{emptied}
-use Rattle.tree_rm_laws.specs.With.{vacatedWith, restructureWith, cutWordsWith, finishWith, removeFromWith, removeWith}
-use Rattle.tree_edit.proofs.Links.{by-link, on-slot, on-none}
-use Rattle.tree_edit.proofs.Upward.{fixUp-stops, fixUp-more}
+use Rattle.tree_edit.proofs.Links.{on-slot}
+use Rattle.tree_edit.proofs.Upward.{fixUp-more}
 use Rattle.tree_rm_laws.proofs.Moves.{cut-way}
 use Rattle.tree_rm_laws.proofs.Vacate.{leftmost-at, Chosen, chosen}
 use Rattle.tree_rm_laws.proofs.Steps.{restructure-child}
@@ -32,13 +31,13 @@ use Rattle.tree_rm_laws.proofs.Spot.{Spot, child-y}
 use Rattle.tree_rm_laws.proofs.Loop.{Fixed}
 use Rattle.tree_rm_laws.proofs.Repaired.{Finished, repaired}
 use Rattle.tree_rm_laws.proofs.Prepare.{ReadyIn, live-y, reds, as-black}
-use Rattle.tree_rm_laws.proofs.Cut.{two, place, short}
+use Rattle.tree_rm_laws.proofs.Cut.{two, place, short, cut-is}
 use Rattle.tree_rm_laws.proofs.Removal.{count, spot, ready}
 use Rattle.tree_edit.proofs.Rounds.{Ended, loop-more}
 
 -- with its own numbers it is the rule, on any words
 pub with-own : (W C : List ℕ) (n r s : ℕ) → removeWith 36 32 32 W C n r s ≡ removeRule W C n r s
-unfolding removeWith removeRule removeFromWith removeFrom finishWith finish vacatedWith vacated restructureWith restructure cutWordsWith cutWords
+unfolding removeWith removeFromWith finishWith vacatedWith restructureWith cutWordsWith
 with-own W C n r s = refl
 
 -- the way down to the leftmost slot of a tree
@@ -57,18 +56,6 @@ ended-of : (n x : ℕ) (base : List ℕ) (s : Next) → Finished n x base s → 
 ended-of n x base (done W C r) e = tt
 ended-of n x base (again W C r ix) e = absurd e
 
--- the words after the cut
-cut-with : (m n : ℕ) (W : List ℕ) (g v : ℕ) → cutWordsWith m n W g v ≡ fixUp n m (redirect n W g v U) g
-unfolding cutWordsWith removeChild redirect
-cut-with m n W g v =
-    by-link n g (λ X. X ≡ fixUp n m (onLink n g (λ s. redirected W s v U) W) g) (λ s. fixUp n m (redirected W s v U) s) W
-    (λ h. rw (on-slot n g h) refl)
-    (λ h. rw (on-none n g h) (sym (fixUp-stops n m W g h)))
-
-cut-own : (n : ℕ) (W : List ℕ) (g v : ℕ) → cutWords n W g v ≡ cutWordsWith 32 n W g v
-unfolding cutWords cutWordsWith
-cut-own n W g v = refl
-
 module _ (n v : ℕ) (base W : List ℕ) (K : ℕ → Bool) (r : ℕ) (small : n ≤ 65535) (lv : v < n) (all : (s : ℕ) → s < n → times s base ≡ 1)
     (h : Fixed n v base W K r) where
   cut-more : (m : ℕ) → 32 ≤ m → cutWordsWith m n W (par W v) v ≡ cutWords n W (par W v) v
@@ -76,10 +63,9 @@ module _ (n v : ℕ) (base W : List ℕ) (K : ℕ → Bool) (r : ℕ) (small : n
       let o : (s : ℕ) → occs s (h .q) + hit s v ≤ 1 = two n v base W K r small lv all h in
       let way : Above (redirect n W (par W v) v U) n (rootAfter n W r v U) (h .q) (par W v) U =
       cut-way W n r (h .q) v small (h .room) lv (omega (arith, o v, hit-same v)) (λ s. omega (arith, o s)) (place n v base W K r small lv all h) in
-      cut-with m n W (par W v) v
+      cut-is m n W (par W v) v
       ∙ fixUp-more (h .q) 32 m (redirect n W (par W v) v U) n (rootAfter n W r v U) (par W v) U small (short n v base W K r small lv all h) i way
-      ∙ sym (cut-with 32 n W (par W v) v)
-      ∙ sym (cut-own n W (par W v) v)
+      ∙ sym (cut-is 32 n W (par W v) v)
 
 -- the repair of the slot x, whose one child tree is `near`
 child-with : (rounds n : ℕ) (W C : List ℕ) (r x y : ℕ) → red C x ≡ false → y < n → red C y ≡ true → restructureWith rounds n W C r x y ≡ store W (paint C y true) r
@@ -96,7 +82,7 @@ module _ (X C : List ℕ) (n r x : ℕ) (b : Bool) (c : List Frame) (near : Tree
       loop-more (round n) 36 rounds X C r x i (ended-of n x base (repair n 36 X C r x) (repaired 36 n x base X C r x (h .bits) o u))
 
   bare-more : near ≡ leaf → (y : ℕ) → restructureWith rounds n X C r x y ≡ restructure n X C r x y
-  unfolding restructureWith restructure
+  unfolding restructureWith
   bare-more e y = go (red C x) refl
     where
       go : (t : Bool) → red C x ≡ t → restructureWith rounds n X C r x y ≡ restructure n X C r x y
@@ -124,7 +110,7 @@ module _ (W C : List ℕ) (n r s : ℕ) (small : n ≤ 65535) (fit : n * 8 ≤ l
   here = omega (arith, h .once s ls)
 
   vacated-more : (links : ℕ) → 32 ≤ links → vacatedWith links n W s ≡ vacated n W s
-  unfolding vacatedWith vacated
+  unfolding vacatedWith
   vacated-more links i = find s t [] here go
     where
       go : (d : List Frame) (l r′ : Tree) → t ≡ plug d (node l s r′) → vacatedWith links n W s ≡ vacated n W s
@@ -163,12 +149,12 @@ module _ (W C : List ℕ) (n r s : ℕ) (small : n ≤ 65535) (fit : n * 8 ≤ l
         (cut-more n v (slots t) (handed n (S .words) x y) (red (S .colours)) (S .root) small (z .live) (count W C n r s small fit bits ls h) (z .fixed) hulls j)
 
     from-more : removeFromWith rounds hulls W C n r s x ≡ removeFrom W C n r s x
-    unfolding removeFromWith removeFrom finishWith finish
+    unfolding removeFromWith finishWith
     from-more = rw (same-store, same-words) refl
 
   -- greater numbers of rounds, of links and of hulls than the rule's 36, 32 and 32 come to the same store, value and pairs
   pub enough : (rounds links hulls : ℕ) → 36 ≤ rounds → 32 ≤ links → 32 ≤ hulls → removeWith rounds links hulls W C n r s ≡ removeRule W C n r s
-  unfolding removeWith removeRule
+  unfolding removeWith
   enough rounds links hulls i j k =
       rw (vacated-more links j)
       (from-more (vacated n W s) (chosen W n r s t small fit (h .shape) (slot-once W C n r h) (h .hulls) here tall) rounds hulls i k)

@@ -10,7 +10,7 @@ use Rattle.tree_edit.specs.Rotations.{rotate, rotate-2, rotate-4}
 use Rattle.tree_rm_laws.specs.Repair.{four, roundOf, roundAt, round}
 use Rattle.bitvec.specs.Colours.{paintAt}
 use Rattle.tree_rm_laws.specs.Pairs.{emptied}
-use Rattle.tree_rm_laws.specs.Remove.{vacated, exchanged, child, restructure, handed, above}
+use Rattle.tree_rm_laws.specs.Remove.{exchanged, child, handed, above, restructureWith, vacatedWith}
 use Rattle.tree_edit.specs.Reach.{differs, changes, upHulls, loopHulls}
 use Rattle.tree_rm_laws.specs.Reach.{actHulls, roundOfHulls, roundAtHulls, roundHulls, restructureHulls, cutHulls, vacateHulls, removeHullsFrom, removeHulls}
 use Rattle.tree_edit.specs.Rounds.{loop}
@@ -25,7 +25,7 @@ unfolding adopt setChild redirected removeChild redirect replaced rootAfter fixU
 repairing = record {}
 
 reaching : Unit {0}
-unfolding leftmost vacated exchanged child restructure handed above emptied differs upHulls roundOfHulls roundAtHulls roundHulls loopHulls restructureHulls cutHulls vacateHulls removeHullsFrom removeHulls
+unfolding leftmost vacatedWith exchanged child restructureWith handed above emptied differs upHulls roundOfHulls roundAtHulls roundHulls loopHulls restructureHulls cutHulls vacateHulls removeHullsFrom removeHulls
 reaching = record {}
 
 -- [0, 5) black in slot 0, and [10, 15) red to its right. Slot 0 is removed: the entry of slot 1 goes there, and its hull, which stayed, changes. Had the

@@ -17,7 +17,7 @@ use Rattle.words.specs.declared.node.Field.the-variants.{Start, End, Value, Hul
 use Rattle.bitvec.specs.Colours.{red, paint}
 use Rattle.tree_edit.specs.Links.{redirected, removeChild, fixUp, leftmost}
 use Rattle.tree_rm_laws.specs.Pairs.{movedTo, emptied, moved}
-use Rattle.tree_rm_laws.specs.Remove.{vacated, exchanged, child, restructure, handed, above, cutWords, cutRoot, relinked, blank, cleared, swapRemove, finish, removeFrom, removeRule, copied}
+use Rattle.tree_rm_laws.specs.Remove.{vacated, exchanged, child, restructure, handed, above, cutWords, cutRoot, relinked, blank, cleared, swapRemove, removeRule, copied, cutWordsWith, finishWith, removeFromWith, removeWith, vacatedWith}
 use Rattle.tree_edit.specs.Store.{Store, store}
 use Rattle.tree_edit.specs.Inside.{Inside}
 use Rattle.tree_rm_laws.specs.Corrected.{swapRemove-01, finish-01, removeFrom-01, removeRule-01, blankWord, Corrected}
@@ -43,7 +43,7 @@ module _ (n : ℕ) where
   low-handed W x y h = low-link n W y (λ s. swap W x s) (low-swap n W x y h)
 
   low-cutWords : (W : List ℕ) (g v : ℕ) → Low n W (cutWords n W g v)
-  unfolding cutWords removeChild redirected
+  unfolding cutWordsWith removeChild redirected
   low-cutWords W g v =
       low-link n W g (λ s. fixUp n 32 (putKid W (eqb (kid W true s) v) s U) s)
       (λ h. low-trans n W (putKid W (eqb (kid W true g) v) g U) _ (low-put n W (Child (eqb (kid W true g) v)) g U h) (low-fixUp n 32 _ g))
@@ -80,7 +80,7 @@ module _ (n : ℕ) where
       by-link n (kid W true k) (λ m. m < n) (λ s. leftmost n height W s) k (leftmost-live height W (kid W true k)) (λ u. h)
 
   pub vacated-live : (W : List ℕ) (s : ℕ) → s < n → vacated n W s < n
-  unfolding vacated
+  unfolding vacatedWith
   vacated-live W s h = go (leb n (kid W false s)) refl
     where
       go : (t : Bool) → leb n (kid W false s) ≡ t → cond t s (leftmost n 32 W (kid W false s)) < n
@@ -158,7 +158,7 @@ module _ (W C : List ℕ) (n r s : ℕ) (ls : s < n) where
 
   -- lengths stay, and what lies from the count up
   pub removed-inside : Inside n W C (removeRule W C n r s .store)
-  unfolding removeRule removeFrom finish
+  unfolding removeWith removeFromWith finishWith
   removed-inside =
       let m = restructure-in-place n X C r x y in
       let q = inside-swapRemove n Z (S .colours) (cutRoot n (S .root) g) (n - 1) v (omega arith) live-v in
@@ -171,7 +171,7 @@ module _ (W C : List ℕ) (n r s : ℕ) (ls : s < n) where
 
   -- document 02's item 2 changes the three links of the old last slot, and nothing else
   pub corrected : n * 8 ≤ length W → Corrected n (removeRule-01 W C n r s) (removeRule W C n r s)
-  unfolding removeRule removeFrom finish removeRule-01 removeFrom-01 finish-01
+  unfolding removeWith removeFromWith finishWith removeRule-01 removeFrom-01 finish-01
   corrected fit =
       let m : n * 8 ≤ length Z = rw (low-Z .0) fit in
       corrected-move n Z (S .colours) (cutRoot n (S .root) g) (n - 1) v (value Z v) (moved n (n - 1) s x y) refl live-v (omega arith)

@@ -16,7 +16,7 @@ use Rattle.tree_rm_laws.specs.Pairs.{emptied}
 use Rattle.tree_edit.specs.Rotations.{rotate, rotate-2, rotate-4}
 use Rattle.tree_rm_laws.specs.Repair.{Case, one, two, three, four, five, choose, act, roundOf, roundAt, round, repair}
 use Rattle.tree_edit.specs.Rounds.{ending}
-use Rattle.tree_rm_laws.specs.Remove.{vacated, exchanged, child, restructure, handed, above, cutWords, finish, removeFrom, removeRule}
+use Rattle.tree_rm_laws.specs.Remove.{vacated, exchanged, child, restructure, handed, above, cutWords, removeRule, cutWordsWith, finishWith, removeFromWith, removeWith, restructureWith}
 use Rattle.tree_edit.specs.Store.{Store, store}
 use Rattle.tree_edit.specs.Reach.{changes, upHulls, Stays, Follows}
 use Rattle.tree_rm_laws.specs.Reach.{actHulls, roundOfHulls, roundAtHulls, roundHulls, repairHulls, restructureHulls, cutHulls, vacateHulls, removeHullsFrom, removeHulls, cutFrom, lastStep}
@@ -50,7 +50,7 @@ module _ (n : ℕ) where
   follows-repair = follows-loop (round n) (roundHulls n) n follows-round
 
   follows-restructure : (W C : List ℕ) (r x y : ℕ) → Follows n W (restructureHulls n W C r x y) (restructure n W C r x y .words)
-  unfolding restructureHulls restructure
+  unfolding restructureHulls restructureWith
   follows-restructure W C r x y = go (red C x) (redAt n C y)
     where
       go : (i j : Bool) → Follows n W (cond i [] (cond j [] (repairHulls n 36 W C r x)))
@@ -60,7 +60,7 @@ module _ (n : ℕ) where
       go false false = follows-repair 36 W C r x
 
   follows-cut : (W : List ℕ) (g v : ℕ) → Follows n W (cutHulls n W g v) (cutWords n W g v)
-  unfolding cutHulls cutWords removeChild redirected
+  unfolding cutHulls cutWordsWith removeChild redirected
   follows-cut W g v =
       linked n W g (λ s. upHulls n 32 (putKid W (eqb (kid W true s) v) s U) s) (λ s. fixUp n 32 (putKid W (eqb (kid W true s) v) s U) s)
       (from n W (putKid W (eqb (kid W true g) v) g U) (upHulls n 32 (putKid W (eqb (kid W true g) v) g U) g) (fixUp n 32 (putKid W (eqb (kid W true g) v) g U) g)
@@ -100,7 +100,7 @@ reached W C n r s =
 -- and the last step is made in these words
 pub cut-then-moved : (W C : List ℕ) (n r s : ℕ)
     → removeRule W C n r s .store ≡ lastStep (cutFrom W C n r s (vacated n W s)) W C n r s (vacated n W s)
-unfolding removeRule removeFrom finish cutFrom lastStep
+unfolding removeWith removeFromWith finishWith cutFrom lastStep
 cut-then-moved W C n r s = refl
 
 -- how much it can be, on any words

@@ -24,7 +24,7 @@ use Rattle.tree.proofs.Frames.{Same, keep}
 use Rattle.tree.proofs.Views.{rootRed-view, entries-view, hulls-view, redBlack-view}
 use Rattle.tree.proofs.Checked.{slot-live, slot-once, tree-low}
 use Rattle.tree_rm_laws.specs.Pairs.{movedTo, emptied, home, moved}
-use Rattle.tree_rm_laws.specs.Remove.{vacated, exchanged, child, restructure, handed, above, cutWords, cutRoot, swapRemove, finish, removeFrom, removeRule}
+use Rattle.tree_rm_laws.specs.Remove.{vacated, exchanged, child, restructure, handed, above, cutWords, cutRoot, swapRemove, removeFrom, removeRule, finishWith, removeFromWith, removeWith}
 use Rattle.tree_edit.specs.Store.{Store}
 use Rattle.tree_rm_laws.specs.Names.{changed, Names}
 use Rattle.tree_rm_laws.specs.RemovalGuarantee.{RemovalGuarantee}
@@ -180,7 +180,7 @@ module _ (W C : List ℕ) (n r s : ℕ) (small : n ≤ 65535) (fit : n * 8 ≤ l
         (λ d. child-is d x (omega (arith, hit-same x))) (λ d. child-is d s (ch .on-way)) rows)
 
     removed-from : RemovalGuarantee W C n r s h (removeFrom W C n r s x)
-    unfolding removeFrom finish passes-u
+    unfolding removeFromWith finishWith passes-u
     removed-from =
         record {
           passes = passes-u;
@@ -190,6 +190,6 @@ module _ (W C : List ℕ) (n r s : ℕ) (small : n ≤ 65535) (fit : n * 8 ≤ l
         }
 
   pub removed : RemovalGuarantee W C n r s h (removeRule W C n r s)
-  unfolding removeRule
+  unfolding removeWith
   removed =
       removed-from (vacated n W s) (chosen W n r s t small fit (h .shape) most (h .hulls) (omega (arith, h .once s ls)) tall)

@@ -10,7 +10,7 @@ use Rattle.tree_edit.specs.Rounds.{done, Next, again, ending}
 use Rattle.tree_edit.specs.Rotations.{rotate, rotate-2, rotate-4}
 use Rattle.tree_rm_laws.specs.Repair.{Case, choose, act, roundOf, roundAt, round, repair, one, two, three, four, five}
 use Rattle.tree_edit.specs.Store.{store}
-use Rattle.tree_rm_laws.specs.Remove.{restructure}
+use Rattle.tree_rm_laws.specs.Remove.{restructure, restructureWith}
 use Rattle.tree_edit.proofs.Carried.{kept-entry}
 use Rattle.tree_edit.proofs.Links.{by-link, kept-rotate, kept-rotate-2, kept-rotate-4}
 use Rattle.tree_edit.proofs.Upward.{entry-fix}
@@ -98,7 +98,7 @@ module _ (n : ℕ) where
       loop-in-place (round n) n (λ i. Unit {0}) (λ W C r x p. next-in W C (round n W C r x) (round-in-place W C r x)) rounds W C r ix tt
 
   pub restructure-in-place : (W C : List ℕ) (r x y : ℕ) → InPlace n W C (restructure n W C r x y)
-  unfolding restructure
+  unfolding restructureWith
   restructure-in-place W C r x y = go (red C x) (redAt n C y) refl
     where
       go : (s t : Bool) → redAt n C y ≡ t → InPlace n W C (cond s (store W C r) (cond t (store W (paint C y true) r) (ending (repair n 36 W C r x))))

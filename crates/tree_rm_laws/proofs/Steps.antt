@@ -9,7 +9,7 @@ use Rattle.tree_rm_laws.specs.Repair.{repair}
 use Rattle.tree_rm_laws.specs.Pairs.{emptied}
 use Rattle.tree_edit.specs.Store.{store}
 use Rattle.tree_edit.specs.Rounds.{ending}
-use Rattle.tree_rm_laws.specs.Remove.{restructure, handed, above}
+use Rattle.tree_rm_laws.specs.Remove.{restructure, handed, above, restructureWith}
 use Rattle.tree_edit.proofs.Links.{by-link, on-slot, on-none}
 
 -- the slot that is emptied
@@ -47,13 +47,13 @@ module _ (n : ℕ) (W : List ℕ) (x y : ℕ) where
 -- `restructure_rm`: a red slot, a red child, or the repair
 module _ (n : ℕ) (W C : List ℕ) (r x y : ℕ) where
   pub restructure-red : red C x ≡ true → restructure n W C r x y ≡ store W C r
-  unfolding restructure
+  unfolding restructureWith
   restructure-red e = rw e refl
 
   pub restructure-child : red C x ≡ false → y < n → red C y ≡ true → restructure n W C r x y ≡ store W (paint C y true) r
-  unfolding restructure
+  unfolding restructureWith
   restructure-child e h f = rw (e, on-slot n y h (λ s. red C s) false, f) refl
 
   pub restructure-repair : red C x ≡ false → n ≤ y → restructure n W C r x y ≡ ending (repair n 36 W C r x)
-  unfolding restructure
+  unfolding restructureWith
   restructure-repair e h = rw (e, on-none n y h (λ s. red C s) false) refl

@@ -17,7 +17,7 @@ use Rattle.tree.proofs.Slots.{hit-same, hit-zero, occ-plug, times-slots}
 use Rattle.tree.proofs.Frames.{shape-live, unplug-shape, find, way-height}
 use Rattle.tree_rm_laws.specs.Pairs.{movedTo}
 use Rattle.tree_edit.specs.Links.{leftmost}
-use Rattle.tree_rm_laws.specs.Remove.{vacated, exchanged}
+use Rattle.tree_rm_laws.specs.Remove.{vacated, exchanged, vacatedWith}
 use Rattle.tree_edit.proofs.Carried.{Kept, kept-entry}
 use Rattle.tree_edit.proofs.Links.{on-slot, on-none}
 use Rattle.tree_edit.proofs.Beside.{HullsBy, beside, along, occs-parts, along-append, by-same, hulls-by}
@@ -104,7 +104,7 @@ module _ (W : List ℕ) (n r s : ℕ) (t : Tree) (small : n ≤ 65535) (fit : n 
       })
 
   pub chosen : 0 < occ s t → height t ≤ 32 → Chosen s (vacated n W s) t W (exchanged W s (vacated n W s))
-  unfolding vacated exchanged
+  unfolding vacatedWith exchanged
   chosen o tall = find s t [] o go
     where
       go : (d : List Frame) (l r′ : Tree) → t ≡ plug d (node l s r′) → Chosen s (vacated n W s) t W (exchanged W s (vacated n W s))

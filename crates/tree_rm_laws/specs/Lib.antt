@@ -4,6 +4,5 @@ pub mod Remove
 pub mod Reach
 pub mod Names
 pub mod RemovalGuarantee
-pub mod With
 pub mod Corrected
 pub mod Sequence

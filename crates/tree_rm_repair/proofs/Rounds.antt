@@ -15,7 +15,7 @@ use Rattle.tree_edit.specs.Rotations.{rotate, rotate-4}
 use Rattle.tree_rm_laws.specs.Repair.{Case, one, two, three, four, five, choose, act, roundOf, roundAt, round, repair}
 use Rattle.tree_edit.specs.Rounds.{Next, done, again, ending}
 use Rattle.tree_edit.specs.Store.{Store, store}
-use Rattle.tree_rm_laws.specs.Remove.{restructure}
+use Rattle.tree_rm_laws.specs.Remove.{restructure, restructureWith}
 use Rattle.tree_rm_repair.specs.Answers.{caseOf}
 use Rattle.tree_rm_repair.specs.declared.Case as K
 use Rattle.tree_rm_repair.specs.declared.Case.the-variants as ks
@@ -143,7 +143,7 @@ most n W C ix = omega (arith, round-le n W C ix)
 -- before a slot is vacated
 module _ (n : ℕ) (W C : List ℕ) (r x y : ℕ) (v : Bool) (e : v ≡ red C x) where
   pub ready-red : v ≡ true → store W C r ≡ restructure n W C r x y
-  unfolding restructure
+  unfolding restructureWith
   ready-red q = rw (sym e ∙ q)
 
   pub still-red : v ≡ true → 0 ≡ changes n (restructureHulls n W C r x y)
@@ -160,9 +160,9 @@ module _ (n : ℕ) (W C : List ℕ) (r x y : ℕ) (v : Bool) (e : v ≡ red C x)
   repair-changes w k q f z d = rw (sym e ∙ q, red-child w (redAt n C y) false f z) d
 
   pub ready-child : (w : Bool) (D : List ℕ) → v ≡ false → w ≡ not (redAt n C y) → not w ≡ true → D ≡ paint C y true → store W D r ≡ restructure n W C r x y
-  unfolding restructure
+  unfolding restructureWith
   ready-child w D q f z d = rw (sym e ∙ q, red-child w (redAt n C y) true f z, d)
 
   pub ready-repair : (w : Bool) (S : Store) → v ≡ false → w ≡ not (redAt n C y) → not w ≡ false → S ≡ ending (repair n 36 W C r x) → S ≡ restructure n W C r x y
-  unfolding restructure
+  unfolding restructureWith
   ready-repair w S q f z d = rw (sym e ∙ q, red-child w (redAt n C y) false f z) d

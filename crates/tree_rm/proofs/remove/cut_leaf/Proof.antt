@@ -1,7 +1,7 @@
 use Rattle.tree_rm_laws.specs.Reach.{cutHulls}
 use Rattle.tree_links.proofs.LinkLaws.{hulls-unlinked, read-linked, read-unlinked}
 use Rattle.tree_rm.proofs.Removes.{cut-is, cut-changes}
-use Rattle.tree_rm_laws.specs.Remove.{cutRoot, cutWords}
+use Rattle.tree_rm_laws.specs.Remove.{cutRoot, cutWordsWith}
 use Rattle.words.proofs.Laws.{slot-room}
 use borrow.Author.Needs.{needs}
 use mathlib.Core.Path.{refl}
@@ -9,7 +9,7 @@ use Rattle.tree_rm.proofs.remove.cut_leaf.Statement.{statement}
 use Rattle.tree_rm.proofs.remove.cut_leaf.Tie as tie
 
 pub cut-leaf-spec : {M : Type 1} → statement M
-unfolding cutRoot cutWords cutHulls
+unfolding cutRoot cutWordsWith cutHulls
 cut-leaf-spec =
     tie.close
     (tie.spec
