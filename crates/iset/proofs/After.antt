@@ -8,7 +8,7 @@ use lib.ListN.{length}
 use lib.Dec.{eqb}
 use borrow.Author.Tests.{eq-eqb, ne-eqb, eqb-true, eqb-false}
 use Rattle.words.specs.Ix.{U}
-use Rattle.words.specs.Nodes.{room, entry}
+use Rattle.words.specs.Nodes.{entry}
 use Rattle.words.specs.declared.node.Entry.{Entry}
 use Rattle.tree.specs.Tree.{hit, slots, without, times}
 use Rattle.tree.specs.Passes.{Passes}

@@ -40,9 +40,9 @@ module _ (m : Map) (W C : List ℕ) (h : checkRule m W C ≡ 0) where
   unfolding openStepCall stepCall stepNumber
   step-is q c = rw h refl
 
-  pub drain-is : (q : Query) (c : Cursor) (limit room : ℕ) → openDrainCall m W C q c limit room ≡ drainCall m W C q c limit room
+  pub drain-is : (q : Query) (c : Cursor) (limit places : ℕ) → openDrainCall m W C q c limit places ≡ drainCall m W C q c limit places
   unfolding openDrainCall drainCall drainNumber
-  drain-is q c limit room = rw h refl
+  drain-is q c limit places = rw h refl
 
   pub drain-output-is : (q : Query) (c : Cursor) (limit : ℕ) (out : List ℕ) → openDrainOutput m W C q c limit out ≡ drainOutput m W C q c limit out
   unfolding openDrainOutput drainOutput drainNumber
@@ -99,9 +99,9 @@ module _ (m : Map) (W C : List ℕ) (t : Checked) (e : checkNumber t ≡ checkRu
     pub step-through : (y : Query) (c : Cursor) (r : StepAnswer) → r ≡ openStepCall m W C y c → r ≡ stepCall m W C y c
     step-through y c r p = p ∙ step-is m W C sound y c
 
-    pub drain-through : (y : Query) (c : Cursor) (limit room : ℕ) (r : DrainAnswer)
-        → r ≡ openDrainCall m W C y c limit room → r ≡ drainCall m W C y c limit room
-    drain-through y c limit room r p = p ∙ drain-is m W C sound y c limit room
+    pub drain-through : (y : Query) (c : Cursor) (limit places : ℕ) (r : DrainAnswer)
+        → r ≡ openDrainCall m W C y c limit places → r ≡ drainCall m W C y c limit places
+    drain-through y c limit places r p = p ∙ drain-is m W C sound y c limit places
 
     pub drain-output-through : (y : Query) (c : Cursor) (limit : ℕ) (out X : List ℕ)
         → X ≡ openDrainOutput m W C y c limit out → X ≡ drainOutput m W C y c limit out
@@ -134,9 +134,9 @@ module _ (m : Map) (W C : List ℕ) (t : Checked) (e : checkNumber t ≡ checkRu
     unfolding stepCall stepNumber
     step-away y c = rw (broken, some z, some z)
 
-    pub drain-away : (y : Query) (c : Cursor) (limit room : ℕ) → refusedDrain c (refusalNumber z) ≡ drainCall m W C y c limit room
+    pub drain-away : (y : Query) (c : Cursor) (limit places : ℕ) → refusedDrain c (refusalNumber z) ≡ drainCall m W C y c limit places
     unfolding drainCall drainNumber
-    drain-away y c limit room = rw (broken, some z, some z)
+    drain-away y c limit places = rw (broken, some z, some z)
 
     pub drain-output-away : (y : Query) (c : Cursor) (limit : ℕ) (out : List ℕ) → out ≡ drainOutput m W C y c limit out
     unfolding drainOutput drainNumber

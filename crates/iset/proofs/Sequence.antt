@@ -9,7 +9,7 @@ use lib.ListN.{length}
 use lib.Dec.{eqb}
 use borrow.Author.Tests.{eq-eqb, ne-eqb}
 use Rattle.words.specs.Ix.{U}
-use Rattle.words.specs.Nodes.{room}
+use Rattle.words.specs.Nodes.{capacity}
 use Rattle.words.specs.declared.node.Entry.{Entry}
 use Rattle.tree.specs.Tree.{leaf}
 use Rattle.tree.specs.Passes.{Passes}
@@ -41,13 +41,13 @@ builtStore W C S = store (buildNodes W C S) (buildColour W C S) (buildRule W C S
 
 -- a build, and any insertions and removals after it that find their slot or room
 pub build-then-change : (W C S : List ℕ) (l : List Change) → buildNumber (length W) (length C) S ≡ 0
-    → TakesAll (room (length W) (length C)) (length S / 3) l
+    → TakesAll (capacity (length W) (length C)) (length S / 3) l
     → Passes (run (builtStore W C S) (length S / 3) l .words) (run (builtStore W C S) (length S / 3) l .colours) (total (length S / 3) l)
     (run (builtStore W C S) (length S / 3) l .root)
 build-then-change W C S l e t =
     let a : Accepted (length W) (length C) S = accepted (length W) (length C) S e in
     let b : Built S W C (length S / 3) (buildNodes W C S) (buildColour W C S) (buildRule W C S .root) = builds W C S e in
-    ran l (builtStore W C S) (length S / 3) (room (length W) (length C)) (omega arith) (omega (arith, b .words-length))
+    ran l (builtStore W C S) (length S / 3) (capacity (length W) (length C)) (omega arith) (omega (arith, b .words-length))
     (omega (arith, b .bits-length)) (a .room-for) (b .passes) t .0
 
 -- the map of no entries passes in any words
@@ -94,7 +94,7 @@ module _ (m : Map) (W C : List ℕ) where
       (empty-passes W C)
 
   module _ (h : Sound S) where
-    fits : m .count ≤ room (length W) (length C)
+    fits : m .count ≤ capacity (length W) (length C)
     fits = check-zero m W C h .0
 
     remove-sound : (s : ℕ) → Sound (answered S (remove s))

@@ -66,7 +66,7 @@ unfoldable pub openStepNumber : Map → List ℕ → List ℕ → Query → Curs
 openStepNumber m W C q c = first (openStartNumber m W C q) (formNumber (formOf W (m .count) (beginning m W q) c))
 
 unfoldable pub openDrainNumber : Map → List ℕ → List ℕ → Query → Cursor → ℕ → ℕ → ℕ
-openDrainNumber m W C q c limit room = first (openStepNumber m W C q c) (cond (ltb room (drains.limitOf limit room)) 9 0)
+openDrainNumber m W C q c limit places = first (openStepNumber m W C q c) (cond (ltb places (drains.limitOf limit places)) 9 0)
 
 -- and of the public calls
 unfoldable pub startNumber : Map → List ℕ → List ℕ → Query → ℕ
@@ -76,7 +76,7 @@ unfoldable pub stepNumber : Map → List ℕ → List ℕ → Query → Cursor �
 stepNumber m W C q c = first (checkRule m W C) (openStepNumber m W C q c)
 
 unfoldable pub drainNumber : Map → List ℕ → List ℕ → Query → Cursor → ℕ → ℕ → ℕ
-drainNumber m W C q c limit room = first (checkRule m W C) (openDrainNumber m W C q c limit room)
+drainNumber m W C q c limit places = first (checkRule m W C) (openDrainNumber m W C q c limit places)
 
 -- Answers by this paper's numbers. A refusal has the cursor as given, slot U, counts 0; a fresh cursor that is refused is the ended one.
 pub record StartAnswer : Type 0 where
@@ -144,8 +144,8 @@ drainPaper c (emptied.Done d) = record { no = 0; hits = d .hits; entered = d .en
 drainPaper c (emptied.Refused y) = refusedDrain c (refusalNumber y)
 
 abbrev pub drainBy : Map → List ℕ → Query → Cursor → ℕ → ℕ → ℕ → DrainAnswer
-drainBy m W q c limit room k =
-    cond (eqb k 0) (drainAnswer (drains.drain W (m .count) (rules W (m .count) q) (drains.limitOf limit room) c)) (refusedDrain c k)
+drainBy m W q c limit places k =
+    cond (eqb k 0) (drainAnswer (drains.drain W (m .count) (rules W (m .count) q) (drains.limitOf limit places) c)) (refusedDrain c k)
 
 -- "Places past the hits written stay."
 abbrev pub drainOutputBy : Map → List ℕ → Query → Cursor → ℕ → List ℕ → ℕ → List ℕ
@@ -153,13 +153,13 @@ drainOutputBy m W q c limit out k =
     cond (eqb k 0) (drains.filled (drains.drain W (m .count) (rules W (m .count) q) (drains.limitOf limit (length out)) c .slots) out) out
 
 unfoldable pub openDrainCall : Map → List ℕ → List ℕ → Query → Cursor → ℕ → ℕ → DrainAnswer
-openDrainCall m W C q c limit room = drainBy m W q c limit room (openDrainNumber m W C q c limit room)
+openDrainCall m W C q c limit places = drainBy m W q c limit places (openDrainNumber m W C q c limit places)
 
 unfoldable pub openDrainOutput : Map → List ℕ → List ℕ → Query → Cursor → ℕ → List ℕ → List ℕ
 openDrainOutput m W C q c limit out = drainOutputBy m W q c limit out (openDrainNumber m W C q c limit (length out))
 
 unfoldable pub drainCall : Map → List ℕ → List ℕ → Query → Cursor → ℕ → ℕ → DrainAnswer
-drainCall m W C q c limit room = drainBy m W q c limit room (drainNumber m W C q c limit room)
+drainCall m W C q c limit places = drainBy m W q c limit places (drainNumber m W C q c limit places)
 
 unfoldable pub drainOutput : Map → List ℕ → List ℕ → Query → Cursor → ℕ → List ℕ → List ℕ
 drainOutput m W C q c limit out = drainOutputBy m W q c limit out (drainNumber m W C q c limit (length out))

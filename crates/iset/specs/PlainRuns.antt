@@ -4,11 +4,11 @@ use mathlib.Core.Bool.{Bool}
 use mathlib.Core.List.{List}
 use Prim.Native.Nat.{ℕ, _<_, _≤_}
 use lib.ListN.{length, take}
+use Rattle.words.specs.Lists.{filter}
 use Rattle.words.specs.declared.interval.Interval.{Interval}
 use Rattle.words.specs.declared.interval.Span.{Span}
 use Rattle.tree.specs.Tree.{Tree, slots}
 use Rattle.tree.specs.Passes.{Passes}
-use Rattle.iter.specs.Lists.{those}
 use Rattle.iter.specs.Cursors.{fresh, ended}
 use Rattle.iter.specs.Overlap.{meets}
 use Rattle.iter.specs.Exact.{equals}
@@ -33,13 +33,13 @@ drainSlots m W C q c limit out = take (drainCall m W C q c limit (length out) .h
 -- A plain lookup for q into `out`, in a store with the tree t: p says which entries are asked for, c is the fresh cursor.
 pub record PlainRun (m : Map) (W C : List ℕ) (q : Query) (c : Cursor) (p : ℕ → Bool) (t : Tree) (out : List ℕ) : Type 0 where
   -- it is not refused, and "Its entered count is the map's count"
-  pub told : plainCall m W C q (length out) ≡ record { no = 0; hits = length (those p (slots t)); entered = m .count }
+  pub told : plainCall m W C q (length out) ≡ record { no = 0; hits = length (filter p (slots t)); entered = m .count }
   -- "demand 3's list holds for it too": exactly the entries that are asked for, in tree order, once each; the places past them stay
-  pub written : plainOutput m W C q out ≡ filled (those p (slots t)) out
-  pub once-each : OnceEach (m .count) p (those p (slots t))
+  pub written : plainOutput m W C q out ≡ filled (filter p (slots t)) out
+  pub once-each : OnceEach (m .count) p (filter p (slots t))
   -- "its list of slots equals that of a fresh drain run to its end": any limit above the number of hits
-  pub drain-agrees : (limit : ℕ) (room : List ℕ) → length (those p (slots t)) < limitOf limit (length room) → limitOf limit (length room) ≤ length room
-      → (drainCall m W C q c limit (length room) .next ≡ ended) × (plainSlots m W C q out ≡ drainSlots m W C q c limit room)
+  pub drain-agrees : (limit : ℕ) (places : List ℕ) → length (filter p (slots t)) < limitOf limit (length places) → limitOf limit (length places) ≤ length places
+      → (drainCall m W C q c limit (length places) .next ≡ ended) × (plainSlots m W C q out ≡ drainSlots m W C q c limit places)
   -- and that of any steps and drains from the fresh cursor to the end
   pub run-agrees : (l : List Ask) → run m W C q c l .next ≡ ended → plainSlots m W C q out ≡ run m W C q c l .slots
 

@@ -95,6 +95,10 @@ fix n W s = putHull W s (hullOf n W s)
 unfoldable pub putNode : List ℕ → ℕ → Entry → Interval → ℕ → ℕ → ℕ → List ℕ
 putNode W s e h left right up = putPar (putKid (putKid (putHull (putEntry W s e) s h) true s left) false s right) s up
 
+-- how many slots so many node words hold
+abbrev pub slotsIn : ℕ → ℕ
+slotsIn words = words / 8
+
 -- "Capacity: the least of node words div 8, colour bytes × 8, and 65,535."
-abbrev pub room : ℕ → ℕ → ℕ
-room words bytes = min (words / 8) (min (bytes * 8) 65535)
+abbrev pub capacity : ℕ → ℕ → ℕ
+capacity words bytes = min (slotsIn words) (min (bytes * 8) 65535)
