@@ -29,15 +29,21 @@ pub struct Node {
     pub red: bool,
 }
 
-// What the check finds of a subtree: whether it is right, its nodes, the blacks on its way down to the left, whether its
-// root is red, its first and its last interval, the hull of its root.
+// What the check finds of a subtree.
 pub struct Found {
+    // every clause of the check holds in the subtree
     pub ok: bool,
+    // how many nodes it has
     pub size: u64,
+    // how many black nodes its leftmost way down passes
     pub blacks: u64,
+    // its root is red
     pub red: bool,
+    // its first interval in tree order
     pub first: Interval,
+    // its last interval in tree order
     pub last: Interval,
+    // the hull of its root
     pub hull: Interval,
 }
 
@@ -182,12 +188,12 @@ fn below(
     if is_leaf(nodes, count, link, parent, height) {
         lone(node_at(nodes, colours, link))
     } else {
-        walk(nodes, colours, count, link, parent, above, height)
+        survey_at(nodes, colours, count, link, parent, above, height)
     }
 }
 
 // The same by its cases.
-fn walk(
+fn survey_at(
     nodes: &[u64],
     colours: &[u8],
     count: u64,
@@ -226,6 +232,6 @@ pub fn audit(nodes: &[u64], colours: &[u8], count: u64, root: u64) -> bool
     ensures { λ r. ⌜ r ≡ wholeOf (now (nodes .entry)) (now (colours .entry)) count root ⌝ }
 {
     let none = Interval { start: 0, end: 0 };
-    let found = walk(nodes, colours, count, root, U, none, 33);
+    let found = survey_at(nodes, colours, count, root, U, none, 33);
     found.ok & (found.size == count) & !found.red
 }

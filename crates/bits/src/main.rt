@@ -3,6 +3,7 @@
 use bitvec::Answer;
 use bitvec::BitVec;
 use libc::STDOUT_FILENO;
+use words::numbers::wide;
 use words::refusal::Refusal;
 
 // The bytes that each call starts from: their bits, from bit 0 on, are 10100101 01011010 11110000.
@@ -25,10 +26,6 @@ fn bit(v: bool) {
     } else {
         number(0);
     }
-}
-
-fn wide(b: u8) -> u64 {
-    b as u64
 }
 
 fn finish(no: u64, v: bool, len: usize, bytes: &[u8]) {

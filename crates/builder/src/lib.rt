@@ -64,7 +64,8 @@ fn put_root(list: &[u64], nodes: &mut [u64], start: usize, end: usize, parent: u
     put_node(nodes, half as u64, entry, hull, left, right, parent);
 }
 
-// Writes the only slot of a span, whose words are `nodes`; the answer is d, extended by its interval.
+// Writes the only slot of a span, whose words are `nodes`; the answer is `so_far`, extended by its
+// interval.
 fn put_leaf(
     list: &[u64],
     nodes: &mut [u64],
@@ -72,21 +73,22 @@ fn put_leaf(
     slot: usize,
     rev_depth: u64,
     parent: u64,
-    d: Interval,
+    so_far: Interval,
 ) -> Interval
     requires { ⌜ Lent (now list) (now nodes) (now colours) slot (slot + 1) «rev_depth» ⌝ }
-    ensures { λ r. ⌜ (r ≡ spanHull (now (list .entry)) «rev_depth» slot (slot + 1) d)
+    ensures { λ r. ⌜ (r ≡ spanHull (now (list .entry)) «rev_depth» slot (slot + 1) «so_far»)
         × (now (nodes .exit) ≡ spanWords (now (list .entry)) «rev_depth» slot (slot + 1) parent)
         × (now (colours .exit) ≡ painted «rev_depth» (now (colours .entry)) slot (slot + 1)) ⌝ }
 {
     let own = interval_at(list, slot);
     put_bit(colours, slot, rev_depth == 1);
     put_node(nodes, 0, entry_at(list, slot), own, U, U, parent);
-    d.extend(own)
+    so_far.extend(own)
 }
 
 // Initializes the slots [start, end), whose words are `nodes`, below `parent`. rev_depth: inverse depth (the top call has a
-// high one, the lowest level has 1, and is red). The answer is d, extended by the intervals of these slots.
+// high one, the lowest level has 1, and is red). The answer is `so_far`, extended by the
+// intervals of these slots.
 fn init_from_sorted(
     list: &[u64],
     nodes: &mut [u64],
@@ -95,18 +97,18 @@ fn init_from_sorted(
     end: usize,
     rev_depth: u64,
     parent: u64,
-    d: Interval,
+    so_far: Interval,
 ) -> Interval
     requires { ⌜ Lent (now list) (now nodes) (now colours) start end «rev_depth» ⌝ }
-    ensures { λ r. ⌜ (r ≡ spanHull (now (list .entry)) «rev_depth» start end d)
+    ensures { λ r. ⌜ (r ≡ spanHull (now (list .entry)) «rev_depth» start end «so_far»)
         × (now (nodes .exit) ≡ spanWords (now (list .entry)) «rev_depth» start end parent)
         × (now (colours .exit) ≡ painted «rev_depth» (now (colours .entry)) start end) ⌝ }
 {
     if end <= start {
-        return d;
+        return so_far;
     }
     if end - start == 1 {
-        return put_leaf(list, nodes, colours, start, rev_depth, parent, d);
+        return put_leaf(list, nodes, colours, start, rev_depth, parent, so_far);
     }
     let half = (end - start) / 2;
     let center = start + half;
@@ -133,7 +135,7 @@ fn init_from_sorted(
         left,
     );
     put_root(list, nodes, start, end, parent, hull);
-    d.extend(hull)
+    so_far.extend(hull)
 }
 
 // Builds the store of the first n triples of the list; the answer is its root. Slots and colour bits from n up stay.

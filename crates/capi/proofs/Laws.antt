@@ -1,5 +1,5 @@
 -- What an export hands out, in the form that `search` takes.
-use mathlib.Core.Path.{_≡_, sym, ap, _∙_}
+use mathlib.Core.Path.{_≡_, sym, _∙_}
 use mathlib.Core.Bool.{Bool, true, false}
 use mathlib.Core.List.{List, [], _∷_}
 use Prim.Native.Nat.{ℕ, _<_, _≤_}
@@ -7,9 +7,7 @@ use native.Mathlib.Omega.{arith}
 use lib.ListN.{length}
 use borrow.Author.Tests.{lt-ltb, le-ltb, ne-eqb}
 use Rattle.words.specs.Ix.{U}
-use Rattle.words.specs.Refusals.{refusalNumber}
 use Rattle.words.specs.declared.interval.Bound.{Bound}
-use Rattle.words.specs.declared.refusal.Refusal.{Refusal}
 use Rattle.iter.specs.Cursors.{ended}
 use Rattle.iter.specs.Drains.{filled}
 use Rattle.iter.specs.declared.Cursor.{Cursor}
@@ -18,10 +16,7 @@ use Rattle.iter.specs.declared.rules.Query.the-variants.{Overlap}
 use Rattle.iter.specs.declared.seek.Step.{Step}
 use Rattle.iter.specs.declared.seek.Step.the-variants.{Hit, End}
 use Rattle.iset.specs.Changes.{Change, change, Output, output}
-use Rattle.iset.specs.Check.{checkNumber}
 use Rattle.iset.specs.declared.Map.{Map}
-use Rattle.iset.specs.declared.Checked.{Checked}
-use Rattle.iset.specs.declared.Checked.the-variants.{Sound, Refused}
 use Rattle.capi.specs.Replies.{Reply, Exit, exit, number, handed, left, exitOf, answerExit, changeExit, outputExit, stepNumbers, foundNumbers}
 
 -- an answer that is too short, whatever the bounds are
@@ -96,14 +91,6 @@ module _ (s : Step) (A X : List ℕ) (c : Cursor) (e : ℕ) where
 
   pub end-put : s ≡ End e → c ≡ ended → X ≡ filled (stepNumbers U c e) A → X ≡ filled (foundNumbers s) A
   end-put q d p = rw q (rw d at p)
-
--- the check's number is its whole answer
-module _ (t : Checked) (k : ℕ) (e : checkNumber t ≡ k) where
-  pub sound-number : t ≡ Sound → 0 ≡ k
-  sound-number q = sym (ap checkNumber q) ∙ e
-
-  pub refused-number : (y : Refusal) (r : ℕ) → t ≡ Refused y → r ≡ refusalNumber y → r ≡ k
-  refused-number y r q p = p ∙ sym (ap checkNumber q) ∙ e
 
 pub range-made : (l h lo hi : Bound) → l ≡ lo → h ≡ hi → _≡_ {A = Query} (Overlap (record { lo = l; hi = h })) (Overlap (record { lo = lo; hi = hi }))
 range-made l h lo hi p q = rw (p, q)

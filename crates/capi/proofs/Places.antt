@@ -13,7 +13,6 @@ use contract.Lifetimes.{Lfts}
 use borrow.Fn.Kinds as K
 use denote.Triple.Clauses.{AtExit}
 use denote.Ref.{now}
-use Rattle.words.specs.declared.interval.Bound.the-variants.{Included, Excluded, Unbounded}
 use Rattle.words.specs.declared.interval.Interval.{Interval}
 use Rattle.words.specs.declared.node.Entry.{Entry}
 use Rattle.iter.specs.Drains.{filled}
@@ -31,7 +30,7 @@ use Rattle.iset.specs.declared.Map.{Map}
 use Rattle.iset.proofs.Refusals.{Lacks, passed-row, failed-row, check-refusals, build-refusals, remove-refusals, insert-refusals, start-refusals, step-refusals, drain-refusals, plain-refusals}
 use Rattle.iset.proofs.BitRefusals.{Fails, le-fails, and-fails}
 use Rattle.capi.specs.Replies.{Reply, Exit, exit, number, handed, exitOf, stepReply, drainReply, plainReply}
-use Rattle.capi.specs.Ranges.{boundOf, rangeOf, kinds}
+use Rattle.capi.specs.Ranges.{rangeOf, kinds}
 use Rattle.capi.specs.Places.{Told, BadBound, stepPlaces, drainPlaces, plainPlaces}
 use Rattle.capi.proofs.iset_check.Reads as check-reads
 use Rattle.capi.proofs.iset_check.Kinds as check-kinds
@@ -57,10 +56,6 @@ use Rattle.capi.proofs.scan.iset_plain.Reads as plain-reads
 use Rattle.capi.proofs.scan.iset_plain.Kinds as plain-kinds
 use Rattle.capi.proofs.scan.iset_plain_exact.Reads as plain-exact-reads
 use Rattle.capi.proofs.scan.iset_plain_exact.Kinds as plain-exact-kinds
-
--- the kinds of a bound: 0 Included, 1 Excluded, 2 Unbounded
-pub bounds-are : (x : ℕ) → (boundOf 0 x ≡ Included x) × (boundOf 1 x ≡ Excluded x) × (boundOf 2 x ≡ Unbounded)
-bounds-are x = (refl, refl, refl)
 
 -- the reply of a call whose number the rows say; b is whether each bound has a kind
 module _ (rows : Rows) (b : Bool) (R : Reply) (A X : List ℕ) (r : ℕ) where

@@ -12,7 +12,6 @@ pub mod scan;
 use crate::answer::put_inserted;
 use crate::answer::put_map;
 use crate::answer::put_removed;
-use iset::Checked;
 use iset::Map;
 use iset::Pair;
 use iset::Pairs;
@@ -38,10 +37,7 @@ pub const BAD_BOUND: u64 = 102;
 pub extern "C" fn iset_check(count: u64, root: u64, nodes: &[u64], colours: &[u8]) -> u64
     ensures { λ r. ⌜ r ≡ checkRule (mapOf count root) (now (nodes .entry)) (now (colours .entry)) ⌝ }
 {
-    match (Map { count, root }).check(nodes, colours) {
-        Checked::Sound => 0,
-        Checked::Refused(why) => why.number(),
-    }
+    (Map { count, root }).check(nodes, colours).number()
 }
 
 // The map of the triples start, end, value of a list. Answer: count, root.

@@ -1,8 +1,8 @@
 // All that the requests work on stands in one arena of numbers, in which a byte is a number too: the copy that the last
 // request worked on, the store that the settings gave, and the bytes of the bit calls. A place is given by where its part
 // begins and its index there; reading outside gives 0 and writing outside does nothing, so that no caller has to know the sizes.
+use words::numbers::wide;
 ghost use mathlib.Core.Path.{_≡_};
-ghost use Prim.Native.Nat.{_≤_};
 ghost use lib.ListN.{length};
 
 // The copy: node words from 0 on, and from here its bytes, the colours or those of the bit calls.
@@ -19,13 +19,6 @@ pub const BYTES: usize = 66560;
 pub const MOST_WORDS: usize = 32768;
 
 pub const MOST_BYTES: usize = 512;
-
-// The lesser of two numbers: how long a part is, cut to what there is.
-pub(crate) fn least(a: usize, b: usize) -> usize
-    ensures { λ r. ⌜ (r ≤ a) × (r ≤ b) ⌝ }
-{
-    if a < b { a } else { b }
-}
 
 pub(crate) fn word(words: &[u64], base: usize, i: usize) -> u64 {
     if base < words.len() {
@@ -81,10 +74,6 @@ pub(crate) fn load(words: &[u64], base: usize, bytes: &mut [u8]) {
         bytes[i] = byte_of(word(words, base, i));
         i += 1;
     }
-}
-
-fn wide(b: u8) -> u64 {
-    b as u64
 }
 
 // Puts the bytes back as those of a part.

@@ -9,6 +9,7 @@ use crate::state::State;
 use bitvec::Answer;
 use bitvec::BitVec;
 use lines::output;
+use words::numbers::least;
 
 pub enum Call {
     Get,
@@ -111,7 +112,7 @@ fn on_copy(call: Call, g: Given, words: &mut [u64], bytes: &mut [u8]) -> Answer 
 
 fn answered(call: Call, g: Given, words: &mut [u64], n: usize) -> Shown {
     let mut bytes = arena::byte_space();
-    let there = arena::least(n, 512);
+    let there = least(n, 512);
     let a = on_copy(call, g, words, &mut bytes[..there]);
     shown_of(a, given_length(call, g.len))
 }

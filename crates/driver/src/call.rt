@@ -1,5 +1,4 @@
 // What a line asks for.
-use crate::arena;
 use crate::bits;
 use crate::given;
 use crate::lookups;
@@ -8,6 +7,7 @@ use crate::map;
 use crate::settings;
 use crate::stacks;
 use lines::input::Line;
+use words::numbers::least;
 
 // Nothing: a comment or an empty line. Unknown: a line that fits nothing.
 pub enum Call {
@@ -21,7 +21,8 @@ pub enum Call {
     Last,
 }
 
-// The names, in the order of `call_at`. A name ends in a space where numbers follow it.
+// The names, in the order of `call_at`. A name ends in a space if numbers follow it. crates/drive/stdin
+// makes every one of these requests, so that a name in a wrong place shows in its answer.
 fn place_of(name: &[u8]) -> usize {
     given::which(
         name,
@@ -89,8 +90,8 @@ fn call_with(call: Call, numbers: &[u64]) -> Call {
 
 // The call with the name and the numbers of the line.
 fn named(line: Line, name: &[u8], numbers: &[u64]) -> Call {
-    let n = arena::least(line.name, name.len());
-    let k = arena::least(line.count, numbers.len());
+    let n = least(line.name, name.len());
+    let k = least(line.count, numbers.len());
     call_with(call_at(place_of(&name[..n])), &numbers[..k])
 }
 

@@ -1,9 +1,9 @@
 // Standard input, line by line.
-use crate::arena;
 use crate::call;
 use crate::call::Call;
 use libc::STDIN_FILENO;
 use lines::input::Line;
+use words::numbers::least;
 ghost use mathlib.Core.Path.{_≡_};
 ghost use lib.ListN.{length};
 
@@ -59,7 +59,7 @@ fn refilled(input: &mut [u8]) -> Byte {
 }
 
 fn next(input: &mut [u8], at: usize, end: usize) -> Byte {
-    if at < arena::least(end, input.len()) {
+    if at < least(end, input.len()) {
         Byte {
             byte: input[at],
             at: at + 1,

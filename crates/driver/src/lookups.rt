@@ -16,6 +16,7 @@ use crate::lookups::reply::Reply;
 use crate::state::State;
 use iset::Map;
 use lines::output;
+use words::numbers::least;
 ghost use mathlib.Core.Path.{_≡_};
 ghost use Prim.Native.Nat.{_≤_};
 ghost use lib.ListN.{length};
@@ -59,7 +60,7 @@ fn has_output(call: Call) -> bool {
 }
 
 // The places of the output, at most 4,096: the last number.
-fn room(call: Call, kind: Kind, numbers: &[u64]) -> u64 {
+fn places(call: Call, kind: Kind, numbers: &[u64]) -> u64 {
     match call {
         Call::Drain => query::after(kind, numbers, 4),
         Call::Plain => query::after(kind, numbers, 0),
@@ -71,7 +72,7 @@ fn room(call: Call, kind: Kind, numbers: &[u64]) -> u64 {
 pub(crate) fn fits(call: Call, kind: Kind, numbers: &[u64]) -> bool {
     (numbers.len() == query::size(kind) + count_of(call))
         & query::fits(kind, numbers)
-        & (room(call, kind, numbers) <= 4096)
+        & (places(call, kind, numbers) <= 4096)
 }
 
 fn done(
@@ -102,9 +103,9 @@ fn in_store(
 ) -> Reply {
     let mut colours = arena::byte_space();
     arena::load(words, COLOURS, &mut colours);
-    let b = arena::least(s.colours, 512);
-    let w = arena::least(WORDS, words.len());
-    let n = arena::least(s.words, words.len() - w);
+    let b = least(s.colours, 512);
+    let w = least(WORDS, words.len());
+    let n = least(s.words, words.len() - w);
     let m = Map {
         count: s.count,
         root: s.root,
@@ -179,6 +180,6 @@ pub(crate) fn request(
     out: &mut [u8],
 ) -> State {
     let mut hits = hits_space();
-    let there = arena::least(room(call, kind, numbers) as usize, 4096);
+    let there = least(places(call, kind, numbers) as usize, 4096);
     into(s, call, kind, numbers, words, &mut hits[..there], out)
 }

@@ -12,6 +12,7 @@ use crate::given;
 use crate::map::reply::Reply;
 use crate::state::State;
 use iset::Map;
+use words::numbers::least;
 
 pub enum Call {
     Check,
@@ -45,7 +46,7 @@ fn on_copy(s: State, call: Call, numbers: &[u64], words: &mut [u64], colours: &m
         count: s.count,
         root: s.root,
     };
-    let nodes = arena::least(s.words, words.len());
+    let nodes = least(s.words, words.len());
     arena::load(words, NEW_BYTES, colours);
     let a = done(call, m, numbers, &mut words[..nodes], colours);
     arena::save(words, NEW_BYTES, colours);
@@ -54,7 +55,7 @@ fn on_copy(s: State, call: Call, numbers: &[u64], words: &mut [u64], colours: &m
 
 fn answered(s: State, call: Call, numbers: &[u64], words: &mut [u64]) -> Reply {
     let mut colours = arena::byte_space();
-    let there = arena::least(s.colours, 512);
+    let there = least(s.colours, 512);
     on_copy(s, call, numbers, words, &mut colours[..there])
 }
 

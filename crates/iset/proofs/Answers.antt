@@ -13,7 +13,8 @@ use borrow.Fn.Kinds as K
 use denote.Triple.Clauses.{AtExit}
 use denote.Ref.{now}
 use Rattle.words.specs.Ix.{U}
-use Rattle.words.specs.Nodes.{room, entry}
+use Rattle.words.specs.Nodes.{capacity, entry}
+use Rattle.words.specs.Lists.{filter}
 use Rattle.words.specs.declared.interval.Interval.{Interval}
 use Rattle.words.specs.declared.node.Entry.{Entry}
 use Rattle.tree.specs.Tree.{slots}
@@ -23,7 +24,6 @@ use Rattle.tree_rm_laws.specs.RemovalGuarantee.{RemovalGuarantee}
 use Rattle.tree_rm_laws.proofs.Removal.{removed}
 use Rattle.tree_in_laws.specs.InsertionGuarantee.{InsertionGuarantee}
 use Rattle.tree_in_laws.proofs.Insertion.{inserted}
-use Rattle.iter.specs.Lists.{those}
 use Rattle.iter.specs.Exact.{equals}
 use Rattle.iter.specs.declared.Cursor.{Cursor}
 use Rattle.iter.specs.declared.drain.Drained.{Drained}
@@ -102,7 +102,7 @@ pub remove-answers : (m : Map) (W C : List ℕ) (s : ℕ) → removeCall m W C s
 unfolding removeCall
 remove-answers m W C s e P =
     let z : removeNumber m W C s ≡ 0 = sym (remove-no m W C s) ∙ e in
-    let h : m .count ≤ room (length W) (length C) = check-zero m W C (removals.accepts m W C s z .0) .0 in
+    let h : m .count ≤ capacity (length W) (length C) = check-zero m W C (removals.accepts m W C s z .0) .0 in
     rw (eq-eqb (removeNumber m W C s) 0 z)
     (refl, removed W C (m .count) (m .root) s (omega arith) (omega arith) (omega arith) (removals.accepts m W C s z .1) P)
 
@@ -116,14 +116,14 @@ unfolding insertCall
 insert-answers m W C e i P =
     let z : insertNumber m W C e ≡ 0 = sym (insert-no m W C e) ∙ i in
     let a = insertions.accepts m W C e z in
-    let h : m .count < room (length W) (length C) = a .0 in
+    let h : m .count < capacity (length W) (length C) = a .0 in
     let d = inserted W C (m .count) (m .root) e (omega arith) (omega arith) (omega arith) (a .2) P in
     rw (eq-eqb (insertNumber m W C e) 0 z) (refl, d .entry-new, refl, d)
 
 -- `fresh_exact`: one level, state 00; "starts at the highest equal node, U if none"
 module _ (m : Map) (W C : List ℕ) (x : Interval) (e : startCall m W C x .no ≡ 0) (P : Passes W C (m .count) (m .root)) where
   abbrev First : Cursor → Type 0
-  First c = ((c .slot ≡ U) × (those (equals W x) (slots (P .tree)) ≡ [])) ⊎ Highest W x (P .tree) (c .slot)
+  First c = ((c .slot ≡ U) × (filter (equals W x) (slots (P .tree)) ≡ [])) ⊎ Highest W x (P .tree) (c .slot)
 
   pub start-answers : (startCall m W C x .cursor ≡ record { slot = startCall m W C x .cursor .slot; levels = 1; bits = 0 }) × First (startCall m W C x .cursor)
   unfolding startCall

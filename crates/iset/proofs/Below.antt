@@ -9,7 +9,7 @@ use lib.ListN.{length}
 use lib.Dec.{eqb, ltb, leb}
 use borrow.Author.Tests.{ne-eqb, ltb-true}
 use Rattle.words.specs.Ix.{U}
-use Rattle.words.specs.Nodes.{room, hi, lo, kid, par, hull}
+use Rattle.words.specs.Nodes.{capacity, hi, lo, kid, par, hull}
 use Rattle.words.specs.Intervals.{reached, admits, contains}
 use Rattle.words.specs.declared.interval.Interval.{Interval}
 use Rattle.words.specs.declared.node.Entry.{Entry}
@@ -222,12 +222,12 @@ module _ (m : Map) (W C X D : List ℕ) (s : SameBelow (m .count) W C X D) where
 
     rule-below : removeNumber m W C t ≡ 0 → SameRemoved n (removeRule W C n (m .root) t) (removeRule X D n (m .root) t)
     rule-below e =
-        let h : m .count ≤ room (length W) (length C) = check-zero m W C (removals.accepts m W C t e .0) .0 in
+        let h : m .count ≤ capacity (length W) (length C) = check-zero m W C (removals.accepts m W C t e .0) .0 in
         removed-below W X C D n (m .root) t (omega arith) (removals.accepts m W C t e .1) (s .words) (s .colours)
 
     sum-below : removeNumber m W C t ≡ 0 → removeReach m W C t ≡ removeReach m X D t
     sum-below e =
-        let h : m .count ≤ room (length W) (length C) = check-zero m W C (removals.accepts m W C t e .0) .0 in
+        let h : m .count ≤ capacity (length W) (length C) = check-zero m W C (removals.accepts m W C t e .0) .0 in
         removal.reach-below W X C D n (m .root) t (omega arith) (removals.accepts m W C t e .1) (s .words) (s .colours)
 
     pub remove-below : SameChange n (removeCall m W C t) (removeCall m X D t)
@@ -246,12 +246,12 @@ module _ (m : Map) (W C X D : List ℕ) (s : SameBelow (m .count) W C X D) where
 
     added-below : insertNumber m W C e ≡ 0 → Alike (n + 1) (insertRule W C n (m .root) e) (insertRule X D n (m .root) e)
     added-below z =
-        let h : m .count < room (length W) (length C) = insertions.accepts m W C e z .0 in
+        let h : m .count < capacity (length W) (length C) = insertions.accepts m W C e z .0 in
         inserted-below W X C D n (m .root) e (omega arith) (omega arith) (s .words) (s .colours)
 
     added-sum-below : insertNumber m W C e ≡ 0 → insertReach m W C e ≡ insertReach m X D e
     added-sum-below z =
-        let h : m .count < room (length W) (length C) = insertions.accepts m W C e z .0 in
+        let h : m .count < capacity (length W) (length C) = insertions.accepts m W C e z .0 in
         insertion.reach-below W X C D n (m .root) e (omega arith) (omega arith) (s .words) (s .colours)
 
     pub insert-below : SameChange (insertCall m W C e .answer .map .count) (insertCall m W C e) (insertCall m X D e)

@@ -7,7 +7,7 @@ use native.Mathlib.Omega.{arith}
 use lib.ListN.{length}
 use lib.Dec.{eqb, ltb}
 use borrow.Author.Tests.{eqb-true, ltb-false, eq-eqb, le-ltb}
-use Rattle.words.specs.Nodes.{room}
+use Rattle.words.specs.Nodes.{capacity}
 use Rattle.builder.specs.Input.{allProper, sorted}
 use Rattle.builder_laws.specs.Input.{Input}
 use Rattle.builder_laws.specs.Built.{Built}
@@ -18,18 +18,18 @@ use Rattle.iset.specs.Build.{buildNumber, buildCall}
 -- whole triples, that the slices hold, proper and never falling
 pub record Accepted (words bytes : ℕ) (S : List ℕ) : Type 0 where
   pub triples : length S % 3 ≡ 0
-  pub room-for : length S / 3 ≤ room words bytes
+  pub room-for : length S / 3 ≤ capacity words bytes
   pub input : Input S (length S / 3)
 
 module _ (words bytes : ℕ) (S : List ℕ) where
   pub accepted : buildNumber words bytes S ≡ 0 → Accepted words bytes S
   unfolding buildNumber
-  accepted e = go (eqb (length S % 3) 0) (ltb (room words bytes) (length S / 3)) (allProper S) (sorted S) refl refl refl refl e
+  accepted e = go (eqb (length S % 3) 0) (ltb (capacity words bytes) (length S / 3)) (allProper S) (sorted S) refl refl refl refl e
     where
-      go : (a b p q : Bool) → eqb (length S % 3) 0 ≡ a → ltb (room words bytes) (length S / 3) ≡ b → allProper S ≡ p → sorted S ≡ q
+      go : (a b p q : Bool) → eqb (length S % 3) 0 ≡ a → ltb (capacity words bytes) (length S / 3) ≡ b → allProper S ≡ p → sorted S ≡ q
           → _≡_ {A = ℕ} (cond a (cond b 1 (cond p (cond q 0 6) 5)) 8) 0 → Accepted words bytes S
       go true false true true f g h i z =
-          record { triples = eqb-true (length S % 3) 0 f; room-for = ltb-false (room words bytes) (length S / 3) g; input = tests-sound S h i }
+          record { triples = eqb-true (length S % 3) 0 f; room-for = ltb-false (capacity words bytes) (length S / 3) g; input = tests-sound S h i }
       go true false true false f g h i z = absurd (omega arith)
       go true false false q f g h i z = absurd (omega arith)
       go true true p q f g h i z = absurd (omega arith)
@@ -39,7 +39,7 @@ module _ (words bytes : ℕ) (S : List ℕ) where
   unfolding buildNumber
   accepts a =
       let t : (allProper S ≡ true) × (sorted S ≡ true) = tests-complete S (a .input) in
-      rw (eq-eqb (length S % 3) 0 (a .triples), le-ltb (room words bytes) (length S / 3) (a .room-for), t .0, t .1)
+      rw (eq-eqb (length S % 3) 0 (a .triples), le-ltb (capacity words bytes) (length S / 3) (a .room-for), t .0, t .1)
 
 -- "The store after every build .. passes the check": the tree is the input in its order, entry k in slot k, and the rest is kept
 pub builds : (W C S : List ℕ) → buildNumber (length W) (length C) S ≡ 0

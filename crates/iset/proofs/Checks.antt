@@ -7,7 +7,7 @@ use native.Mathlib.Omega.{arith}
 use lib.ListN.{length}
 use lib.Dec.{eqb, ltb}
 use borrow.Author.Tests.{ltb-true, ltb-false, lt-ltb, le-ltb, ne-eqb}
-use Rattle.words.specs.Nodes.{room}
+use Rattle.words.specs.Nodes.{capacity}
 use Rattle.tree.specs.Passes.{Passes}
 use Rattle.audit.specs.Survey.{wholeOf}
 use Rattle.audit.proofs.Decides.{audit-sound, audit-complete}
@@ -24,7 +24,7 @@ both-zero (suc k) x e =
 
 module _ (m : Map) (W C : List ℕ) where
   abbrev held : ℕ
-  held = room (length W) (length C)
+  held = capacity (length W) (length C)
 
   -- what the rule's two tests were, from its number
   pub cases : {X : Type 0} (k : ℕ) → checkRule m W C ≡ k → (held < m .count → 1 ≡ k → X) → (m .count ≤ held → Passes W C (m .count) (m .root) → 0 ≡ k → X)

@@ -5,7 +5,7 @@ use Prim.Native.Nat.{ℕ, _+_, _-_, _<_, _≤_}
 use native.Mathlib.Omega.{arith}
 use lib.ListN.{length}
 use borrow.Author.Tests.{eq-eqb}
-use Rattle.words.specs.Nodes.{room}
+use Rattle.words.specs.Nodes.{capacity}
 use Rattle.words.specs.declared.node.Entry.{Entry}
 use Rattle.tree_edit.specs.Reach.{Follows}
 use Rattle.tree_rm_laws.specs.Remove.{Removed, removeRule, removeWith}
@@ -51,7 +51,7 @@ demand-1 m W C =
 
 -- a removal: what the call answers and leaves is what the rule does
 module _ (m : Map) (W C : List ℕ) (s : ℕ) (e : removeNumber m W C s ≡ 0) where
-  fits : m .count ≤ room (length W) (length C)
+  fits : m .count ≤ capacity (length W) (length C)
   fits = check-zero m W C (removals.accepts m W C s e .0) .0
 
   removal-is : removal m W C s ≡ removeRule W C (m .count) (m .root) s
@@ -71,7 +71,7 @@ module _ (m : Map) (W C : List ℕ) (s : ℕ) (e : removeNumber m W C s ≡ 0) w
 
 -- an insertion
 module _ (m : Map) (W C : List ℕ) (x : Entry) (e : insertNumber m W C x ≡ 0) where
-  roomy : m .count < room (length W) (length C)
+  roomy : m .count < capacity (length W) (length C)
   roomy = insertions.accepts m W C x e .0
 
   insertion-is : insertion m W C x ≡ insertRule W C (m .count) (m .root) x

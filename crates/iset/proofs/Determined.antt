@@ -58,6 +58,8 @@ use Rattle.iset.proofs.Map.build.Reads as build-reads
 use Rattle.iset.proofs.Map.build.Kinds as build-kinds
 use Rattle.iset.proofs.remove.Removed.slot_after.Reads as slot-after-reads
 use Rattle.iset.proofs.remove.Removed.slot_after.Kinds as slot-after-kinds
+use Rattle.iset.proofs.Checked.number.Reads as number-reads
+use Rattle.iset.proofs.Checked.number.Kinds as number-kinds
 use Rattle.iset.proofs.Map.new.Reads as new-reads
 use Rattle.iset.proofs.Map.new.Kinds as new-kinds
 use Rattle.iset.proofs.Map.open_insert.Reads as open-insert-reads
@@ -92,6 +94,11 @@ pub new-determined :
     (κs : Lfts 0) (a : K.Dens κs new-kinds.ps) (r r′ : K.resT new-kinds.r κs .Denot) (s s′ : AtExit (K.endedOf 0 new-kinds.ps new-kinds.r) κs)
     → new-reads.Post κs a r s → new-reads.Post κs a r′ s′ → r ≡ r′
 new-determined κs a r r′ s s′ p q = p ∙ sym q
+
+pub number-determined :
+    (κs : Lfts 0) (a : K.Dens κs number-kinds.ps) (r r′ : K.resT number-kinds.r κs .Denot) (s s′ : AtExit (K.endedOf 0 number-kinds.ps number-kinds.r) κs)
+    → number-reads.Post κs a r s → number-reads.Post κs a r′ s′ → r ≡ r′
+number-determined κs a r r′ s s′ p q = p ∙ sym q
 
 -- the check's number says which answer it is
 abbrev checkedAt : ℕ → Checked

@@ -7,6 +7,7 @@ use native.Mathlib.Omega.{arith}
 use lib.ListN.{length}
 use borrow.Author.Tests.{ne-eqb, le-ltb}
 use Rattle.words.specs.Intervals.{proper}
+use Rattle.words.specs.Lists.{filter}
 use Rattle.words.specs.declared.interval.Interval.{Interval}
 use Rattle.words.specs.declared.interval.Span.{Span}
 use Rattle.tree.specs.Tree.{slots}
@@ -15,7 +16,6 @@ use Rattle.iter.specs.Cursors.{fresh}
 use Rattle.iter.specs.Drains as drains
 use Rattle.iter.specs.Exact.{equals}
 use Rattle.iter.specs.Forms.{formOf}
-use Rattle.iter.specs.Lists.{those}
 use Rattle.iter.specs.Overlap.{meets}
 use Rattle.iter.specs.Queries.{rules}
 use Rattle.iter.specs.declared.Cursor.{Cursor}
@@ -77,7 +77,7 @@ module _ (m : Map) (W C : List ℕ) where
   no-room q c e = rw (zero-number q c 0, e) refl
 
   overlap-places : checkRule m W C ≡ 0 → (q : Span) → (BadRange (q .lo) (q .hi) → ⊥) → (P : Passes W C (m .count) (m .root)) (out : List ℕ)
-      → Fits (drainCall m W C (Overlap q) (fresh (m .root)) 0 out) (those (meets W q) (slots (P .tree))) out
+      → Fits (drainCall m W C (Overlap q) (fresh (m .root)) 0 out) (filter (meets W q) (slots (P .tree))) out
   unfolding drainCall rules
   overlap-places sound q ranged P out =
       let e : startNumber m W C (Overlap q) ≡ 0 = range-started m W C sound q ranged in
@@ -86,7 +86,7 @@ module _ (m : Map) (W C : List ℕ) where
       record { accepted = rw z refl; hits = rw z (ap length f); written = rw (z, f) refl }
 
   exact-places : checkRule m W C ≡ 0 → (x : Interval) → (BadInterval (x .start) (x .end) → ⊥) → (P : Passes W C (m .count) (m .root)) (out : List ℕ)
-      → Fits (drainCall m W C (Exact x) (startCall m W C x .cursor) 0 out) (those (equals W x) (slots (P .tree))) out
+      → Fits (drainCall m W C (Exact x) (startCall m W C x .cursor) 0 out) (filter (equals W x) (slots (P .tree))) out
   unfolding drainCall rules
   exact-places sound x proper P out =
       let e : startNumber m W C (Exact x) ≡ 0 = interval-started m W C sound x proper in

@@ -5,7 +5,7 @@ use Prim.Native.Nat.{ℕ, _≤_}
 use native.Mathlib.Omega.{arith}
 use lib.ListN.{length}
 use borrow.Author.Tests.{eq-eqb}
-use Rattle.words.specs.Nodes.{room}
+use Rattle.words.specs.Nodes.{capacity}
 use Rattle.tree.specs.Passes.{Passes}
 use Rattle.iter.specs.Cursors.{fresh}
 use Rattle.iter.specs.Forms.{formOf}
@@ -22,7 +22,7 @@ module _ (m : Map) (W C : List ℕ) (q : Query) (e : startNumber m W C q ≡ 0) 
   tree-of = check-zero m W C (start-accepts m W C q e .0) .1
 
   pub few : m .count ≤ 65535
-  few = let h : m .count ≤ room (length W) (length C) = check-zero m W C (start-accepts m W C q e .0) .0 in omega arith
+  few = let h : m .count ≤ capacity (length W) (length C) = check-zero m W C (start-accepts m W C q e .0) .0 in omega arith
 
   -- the fresh cursor is accepted
   pub fresh-accepted : stepNumber m W C q (fresh (beginning m W q)) ≡ 0

@@ -8,7 +8,7 @@ use native.Mathlib.Omega.{arith}
 use lib.ListN.{length}
 use lib.Dec.{ltb}
 use borrow.Author.Tests.{ltb-true, lt-ltb, le-ltb, ne-eqb}
-use Rattle.words.specs.Nodes.{room}
+use Rattle.words.specs.Nodes.{capacity}
 use Rattle.words.specs.declared.node.Entry.{Entry}
 use Rattle.tree.specs.Passes.{Passes}
 use Rattle.tree_in_laws.specs.Insert.{insertRule}
@@ -21,7 +21,7 @@ use Rattle.iset.proofs.Checks.{both-zero, check-zero}
 
 module _ (m : Map) (W C : List ℕ) (e : Entry) where
   abbrev held : ℕ
-  held = room (length W) (length C)
+  held = capacity (length W) (length C)
 
   -- 1 if the count has reached the capacity or is above it
   pub no-room : held ≤ m .count → insertNumber m W C e ≡ 1

@@ -7,7 +7,7 @@ use native.Mathlib.Omega.{arith}
 use lib.ListN.{length}
 use lib.Dec.{eqb, ltb}
 use borrow.Author.Tests.{lt-ltb, le-ltb, ltb-false, eq-eqb, ne-eqb}
-use Rattle.words.specs.Nodes.{room}
+use Rattle.words.specs.Nodes.{capacity}
 use Rattle.words.specs.Refusals.{refusalNumber}
 use Rattle.words.specs.declared.node.Entry.{Entry}
 use Rattle.words.specs.declared.refusal.Refusal.{Refusal}
@@ -30,18 +30,18 @@ use Rattle.iset.proofs.Removals.{open-accepts}
 use Rattle.iset.proofs.Insertions as insertions
 
 -- a count that the slices hold
-module _ (n words bytes c : ℕ) (e : c ≡ room words bytes) where
-  pub over-room : {A : Type 0} (r x y : A) → c < n → r ≡ x → r ≡ cond (ltb (room words bytes) n) x y
+module _ (n words bytes c : ℕ) (e : c ≡ capacity words bytes) where
+  pub over-room : {A : Type 0} (r x y : A) → c < n → r ≡ x → r ≡ cond (ltb (capacity words bytes) n) x y
   over-room r x y h q = rw (← e, lt-ltb c n h) q
 
-  pub in-room : {A : Type 0} (r x y : A) → n ≤ c → r ≡ y → r ≡ cond (ltb (room words bytes) n) x y
+  pub in-room : {A : Type 0} (r x y : A) → n ≤ c → r ≡ y → r ≡ cond (ltb (capacity words bytes) n) x y
   in-room r x y h q = rw (← e, le-ltb c n h) q
 
   -- and one entry more than that
-  pub has-room : {A : Type 0} (r x y : A) → n < c → r ≡ x → r ≡ cond (ltb n (room words bytes)) x y
+  pub has-room : {A : Type 0} (r x y : A) → n < c → r ≡ x → r ≡ cond (ltb n (capacity words bytes)) x y
   has-room r x y h q = rw (← e, lt-ltb n c h) q
 
-  pub is-full : {A : Type 0} (r x y : A) → c ≤ n → r ≡ y → r ≡ cond (ltb n (room words bytes)) x y
+  pub is-full : {A : Type 0} (r x y : A) → c ≤ n → r ≡ y → r ≡ cond (ltb n (capacity words bytes)) x y
   is-full r x y h q = rw (← e, le-ltb n c h) q
 
 -- a test that a function made, whose rule is d, and what it leads to
@@ -58,14 +58,14 @@ module _ {A : Type 0} (k : ℕ) (t : Checked) (e : checkNumber t ≡ k) (r x y :
 
 -- what a build's tests leave: lists of triples that the slices hold
 module _ (words bytes : ℕ) (S : List ℕ) (t : Checked) (e : checkNumber t ≡ buildNumber words bytes S) (q : t ≡ Sound) where
-  built-room : length S / 3 ≤ room words bytes
+  built-room : length S / 3 ≤ capacity words bytes
   unfolding buildNumber
-  built-room = go (eqb (length S % 3) 0) (ltb (room words bytes) (length S / 3)) refl (sym e ∙ ap checkNumber q)
+  built-room = go (eqb (length S % 3) 0) (ltb (capacity words bytes) (length S / 3)) refl (sym e ∙ ap checkNumber q)
     where
-      go : (a b : Bool) → ltb (room words bytes) (length S / 3) ≡ b
-          → _≡_ {A = ℕ} (cond a (cond b 1 (cond (allProper S) (cond (sorted S) 0 6) 5)) 8) 0 → length S / 3 ≤ room words bytes
+      go : (a b : Bool) → ltb (capacity words bytes) (length S / 3) ≡ b
+          → _≡_ {A = ℕ} (cond a (cond b 1 (cond (allProper S) (cond (sorted S) 0 6) 5)) 8) 0 → length S / 3 ≤ capacity words bytes
       go true true p z = absurd (omega arith)
-      go true false p z = ltb-false (room words bytes) (length S / 3) p
+      go true false p z = ltb-false (capacity words bytes) (length S / 3) p
       go false b p z = absurd (omega arith)
 
   pub built-few : length S / 3 ≤ 65535
@@ -99,9 +99,9 @@ module _ (k : ℕ) (t : Checked) (z : Refusal) (e : checkNumber t ≡ k) (q : t 
   pub refused-insertion : (m : Map) → change (refusedInsertion m (refusalNumber z)) W C ≡ change (refusedInsertion m k) W C
   refused-insertion m = ap (λ (i : ℕ). change (refusedInsertion m i) W C) same-number
 
--- what the tests of a removal leave: a slot that is there, in slices with room
+-- what the tests of a removal leave: a slot that is there, in slices with places
 module _ (m : Map) (W C : List ℕ) (s : ℕ) (t : Checked) (e : checkNumber t ≡ openRemoveNumber m W C s) (q : t ≡ Sound) where
-  removable : (m .count ≤ room (length W) (length C)) × (s < m .count)
+  removable : (m .count ≤ capacity (length W) (length C)) × (s < m .count)
   removable = open-accepts m W C s (sym e ∙ ap checkNumber q)
 
   pub removable-words : m .count * 8 ≤ length W
@@ -120,9 +120,9 @@ pub removed-slot : (a : Removed) (X K : List ℕ) (R : rule.Removed) → removal
     (change (removeDone m R k) (R .store .words) (R .store .colours))
 removed-slot a X K R e m k f = λ t. change (removeDone m (e t) (f t)) (e t .store .words) (e t .store .colours)
 
--- what the tests of an insertion leave: slices with room for one entry more
+-- what the tests of an insertion leave: slices with places for one entry more
 module _ (m : Map) (W C : List ℕ) (e : Entry) (t : Checked) (f : checkNumber t ≡ openInsertNumber m W C e) (q : t ≡ Sound) where
-  insertable : m .count < room (length W) (length C)
+  insertable : m .count < capacity (length W) (length C)
   insertable = insertions.open-accepts m W C e (sym f ∙ ap checkNumber q) .0
 
   pub insertable-words : m .count * 8 + 8 ≤ length W

@@ -7,7 +7,7 @@ use native.Mathlib.Omega.{arith}
 use lib.ListN.{length}
 use lib.Dec.{ltb}
 use borrow.Author.Tests.{ltb-false, lt-ltb, le-ltb}
-use Rattle.words.specs.Nodes.{room}
+use Rattle.words.specs.Nodes.{capacity}
 use Rattle.words.specs.Refusals.{refusalNumber}
 use Rattle.words.specs.Intervals.{admits, proper}
 use Rattle.words.specs.declared.interval.Bound.{Bound}
@@ -66,7 +66,7 @@ module _ (m : Map) (W C : List ℕ) (q : Query) where
         both-zero (openStepNumber m W C q c) (cond (ltb out (drains.limitOf limit out)) 9 0) e in
         (z .0, holds limit out (z .1))
 
-  held : openStartNumber m W C q ≡ 0 → m .count ≤ room (length W) (length C)
+  held : openStartNumber m W C q ≡ 0 → m .count ≤ capacity (length W) (length C)
   held e = count-zero m W C (open-start-accepts e .0)
 
 -- and a public one
@@ -93,10 +93,10 @@ module _ (m : Map) (W C : List ℕ) (q : Query) (t : Checked) (s : t ≡ Sound) 
   start-words e = omega (arith, held m W C q (sym e ∙ ap checkNumber s))
 
   module _ (c : Cursor) where
-    fit : openStepNumber m W C q c ≡ 0 → (m .count ≤ room (length W) (length C)) × Placed (m .count) c
+    fit : openStepNumber m W C q c ≡ 0 → (m .count ≤ capacity (length W) (length C)) × Placed (m .count) c
     fit e =
         let a : (openStartNumber m W C q ≡ 0) × (formNumber (formOf W (m .count) (beginning m W q) c) ≡ 0) = open-step-accepts m W C q c e in
-        let h : m .count ≤ room (length W) (length C) = held m W C q (a .0) in
+        let h : m .count ≤ capacity (length W) (length C) = held m W C q (a .0) in
         (h, form-placed W (m .count) (beginning m W q) c (formOf W (m .count) (beginning m W q) c) refl (not-bad _ (a .1)) (omega arith))
 
     module _ (e : checkNumber t ≡ openStepNumber m W C q c) where

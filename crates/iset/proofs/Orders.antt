@@ -8,7 +8,7 @@ use native.Mathlib.Omega.{arith}
 use lib.ListN.{length}
 use lib.Dec.{eqb, ltb, leb}
 use borrow.Author.Tests.{ne-eqb}
-use Rattle.words.specs.Nodes.{room}
+use Rattle.words.specs.Nodes.{capacity}
 use Rattle.words.specs.declared.node.Entry.{Entry}
 use Rattle.iter.specs.Drains.{limitOf}
 use Rattle.iter.specs.Forms.{formOf}
@@ -39,9 +39,9 @@ module _ (m : Map) (W C : List ℕ) where
 
   -- a full store, then the check, then the interval
   pub insert-order : (e : Entry)
-      → insertNumber m W C e ≡ cond (ltb (m .count) (room (length W) (length C))) (first (checkRule m W C) (cond (ltb (e .start) (e .end)) 0 5)) 1
+      → insertNumber m W C e ≡ cond (ltb (m .count) (capacity (length W) (length C))) (first (checkRule m W C) (cond (ltb (e .start) (e .end)) 0 5)) 1
   unfolding insertNumber roomThenCheck openInsertNumber fullNumber
-  insert-order e = go (ltb (m .count) (room (length W) (length C)))
+  insert-order e = go (ltb (m .count) (capacity (length W) (length C)))
     where
       go : (t : Bool) → first (first (cond t 0 1) (checkRule m W C)) (first (cond t 0 1) (cond (ltb (e .start) (e .end)) 0 5))
           ≡ cond t (first (checkRule m W C) (cond (ltb (e .start) (e .end)) 0 5)) 1

@@ -10,10 +10,10 @@ use lib.Seq.{take-append-seam}
 use lib.Dec.{leb}
 use borrow.Author.Tests.{eq-eqb, le-leb, leb-true, le-ltb}
 use Rattle.words.specs.Refusals.{refusalNumber}
+use Rattle.words.specs.Lists.{filter}
 use Rattle.words.specs.declared.refusal.Refusal.{Refusal}
 use Rattle.tree.specs.Tree.{slots}
 use Rattle.tree.specs.Passes.{Passes}
-use Rattle.iter.specs.Lists.{those}
 use Rattle.iter.specs.Cursors.{fresh, ended}
 use Rattle.iter.specs.Drains.{limitOf, filled}
 use Rattle.iter.specs.Queries.{rules}
@@ -46,7 +46,7 @@ places-held n places e = go (leb n places) refl e
     go true f y = leb-true n places f
     go false f y = absurd (omega arith)
 
--- what the tests of an opened lookup leave: slices with room
+-- what the tests of an opened lookup leave: slices with places
 module _ (m : Map) (W C : List ℕ) (q : Query) (places : ℕ) (t : Checked) (e : checkNumber t ≡ openPlainNumber m W C q places) (s : t ≡ Sound) where
   passed : (openStartNumber m W C q ≡ 0) × (_≡_ {A = ℕ} (cond (leb (m .count) places) 0 9) 0)
   unfolding openPlainNumber
@@ -79,7 +79,7 @@ counted out e f = λ i. output (record { no = 0; hits = length (e i); entered = 
 -- An accepted lookup into an output that holds every entry. The store's tree is that of P, and L is a lookup of the same by steps and drains.
 module _ (m : Map) (W C : List ℕ) (q : Query) (e : startNumber m W C q ≡ 0) (P : Passes W C (m .count) (m .root)) (out : List ℕ) (h : m .count ≤ length out) where
   abbrev found : List ℕ
-  found = those (rules W (m .count) q .match) (slots (P .tree))
+  found = filter (rules W (m .count) q .match) (slots (P .tree))
 
   plain-zero : plainNumber m W C q (length out) ≡ 0
   plain-zero = plain-order m W C q (length out) ∙ rw (e, le-leb (m .count) (length out) h)
@@ -101,11 +101,11 @@ module _ (m : Map) (W C : List ℕ) (q : Query) (e : startNumber m W C q ≡ 0) 
     run-same : (l : List Ask) → run m W C q c l .next ≡ ended → plainSlots m W C q out ≡ run m W C q c l .slots
     run-same l i = slots-are ∙ sym (L l .slots-all i)
 
-    drain-same : (limit : ℕ) (room : List ℕ) → length found < limitOf limit (length room) → limitOf limit (length room) ≤ length room
-        → (drainCall m W C q c limit room .answer .next ≡ ended) × (plainSlots m W C q out ≡ drainSlots m W C q c limit room)
-    drain-same limit room k f =
-        let l : List Ask = drain limit room ∷ [] in
-        let w : total l ≡ limitOf limit (length room) = rw (le-ltb (length room) (limitOf limit (length room)) f, add-zero) in
+    drain-same : (limit : ℕ) (places : List ℕ) → length found < limitOf limit (length places) → limitOf limit (length places) ≤ length places
+        → (drainCall m W C q c limit places .answer .next ≡ ended) × (plainSlots m W C q out ≡ drainSlots m W C q c limit places)
+    drain-same limit places k f =
+        let l : List Ask = drain limit places ∷ [] in
+        let w : total l ≡ limitOf limit (length places) = rw (le-ltb (length places) (limitOf limit (length places)) f, add-zero) in
         let i : run m W C q c l .next ≡ ended = L l .ends (rw w k) in
         (i, run-same l i ∙ append-nil _)
 

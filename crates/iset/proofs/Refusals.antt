@@ -15,7 +15,7 @@ use borrow.Fn.Kinds as K
 use denote.Triple.Clauses.{AtExit}
 use denote.Ref.{now}
 use Rattle.words.specs.Ix.{U}
-use Rattle.words.specs.Nodes.{room}
+use Rattle.words.specs.Nodes.{capacity}
 use Rattle.words.specs.declared.interval.Bound.{Bound}
 use Rattle.words.specs.declared.interval.Bound.the-variants.{Included, Excluded, Unbounded}
 use Rattle.words.specs.declared.interval.Interval.{Interval}
@@ -184,26 +184,26 @@ module _ (W C S : List ℕ) where
   from-5 = refuse 5 Improper from-6
 
   abbrev from-1 : Rows
-  from-1 = refuse 1 (room (length W) (length C) < length S / 3) from-5
+  from-1 = refuse 1 (capacity (length W) (length C) < length S / 3) from-5
 
   build-5 : Exactly from-5 (cond (allProper S) (cond (sorted S) 0 6) 5)
   build-5 =
       passed-row 5 Improper from-6 (cond (sorted S) 0 6) (allProper S) (omega arith) proper-not improper
       (λ v. passed-row 6 Falls accept 0 (sorted S) (omega arith) sorted-not falls (λ w. refl))
 
-  build-1 : Exactly from-1 (cond (ltb (room (length W) (length C)) (length S / 3)) 1 (cond (allProper S) (cond (sorted S) 0 6) 5))
+  build-1 : Exactly from-1 (cond (ltb (capacity (length W) (length C)) (length S / 3)) 1 (cond (allProper S) (cond (sorted S) 0 6) 5))
   build-1 =
-      failed-row 1 (room (length W) (length C) < length S / 3) from-5 (cond (allProper S) (cond (sorted S) 0 6) 5)
-      (ltb (room (length W) (length C)) (length S / 3)) (omega arith)
-      (λ u. ltb-true (room (length W) (length C)) (length S / 3) u)
-      (λ u p. omega (arith, ltb-false (room (length W) (length C)) (length S / 3) u)) (λ u. build-5)
+      failed-row 1 (capacity (length W) (length C) < length S / 3) from-5 (cond (allProper S) (cond (sorted S) 0 6) 5)
+      (ltb (capacity (length W) (length C)) (length S / 3)) (omega arith)
+      (λ u. ltb-true (capacity (length W) (length C)) (length S / 3) u)
+      (λ u p. omega (arith, ltb-false (capacity (length W) (length C)) (length S / 3) u)) (λ u. build-5)
 
   pub build-refusals : Exactly (buildRows W C S) (buildCall W C S .answer .no)
   unfolding buildNumber
   build-refusals =
       rw build-no
       (passed-row 8 (length S % 3 ≡ 0 → ⊥) from-1
-      (cond (ltb (room (length W) (length C)) (length S / 3)) 1 (cond (allProper S) (cond (sorted S) 0 6) 5)) (eqb (length S % 3) 0) (omega arith)
+      (cond (ltb (capacity (length W) (length C)) (length S / 3)) 1 (cond (allProper S) (cond (sorted S) 0 6) 5)) (eqb (length S % 3) 0) (omega arith)
       (λ t p. p (eqb-true (length S % 3) 0 t)) (λ t i. true≢false (sym (eq-eqb (length S % 3) 0 i) ∙ t)) (λ t. build-1))
 
   -- "a refused build: count 0, root U"
@@ -242,7 +242,7 @@ module _ (m : Map) (W C : List ℕ) (s : ℕ) where
 -- An insertion.
 module _ (m : Map) (W C : List ℕ) (e : Entry) where
   abbrev held : ℕ
-  held = room (length W) (length C)
+  held = capacity (length W) (length C)
 
   pub insert-no : insertCall m W C e .answer .no ≡ insertNumber m W C e
   unfolding insertCall

@@ -8,7 +8,7 @@ use native.Mathlib.Omega.{arith}
 use lib.ListN.{length}
 use lib.Dec.{ltb}
 use borrow.Author.Tests.{ltb-true, lt-ltb, le-ltb, ne-eqb}
-use Rattle.words.specs.Nodes.{room}
+use Rattle.words.specs.Nodes.{capacity}
 use Rattle.tree.specs.Passes.{Passes}
 use Rattle.tree_rm_laws.specs.Remove.{removeRule}
 use Rattle.tree_rm_laws.specs.RemovalGuarantee.{RemovalGuarantee}
@@ -33,7 +33,7 @@ module _ (m : Map) (W C : List ℕ) (s : ℕ) where
   unfolding removeNumber openRemoveNumber
   accepted e h = rw (e, checked-count m W C e, lt-ltb s (m .count) h)
 
-  pub open-accepts : openRemoveNumber m W C s ≡ 0 → (m .count ≤ room (length W) (length C)) × (s < m .count)
+  pub open-accepts : openRemoveNumber m W C s ≡ 0 → (m .count ≤ capacity (length W) (length C)) × (s < m .count)
   unfolding openRemoveNumber
   open-accepts e =
       let z : (countNumber m W C ≡ 0) × (_≡_ {A = ℕ} (cond (ltb s (m .count)) 0 3) 0) = both-zero (countNumber m W C) (cond (ltb s (m .count)) 0 3) e in
@@ -56,5 +56,5 @@ module _ (m : Map) (W C : List ℕ) (s : ℕ) where
   -- what the rule gives; `removes` of Demands says it of the call
   pub by-rule : (e : removeNumber m W C s ≡ 0) → RemovalGuarantee W C (m .count) (m .root) s (tree-before e) (removeRule W C (m .count) (m .root) s)
   by-rule e =
-      let h : m .count ≤ room (length W) (length C) = check-zero m W C (accepts e .0) .0 in
+      let h : m .count ≤ capacity (length W) (length C) = check-zero m W C (accepts e .0) .0 in
       removed W C (m .count) (m .root) s (omega arith) (omega arith) (omega arith) (accepts e .1) (tree-before e)

@@ -12,13 +12,14 @@ use lib.Dec.{ltb}
 use borrow.Author.Tests.{eq-eqb, le-ltb, lt-ltb}
 use Rattle.words.specs.Ix.{U}
 use Rattle.words.specs.Nodes.{par}
+use Rattle.words.specs.Lists.{filter}
 use Rattle.words.specs.declared.interval.Interval.{Interval}
 use Rattle.words.specs.declared.interval.Span.{Span}
 use Rattle.tree.specs.Tree.{Tree, leaf, node}
 use Rattle.tree.specs.Tree as tree
 use Rattle.tree.specs.Passes.{Passes}
 use Rattle.tree.proofs.Checked.{tree-low}
-use Rattle.iter.specs.Lists.{when, those}
+use Rattle.iter.specs.Lists.{when}
 use Rattle.iter.specs.Cursors.{fresh}
 use Rattle.iter.specs.Forms.{formOf}
 use Rattle.iter.specs.Overlap.{meets}
@@ -179,7 +180,7 @@ module _ (m : Map) (W C : List ℕ) (q : Query) (start : startNumber m W C q ≡
       )
 
   -- from the fresh cursor
-  pub looked : (l : List Ask) → Lookup m W C q (fresh k) (those (Q .match) (tree.slots t)) (entered E t) l
+  pub looked : (l : List Ask) → Lookup m W C q (fresh k) (filter (Q .match) (tree.slots t)) (entered E t) l
   looked l =
       let a : Accepted (fresh k) = fresh-accepted m W C q start in
       let is : run m W C q (fresh k) l ≡ whole (total l) (fresh k) = run-is l (fresh k) a in
@@ -216,7 +217,7 @@ module _ (m : Map) (W C : List ℕ) (q : Span) (e : startNumber m W C (Overlap q
   overlap-w = overlap-walk W C (m .count) (m .root) q (few m W C (Overlap q) e) P
 
   overlap-lookup : (l : List Ask)
-      → Lookup m W C (Overlap q) (fresh (m .root)) (those (meets W q) (tree.slots (P .tree))) (entered (overlapRule W q) (P .tree)) l
+      → Lookup m W C (Overlap q) (fresh (m .root)) (filter (meets W q) (tree.slots (P .tree))) (entered (overlapRule W q) (P .tree)) l
   unfolding rules
   overlap-lookup l = looked m W C (Overlap q) e (overlapRule W q) U (P .tree) overlap-w l
 
@@ -253,7 +254,7 @@ module _ (m : Map) (W C : List ℕ) (x : Interval) (e : startNumber m W C (Exact
 
   -- the tree that it goes through, and the walk through it; all equal entries are in it
   from-tree : {X : Type 0} → ((p : ℕ) (t : Tree) → Begins W x (P .tree) b t → Walk W (m .count) Z (exactRule W x) p b t
-      → those (equals W x) (tree.slots t) ≡ those (equals W x) (tree.slots (P .tree)) → X) → X
+      → filter (equals W x) (tree.slots t) ≡ filter (equals W x) (tree.slots (P .tree)) → X) → X
   unfolding rules
   from-tree f =
       exact-start W C (m .count) (m .root) x small P

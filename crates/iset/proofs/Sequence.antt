@@ -8,7 +8,7 @@ use native.Mathlib.Omega.{arith}
 use lib.ListN.{length}
 use lib.Dec.{eqb}
 use borrow.Author.Tests.{eq-eqb, ne-eqb}
-use Rattle.words.specs.Nodes.{room}
+use Rattle.words.specs.Nodes.{capacity}
 use Rattle.words.specs.declared.node.Entry.{Entry}
 use Rattle.tree.specs.Tree.{leaf}
 use Rattle.tree.specs.Passes.{Passes}
@@ -40,15 +40,15 @@ use Rattle.iset.proofs.Removals as removals
 abbrev pub builtStore : List ℕ → List ℕ → List ℕ → Store
 builtStore W C S = let b = buildCall W C S in store (b .words) (b .colours) (b .answer .map .root)
 
--- a build, and any insertions and removals after it that find their slot or room
+-- a build, and any insertions and removals after it that find their slot or places
 pub build-then-change : (W C S : List ℕ) (l : List Change) → buildNumber (length W) (length C) S ≡ 0
-    → TakesAll (room (length W) (length C)) (length S / 3) l
+    → TakesAll (capacity (length W) (length C)) (length S / 3) l
     → Passes (run (builtStore W C S) (length S / 3) l .words) (run (builtStore W C S) (length S / 3) l .colours) (total (length S / 3) l)
     (run (builtStore W C S) (length S / 3) l .root)
 build-then-change W C S l e t =
     let a : Accepted (length W) (length C) S = accepted (length W) (length C) S e in
     let b = builds W C S e in
-    ran l (builtStore W C S) (length S / 3) (room (length W) (length C)) (omega arith) (omega (arith, b .words-length))
+    ran l (builtStore W C S) (length S / 3) (capacity (length W) (length C)) (omega arith) (omega (arith, b .words-length))
     (omega (arith, b .bits-length)) (a .room-for) (b .passes) t .0
 
 -- the map of no entries passes in any words
@@ -93,7 +93,7 @@ module _ (m : Map) (W C : List ℕ) where
       (empty-passes W C)
 
   module _ (h : Sound S) where
-    fits : m .count ≤ room (length W) (length C)
+    fits : m .count ≤ capacity (length W) (length C)
     fits = check-zero m W C h .0
 
     remove-sound : (s : ℕ) → Sound (answered S (remove s))

@@ -4,7 +4,7 @@ use mathlib.Core.List.{List}
 use Prim.Native.Nat.{ℕ, _/_, _%_}
 use lib.ListN.{length}
 use lib.Dec.{eqb, ltb}
-use Rattle.words.specs.Nodes.{room}
+use Rattle.words.specs.Nodes.{capacity}
 use Rattle.words.specs.Refusals.{refusalNumber}
 use Rattle.builder.specs.Input.{allProper, sorted}
 use Rattle.builder.specs.Build.{buildWords, buildColours, buildRoot}
@@ -18,7 +18,7 @@ use Rattle.iset.specs.declared.build.Built.the-variants.{Done, Refused}
 unfoldable pub buildNumber : ℕ → ℕ → List ℕ → ℕ
 buildNumber words bytes S =
     cond (eqb (length S % 3) 0)
-    (cond (ltb (room words bytes) (length S / 3)) 1 (cond (allProper S) (cond (sorted S) 0 6) 5))
+    (cond (ltb (capacity words bytes) (length S / 3)) 1 (cond (allProper S) (cond (sorted S) 0 6) 5))
     8
 
 -- what it answers: the refusal's number and the new map

@@ -4,7 +4,7 @@ use mathlib.Core.List.{List}
 use Prim.Native.Nat.{ℕ}
 use lib.ListN.{length}
 use lib.Dec.{eqb, ltb}
-use Rattle.words.specs.Nodes.{room}
+use Rattle.words.specs.Nodes.{capacity}
 use Rattle.words.specs.Refusals.{refusalNumber}
 use Rattle.audit.specs.Survey.{wholeOf}
 use Rattle.iset.specs.declared.Map.{Map}
@@ -22,8 +22,8 @@ first k x = cond (eqb k 0) x k
 
 -- 1: "count .. above capacity". It is all that a call on an opened store, one that passed the check before, tests of it.
 unfoldable pub countNumber : Map → List ℕ → List ℕ → ℕ
-countNumber m W C = cond (ltb (room (length W) (length C)) (m .count)) 1 0
+countNumber m W C = cond (ltb (capacity (length W) (length C)) (m .count)) 1 0
 
 -- 1: "count .. above capacity"; 2: "the check fails"
 unfoldable pub checkRule : Map → List ℕ → List ℕ → ℕ
-checkRule m W C = cond (ltb (room (length W) (length C)) (m .count)) 1 (cond (wholeOf W C (m .count) (m .root)) 0 2)
+checkRule m W C = cond (ltb (capacity (length W) (length C)) (m .count)) 1 (cond (wholeOf W C (m .count) (m .root)) 0 2)

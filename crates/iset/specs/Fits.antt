@@ -5,6 +5,7 @@ use mathlib.Core.List.{List, []}
 use Prim.Native.Nat.{ℕ, suc}
 use lib.Dec.{eqb}
 use lib.ListN.{length, take}
+use Rattle.words.specs.Lists.{filter}
 use Rattle.words.specs.declared.interval.Interval.{Interval}
 use Rattle.words.specs.declared.interval.Span.{Span}
 use Rattle.tree.specs.Tree.{slots}
@@ -12,7 +13,6 @@ use Rattle.tree.specs.Passes.{Passes}
 use Rattle.iter.specs.Cursors.{fresh}
 use Rattle.iter.specs.Drains.{limitOf, filled}
 use Rattle.iter.specs.Exact.{equals}
-use Rattle.iter.specs.Lists.{those}
 use Rattle.iter.specs.Overlap.{meets}
 use Rattle.iter.specs.declared.Cursor.{Cursor}
 use Rattle.iter.specs.declared.rules.Query.{Query}
@@ -39,9 +39,9 @@ pub record Request8 (m : Map) (W C : List ℕ) : Type 0 where
   pub never-short : (q : Query) (c : Cursor) (places : ℕ) → drainNumber m W C q c 0 places ≡ 9 → ⊥
   -- "Zero should mean as many as fit", from the fresh cursor of an accepted lookup on a checked store
   pub overlap-fits : checkRule m W C ≡ 0 → (q : Span) → (BadRange (q .lo) (q .hi) → ⊥) → (P : Passes W C (m .count) (m .root)) (out : List ℕ)
-      → Fits (drainCall m W C (Overlap q) (fresh (m .root)) 0 out) (those (meets W q) (slots (P .tree))) out
+      → Fits (drainCall m W C (Overlap q) (fresh (m .root)) 0 out) (filter (meets W q) (slots (P .tree))) out
   pub exact-fits : checkRule m W C ≡ 0 → (x : Interval) → (BadInterval (x .start) (x .end) → ⊥) → (P : Passes W C (m .count) (m .root)) (out : List ℕ)
-      → Fits (drainCall m W C (Exact x) (startCall m W C x .cursor) 0 out) (those (equals W x) (slots (P .tree))) out
+      → Fits (drainCall m W C (Exact x) (startCall m W C x .cursor) 0 out) (filter (equals W x) (slots (P .tree))) out
   -- "An output of length 0 gets no hits and its cursor back unmoved", from any cursor that is accepted
   pub no-places : (q : Query) (c : Cursor) → stepNumber m W C q c ≡ 0 → drainCall m W C q c 0 [] ≡ output (record { no = 0; hits = 0; entered = 0; next = c }) []
   -- the host's log view "passes 64 itself and its output stays the same": the limit 64 means what 0 meant, and no other limit changed its meaning

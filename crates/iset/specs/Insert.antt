@@ -5,7 +5,7 @@ use Prim.Native.Nat.{ℕ, _+_}
 use lib.ListN.{length}
 use lib.Dec.{eqb, ltb}
 use Rattle.words.specs.Ix.{U}
-use Rattle.words.specs.Nodes.{room}
+use Rattle.words.specs.Nodes.{capacity}
 use Rattle.words.specs.Refusals.{refusalNumber}
 use Rattle.words.specs.declared.node.Entry.{Entry}
 use Rattle.tree_edit.specs.Store.{Store}
@@ -24,7 +24,7 @@ entryOf a b v = record { start = a; end = b; value = v }
 
 -- 1: "NoRoom now when count has reached capacity, .. with a count above capacity also 1"
 unfoldable pub fullNumber : Map → List ℕ → List ℕ → ℕ
-fullNumber m W C = cond (ltb (m .count) (room (length W) (length C))) 0 1
+fullNumber m W C = cond (ltb (m .count) (capacity (length W) (length C))) 0 1
 
 -- the refusal's number, 0 for none, in an opened store; 5: "start >= end"
 unfoldable pub openInsertNumber : Map → List ℕ → List ℕ → Entry → ℕ

@@ -67,7 +67,7 @@ unfoldable pub openStepNumber : Map → List ℕ → List ℕ → Query → Curs
 openStepNumber m W C q c = first (openStartNumber m W C q) (formNumber (formOf W (m .count) (beginning m W q) c))
 
 unfoldable pub openDrainNumber : Map → List ℕ → List ℕ → Query → Cursor → ℕ → ℕ → ℕ
-openDrainNumber m W C q c limit room = first (openStepNumber m W C q c) (cond (ltb room (drains.limitOf limit room)) 9 0)
+openDrainNumber m W C q c limit places = first (openStepNumber m W C q c) (cond (ltb places (drains.limitOf limit places)) 9 0)
 
 -- and of the public calls
 unfoldable pub startNumber : Map → List ℕ → List ℕ → Query → ℕ
@@ -77,7 +77,7 @@ unfoldable pub stepNumber : Map → List ℕ → List ℕ → Query → Cursor �
 stepNumber m W C q c = first (checkRule m W C) (openStepNumber m W C q c)
 
 unfoldable pub drainNumber : Map → List ℕ → List ℕ → Query → Cursor → ℕ → ℕ → ℕ
-drainNumber m W C q c limit room = first (checkRule m W C) (openDrainNumber m W C q c limit room)
+drainNumber m W C q c limit places = first (checkRule m W C) (openDrainNumber m W C q c limit places)
 
 -- What the calls answer. A refusal has the cursor as given, slot U, counts 0; a fresh cursor that
 -- is refused is the ended one. `startAnswer`, `stepAnswer` and `drainAnswer` say what the code's

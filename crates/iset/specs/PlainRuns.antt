@@ -4,11 +4,11 @@ use mathlib.Core.Bool.{Bool}
 use mathlib.Core.List.{List}
 use Prim.Native.Nat.{ℕ, _<_, _≤_}
 use lib.ListN.{length, take}
+use Rattle.words.specs.Lists.{filter}
 use Rattle.words.specs.declared.interval.Interval.{Interval}
 use Rattle.words.specs.declared.interval.Span.{Span}
 use Rattle.tree.specs.Tree.{Tree, slots}
 use Rattle.tree.specs.Passes.{Passes}
-use Rattle.iter.specs.Lists.{those}
 use Rattle.iter.specs.Cursors.{fresh, ended}
 use Rattle.iter.specs.Overlap.{meets}
 use Rattle.iter.specs.Exact.{equals}
@@ -24,7 +24,7 @@ use Rattle.iset.specs.Runs.{Ask, run, OnceEach}
 use Rattle.iset.specs.Plain.{PlainAnswer, plainCall}
 use Rattle.iset.specs.declared.Map.{Map}
 
--- the slots that a plain lookup hands out: the first places of its output, as many as it answers hits; and those of a drain
+-- the slots that a plain lookup hands out: the first places of its output, as many as it answers hits; and filter of a drain
 abbrev pub plainSlots : Map → List ℕ → List ℕ → Query → List ℕ → List ℕ
 plainSlots m W C q out = let r : Output PlainAnswer = plainCall m W C q out in take (r .answer .hits) (r .output)
 
@@ -36,11 +36,11 @@ pub record PlainRun (m : Map) (W C : List ℕ) (q : Query) (c : Cursor) (p : ℕ
   -- it is not refused, and "Its entered count is the map's count"; "demand 3's list holds for it
   -- too": exactly the entries that are asked for, in tree order, once each; the places past them
   -- stay
-  pub told : plainCall m W C q out ≡ output (record { no = 0; hits = length (those p (slots t)); entered = m .count }) (filled (those p (slots t)) out)
-  pub once-each : OnceEach (m .count) p (those p (slots t))
+  pub told : plainCall m W C q out ≡ output (record { no = 0; hits = length (filter p (slots t)); entered = m .count }) (filled (filter p (slots t)) out)
+  pub once-each : OnceEach (m .count) p (filter p (slots t))
   -- "its list of slots equals that of a fresh drain run to its end": any limit above the number of hits
-  pub drain-agrees : (limit : ℕ) (room : List ℕ) → length (those p (slots t)) < limitOf limit (length room) → limitOf limit (length room) ≤ length room
-      → (drainCall m W C q c limit room .answer .next ≡ ended) × (plainSlots m W C q out ≡ drainSlots m W C q c limit room)
+  pub drain-agrees : (limit : ℕ) (places : List ℕ) → length (filter p (slots t)) < limitOf limit (length places) → limitOf limit (length places) ≤ length places
+      → (drainCall m W C q c limit places .answer .next ≡ ended) × (plainSlots m W C q out ≡ drainSlots m W C q c limit places)
   -- and that of any steps and drains from the fresh cursor to the end
   pub run-agrees : (l : List Ask) → run m W C q c l .next ≡ ended → plainSlots m W C q out ≡ run m W C q c l .slots
 

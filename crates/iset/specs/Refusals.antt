@@ -5,7 +5,7 @@ use mathlib.Core.Logic.{_↔_, _⊎_}
 use mathlib.Core.List.{List}
 use Prim.Native.Nat.{ℕ, zero, suc, _*_, _/_, _%_, _<_, _≤_}
 use lib.ListN.{length}
-use Rattle.words.specs.Nodes.{room}
+use Rattle.words.specs.Nodes.{capacity}
 use Rattle.words.specs.declared.interval.Bound.{Bound}
 use Rattle.words.specs.declared.interval.Bound.the-variants.{Included, Excluded, Unbounded}
 use Rattle.words.specs.declared.interval.Interval.{Interval}
@@ -37,7 +37,7 @@ Exactly (refuse number P rows) k = ((k ≡ number) ↔ P) × ((P → ⊥) → Ex
 
 -- 1: "count .. above capacity"
 abbrev pub NoRoom : Map → List ℕ → List ℕ → Type 0
-NoRoom m W C = room (length W) (length C) < m .count
+NoRoom m W C = capacity (length W) (length C) < m .count
 
 -- 2: "the check fails"
 abbrev pub Broken : Map → List ℕ → List ℕ → Type 0
@@ -83,7 +83,7 @@ checkRows m W C = refuse 1 (NoRoom m W C) (refuse 2 (Broken m W C) accept)
 abbrev pub buildRows : List ℕ → List ℕ → List ℕ → Rows
 buildRows W C S =
     refuse 8 (length S % 3 ≡ 0 → ⊥)
-    (refuse 1 (room (length W) (length C) < length S / 3)
+    (refuse 1 (capacity (length W) (length C) < length S / 3)
     (refuse 5 ((k : ℕ) × (k < length S / 3) × BadInterval (startOf S k) (endOf S k))
     (refuse 6 ((k : ℕ) × (suc k < length S / 3) × (NotAfter (intervalOf S k) (intervalOf S (suc k)) → ⊥)) accept)))
 
@@ -94,7 +94,7 @@ removeRows m W C s = refuse 1 (NoRoom m W C) (refuse 2 (Broken m W C) (refuse 3 
 -- document 02: "NoRoom now when count has reached capacity, .. with a count above capacity also 1", then 2, 5
 abbrev pub insertRows : Map → List ℕ → List ℕ → Entry → Rows
 insertRows m W C e =
-    refuse 1 (room (length W) (length C) ≤ m .count) (refuse 2 (Broken m W C) (refuse 5 (BadInterval (e .start) (e .end)) accept))
+    refuse 1 (capacity (length W) (length C) ≤ m .count) (refuse 2 (Broken m W C) (refuse 5 (BadInterval (e .start) (e .end)) accept))
 
 -- the fresh cursor of an exact lookup: 1, 2, 5
 abbrev pub startRows : Map → List ℕ → List ℕ → Interval → Rows

@@ -7,11 +7,12 @@ use Prim.Native.Nat.{ℕ, _+_, _-_, _*_, _/_, _<_, _≤_}
 use lib.ListN.{length, take}
 use lib.Dec.{eqb, ltb}
 use Rattle.words.specs.Ix.{U}
+use Rattle.words.specs.Lists.{filter}
 use Rattle.words.specs.declared.interval.Interval.{Interval}
 use Rattle.words.specs.declared.interval.Span.{Span}
 use Rattle.tree.specs.Tree.{Tree, leaf, node, height, times}
 use Rattle.tree.specs.Tree as tree
-use Rattle.iter.specs.Lists.{when, those}
+use Rattle.iter.specs.Lists.{when}
 use Rattle.iter.specs.Cursors.{fresh, ended}
 use Rattle.iter.specs.Overlap.{meets}
 use Rattle.iter.specs.Exact.{equals}
@@ -142,8 +143,8 @@ OnceEach n p found = (s : ℕ) → s < n → times s found ≡ cond (p s) 1 0
 -- once each; the nodes it enters are exactly those the pruning rules name, at most h + t·h·(h-1)/2, t the entries that meet or touch; h ≤ 32".
 -- The tree of the store is t.
 pub record OverlapRun (m : Map) (W C : List ℕ) (q : Span) (t : Tree) (l : List Ask) : Type 0 where
-  pub lookup : Lookup m W C (Overlap q) (fresh (m .root)) (those (meets W q) (tree.slots t)) (entered (overlapRule W q) t) l
-  pub once-each : OnceEach (m .count) (meets W q) (those (meets W q) (tree.slots t))
+  pub lookup : Lookup m W C (Overlap q) (fresh (m .root)) (filter (meets W q) (tree.slots t)) (entered (overlapRule W q) t) l
+  pub once-each : OnceEach (m .count) (meets W q) (filter (meets W q) (tree.slots t))
   -- at the end, and before it
   pub bound : length (run m W C (Overlap q) (fresh (m .root)) l .nodes) ≤ height t + touching W q t * (height t * (height t - 1)) / 2
   pub low : height t ≤ 32
@@ -151,12 +152,12 @@ pub record OverlapRun (m : Map) (W C : List ℕ) (q : Span) (t : Tree) (l : List
 -- "Exact lookup starts at the highest equal node, U if none": it starts at the slot k and goes through the tree u.
 pub data Begins (W : List ℕ) (x : Interval) (t : Tree) (k : ℕ) : Tree → Type 0 where
   at-highest : (h : Highest W x t k) → Begins W x t k (node (h .left) k (h .right))
-  no-equal : k ≡ U → those (equals W x) (tree.slots t) ≡ [] → Begins W x t k leaf
+  no-equal : k ≡ U → filter (equals W x) (tree.slots t) ≡ [] → Begins W x t k leaf
 
 -- The same of an exact lookup, from the cursor that `Map::fresh_exact` answers: the equal entries, and the nodes from the highest equal one on.
 pub record ExactRun (m : Map) (W C : List ℕ) (x : Interval) (t : Tree) (l : List Ask) : Type 0 where
   pub below : Tree
   pub begins : Begins W x t (beginning m W (Exact x)) below
-  pub lookup : Lookup m W C (Exact x) (startCall m W C x .cursor) (those (equals W x) (tree.slots t)) (entered (exactRule W x) below) l
-  pub once-each : OnceEach (m .count) (equals W x) (those (equals W x) (tree.slots t))
+  pub lookup : Lookup m W C (Exact x) (startCall m W C x .cursor) (filter (equals W x) (tree.slots t)) (entered (exactRule W x) below) l
+  pub once-each : OnceEach (m .count) (equals W x) (filter (equals W x) (tree.slots t))
   pub low : height t ≤ 32

@@ -55,6 +55,16 @@ impl Checked {
             Checked::Refused(why)
         }
     }
+
+    // The refusal's number; 0 stands for none.
+    pub fn number(self) -> u64
+        ensures { λ r. ⌜ r ≡ checkNumber self ⌝ }
+    {
+        match self {
+            Checked::Sound => 0,
+            Checked::Refused(why) => why.number(),
+        }
+    }
 }
 
 impl Map {

@@ -1,4 +1,4 @@
-// Looking up: the entries that intersect a range, or those equal to an interval, step by step or many at once.
+// Looking up: the entries that intersect a range, or filter equal to an interval, step by step or many at once.
 use crate::Checked;
 use crate::Map;
 use iter::Cursor;
@@ -26,6 +26,7 @@ ghost use Rattle.iter.specs.Answers.{answer, isHit};
 ghost use Rattle.iset.specs.Changes.{output};
 ghost use Rattle.iset.specs.Check.{checkNumber};
 ghost use Rattle.iset.specs.Lookup.{ordered, queryNumber, beginning, formNumber, openStartNumber, openStepNumber, openDrainNumber, startAnswer, openStartCall, startCall, stepAnswer, openStepCall, stepCall, drainAnswer, openDrainCall, drainCall};
+ghost use Rattle.words.specs.Lists.{filter};
 
 // What the calls answer.
 pub enum Started {
@@ -86,17 +87,17 @@ fn test_form(form: Form) -> Checked
     }
 }
 
-// How many hits a drain may write to an output of `room` places: a limit of 0 means as many as fit.
-fn limit_of(limit: u64, room: u64) -> u64
-    ensures { λ r. ⌜ r ≡ limitOf limit room ⌝ }
+// How many hits a drain may write to an output with so many `places`: a limit of 0 means as many as fit.
+fn limit_of(limit: u64, places: u64) -> u64
+    ensures { λ r. ⌜ r ≡ limitOf limit places ⌝ }
 {
-    if limit == 0 { room } else { limit }
+    if limit == 0 { places } else { limit }
 }
 
-fn test_room(limit: u64, room: u64) -> Checked
-    ensures { λ r. ⌜ checkNumber r ≡ cond (ltb room (limitOf limit room)) 9 0 ⌝ }
+fn test_room(limit: u64, places: u64) -> Checked
+    ensures { λ r. ⌜ checkNumber r ≡ cond (ltb places (limitOf limit places)) 9 0 ⌝ }
 {
-    if room < limit_of(limit, room) {
+    if places < limit_of(limit, places) {
         Checked::Refused(Refusal::ShortOutput)
     } else {
         Checked::Sound
@@ -160,7 +161,7 @@ impl Map {
         self.test_place(nodes, query, cursor)
     }
 
-    // The first refusal of a drain into an output of `room` places.
+    // The first refusal of a drain into an output with so many `places`.
     fn test_drain(
         self,
         nodes: &[u64],
@@ -168,15 +169,15 @@ impl Map {
         query: Query,
         cursor: Cursor,
         limit: u64,
-        room: u64,
+        places: u64,
     ) -> Checked
-        ensures { λ r. ⌜ checkNumber r ≡ openDrainNumber self (now (nodes .entry)) (now (colours .entry)) query cursor limit room ⌝ }
+        ensures { λ r. ⌜ checkNumber r ≡ openDrainNumber self (now (nodes .entry)) (now (colours .entry)) query cursor limit places ⌝ }
     {
         let checked = self.test_step(nodes, colours, query, cursor);
         let Checked::Sound = checked else {
             return checked;
         };
-        test_room(limit, room)
+        test_room(limit, places)
     }
 
     // The fresh cursor of an overlap lookup. It is tested where it is used.
@@ -218,10 +219,10 @@ impl Map {
         ensures { λ r. ⌜ output (drainAnswer cursor r) (now (out .exit))
             ≡ openDrainCall self (now (nodes .entry)) (now (colours .entry)) query cursor limit (now (out .entry)) ⌝ }
     {
-        let room = out.len() as u64;
-        let Checked::Refused(why) = self.test_drain(nodes, colours, query, cursor, limit, room)
+        let places = out.len() as u64;
+        let Checked::Refused(why) = self.test_drain(nodes, colours, query, cursor, limit, places)
         else {
-            return Drain::Done(cursor.drain(nodes, self.count, query, limit_of(limit, room), out));
+            return Drain::Done(cursor.drain(nodes, self.count, query, limit_of(limit, places), out));
         };
         Drain::Refused(why)
     }

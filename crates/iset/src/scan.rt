@@ -17,23 +17,23 @@ pub enum Looked {
 }
 
 impl Map {
-    // The first refusal of a plain lookup in an opened store, into an output of `room` places.
-    fn test_plain(self, nodes: &[u64], colours: &[u8], query: Query, room: u64) -> Checked
-        ensures { λ r. ⌜ checkNumber r ≡ openPlainNumber self (now (nodes .entry)) (now (colours .entry)) query room ⌝ }
+    // The first refusal of a plain lookup in an opened store, into an output with so many `places`.
+    fn test_plain(self, nodes: &[u64], colours: &[u8], query: Query, places: u64) -> Checked
+        ensures { λ r. ⌜ checkNumber r ≡ openPlainNumber self (now (nodes .entry)) (now (colours .entry)) query places ⌝ }
     {
         let checked = self.test_start(nodes, colours, query);
         let Checked::Sound = checked else {
             return checked;
         };
-        Checked::sound_if(self.count <= room, Refusal::ShortOutput)
+        Checked::sound_if(self.count <= places, Refusal::ShortOutput)
     }
 
     // `plain` for an opened store.
     pub fn open_plain(self, nodes: &[u64], colours: &[u8], query: Query, out: &mut [u64]) -> Looked
         ensures { λ r. ⌜ output (plainAnswer r) (now (out .exit)) ≡ openPlainCall self (now (nodes .entry)) (now (colours .entry)) query (now (out .entry)) ⌝ }
     {
-        let room = out.len() as u64;
-        let Checked::Refused(why) = self.test_plain(nodes, colours, query, room) else {
+        let places = out.len() as u64;
+        let Checked::Refused(why) = self.test_plain(nodes, colours, query, places) else {
             return Looked::Done(scan(nodes, self.count, self.root, query, out));
         };
         Looked::Refused(why)

@@ -1,20 +1,20 @@
 -- The walk stands on the stack's calls: a move by them alone, as the Rust's `move_to_next` makes it, is the rule's move, and no call of it is refused.
-use mathlib.Core.Path.{_≡_, refl, sym, ap, _∙_}
+use mathlib.Core.Path.{_≡_, refl, sym, _∙_}
 use mathlib.Core.Bool.{Bool, true, false, not, cond, _&&_}
 use mathlib.Core.List.{List}
-use Prim.Native.Nat.{ℕ, zero, suc, _+_, _-_, _<_, _≤_}
+use Prim.Native.Nat.{ℕ, zero, suc, _-_, _<_, _≤_}
 use native.Mathlib.Omega.{arith}
-use lib.Dec.{eqb, ltb, leb}
+use lib.Dec.{eqb}
 use borrow.Author.Tests.{le-leb, lt-leb, lt-ltb, eqb-true, eqb-false, ne-eqb}
 use Rattle.words.specs.Ix.{U}
 use Rattle.words.specs.Nodes.{kid, par}
-use Rattle.stack.specs.States.{entered, wasLeft, returned, wasRight, top, marked, pushed, popped}
-use Rattle.stack.specs.Calls.{done, some, testRule, markRule, pushRule, popRule, isEmptyRule, justEntered, notReturned, notRight, wentLeft, canGoLeftRule, canMatchRule, canGoRightRule, goRightRule}
+use Rattle.stack.specs.States.{wasLeft, returned, wasRight, top, marked, pushed, popped}
+use Rattle.stack.specs.Calls.{done, testRule, markRule, pushRule, popRule, isEmptyRule, justEntered, notReturned, notRight, wentLeft, canGoLeftRule, canMatchRule, canGoRightRule, goRightRule}
 use Rattle.stack.specs.declared.ActionStack.{ActionStack}
 use Rattle.stack.proofs.Table.{has, top-low}
 use Rattle.iter.specs.Cursors.{cursor, stackOf, upTo}
 use Rattle.iter.specs.Walk.{Rules, side, deeper, mark, down, move, enters, hits}
-use Rattle.iter.specs.Calls.{Moved, to, asking, having, pushTo, popTo, moveByCalls}
+use Rattle.iter.specs.Calls.{to, having, pushTo, popTo, moveByCalls}
 use Rattle.iter.specs.Places.{Live}
 use Rattle.iter.specs.declared.Cursor.{Cursor}
 use Rattle.iter.proofs.Moves.{deeper-room}

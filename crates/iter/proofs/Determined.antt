@@ -1,6 +1,6 @@
 -- What a step promises determines its answer. The other functions promise an equation of the answer and of each lent slice.
 use mathlib.Core.Path.{_≡_, sym, ap, _∙_}
-use mathlib.Core.Bool.{true, false, false≢true}
+use mathlib.Core.Bool.{false≢true}
 use lib.Dec.{ltb}
 use contract.Lifetimes.{Lfts}
 use borrow.Fn.Kinds as K

@@ -7,11 +7,6 @@ use Prim.Native.Nat.{ℕ}
 abbrev pub when : {A : Type 0} → Bool → List A → List A
 when b l = cond b l []
 
--- those of a list that p says, in its order
-abbrev pub those : (ℕ → Bool) → List ℕ → List ℕ
-those p [] = []
-those p (a ∷ l) = cond (p a) (a ∷ those p l) (those p l)
-
 -- the first of a list, d where there is none
 abbrev pub firstOr : ℕ → List ℕ → ℕ
 firstOr d [] = d

@@ -9,16 +9,17 @@ use native.Mathlib.Numerals.{sub-one}
 use lib.ListN.{length, length-append}
 use Rattle.words.specs.Nodes.{start, stop, interval}
 use Rattle.words.specs.Intervals.{reached, admits, touches}
+use Rattle.words.specs.Lists.{filter}
 use Rattle.words.specs.declared.interval.Span.{Span}
+use Rattle.words.proofs.Lists.{filter-append}
 use Rattle.tree.specs.Tree.{Tree, leaf, node, slots, occ, height}
 use Rattle.tree.specs.Order.{NotAfter, RisingAt}
 use Rattle.tree.specs.Hulls.{Hulls}
 use Rattle.tree.proofs.Slots.{hit-same, occ-cases, times-slots}
 use Rattle.tree.proofs.Orders.{rising-left, rising-right, rising-at}
 use Rattle.tree.proofs.Hulls.{most-at, least-at}
-use Rattle.iter.specs.Lists.{when, those}
+use Rattle.iter.specs.Lists.{when}
 use Rattle.iter_laws.specs.Entered.{overlapRule, goes, entered, touching}
-use Rattle.iter_laws.proofs.Trees.{those-append}
 use Rattle.iter_laws.proofs.Bounds.{admits-before}
 
 -- h * (h - 1), one step on
@@ -40,9 +41,9 @@ module _ (W : List ℕ) (q : Span) where
 
   touching-node : (l : Tree) (s : ℕ) (r : Tree) → touching W q (node l s r) ≡ touching W q l + this s + touching W q r
   unfolding this
-  touching-node l s r = rw (those-append, length-append) (go (touches q (interval W s)))
+  touching-node l s r = rw (filter-append, length-append) (go (touches q (interval W s)))
     where
-      go : (b : Bool) → touching W q l + length (cond b (s ∷ those (λ a. touches q (interval W a)) (slots r)) (those (λ a. touches q (interval W a)) (slots r)))
+      go : (b : Bool) → touching W q l + length (cond b (s ∷ filter (λ a. touches q (interval W a)) (slots r)) (filter (λ a. touches q (interval W a)) (slots r)))
           ≡ touching W q l + cond b 1 0 + touching W q r
       go true = omega arith
       go false = omega arith

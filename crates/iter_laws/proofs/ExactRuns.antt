@@ -8,7 +8,9 @@ use native.Mathlib.Omega.{arith}
 use lib.ListN.{length, take}
 use Rattle.words.specs.Ix.{U}
 use Rattle.words.specs.Nodes.{par}
+use Rattle.words.specs.Lists.{filter}
 use Rattle.words.specs.declared.interval.Interval.{Interval}
+use Rattle.words.proofs.Lists.{filter-append}
 use Rattle.tree.specs.Tree.{Tree, leaf, node, slots, size, height, Shape, times}
 use Rattle.tree.specs.Zipper.{plug}
 use Rattle.tree.specs.Passes.{Passes}
@@ -20,11 +22,11 @@ use Rattle.iter.specs.Forms.{formOf}
 use Rattle.iter.specs.Exact.{equals, shouldGoExact, exact, findFrom}
 use Rattle.iter.specs.declared.Cursor.{Cursor}
 use Rattle.iter.specs.declared.Form.the-variants as form
-use Rattle.iter.specs.Lists.{firstOr, those}
+use Rattle.iter.specs.Lists.{firstOr}
 use Rattle.iter_laws.specs.Place.{Held, earlier, later}
 use Rattle.iter_laws.specs.Entered.{exactRule, entered, enteredFrom}
 use Rattle.iter_laws.specs.Highest.{Highest}
-use Rattle.iter_laws.proofs.Trees.{those-append, each-once}
+use Rattle.iter_laws.proofs.Trees.{each-once}
 use Rattle.iter_laws.proofs.Walks.{Walk, links, follows, focus}
 use Rattle.iter_laws.proofs.Places.{Stands, height-plug, stands-low, fresh-low, stands-room, fresh-room, step-held, held-stands, fresh-held}
 use Rattle.iter_laws.proofs.Fresh.{fresh-step, fresh-run, fresh-nodes, fresh-hits, fresh-ends, fresh-enough}
@@ -41,7 +43,7 @@ module _ (W C : List ℕ) (n r : ℕ) (key : Interval) (small : n ≤ 65535) (P 
 
   -- the slots of the equal entries, in tree order
   abbrev pub all : List ℕ
-  all = those (equals W key) (slots (P .tree))
+  all = filter (equals W key) (slots (P .tree))
 
   -- where exact lookup starts
   abbrev pub begin : ℕ
@@ -56,14 +58,14 @@ module _ (W C : List ℕ) (n r : ℕ) (key : Interval) (small : n ≤ 65535) (P 
     abbrev pub below : Tree
     below = node (H .left) k (H .right)
 
-    pub all-below : those (equals W key) (slots below) ≡ all
+    pub all-below : filter (equals W key) (slots below) ≡ all
     all-below =
         rw (
           ← (H .there),
           slots-plug (H .way) below,
-          those-append (equals W key) (earlier (H .way)) (slots below ++ later (H .way)),
+          filter-append (equals W key) (earlier (H .way)) (slots below ++ later (H .way)),
           H .none-before,
-          those-append (equals W key) (slots below) (later (H .way)),
+          filter-append (equals W key) (slots below) (later (H .way)),
           H .none-after,
           append-nil,
         )
@@ -100,7 +102,7 @@ module _ (W C : List ℕ) (n r : ℕ) (key : Interval) (small : n ≤ 65535) (P 
       }
 
   -- the tree that the walk goes through has all equal entries
-  pub start-tree : {X : Type 0} → ((p : ℕ) (t : Tree) → Walk W n Q E p begin t → those (equals W key) (slots t) ≡ all → X) → X
+  pub start-tree : {X : Type 0} → ((p : ℕ) (t : Tree) → Walk W n Q E p begin t → filter (equals W key) (slots t) ≡ all → X) → X
   start-tree x =
       exact-start (λ e i. x U leaf (walk-none begin e) (sym i)) (λ H. x (par W begin) (below begin H) (walk-below begin H) (all-below begin H))
 
@@ -170,7 +172,7 @@ module _ (W C : List ℕ) (n r : ℕ) (key : Interval) (small : n ≤ 65535) (P 
       stands = held-stands W n Q E (par W k) k (below k H) (walk-below k H) c h
 
       abbrev pub after-it : List ℕ
-      after-it = those (equals W key) (slots (h .right) ++ later (h .way))
+      after-it = filter (equals W key) (slots (h .right) ++ later (h .way))
 
       pub exact-held : (limit : ℕ) → length after-it < limit
           → drain W n Q limit c ≡ record { slots = after-it; next = ended; entered = length (enteredFrom E (h .slot) (h .right) (h .way)) }

@@ -10,7 +10,9 @@ use borrow.Author.Tests.{ltb-true, ltb-false, lt-ltb, le-ltb, leb-true, le-leb, 
 use Rattle.words.specs.Ix.{U, onLink}
 use Rattle.words.specs.Nodes.{start, stop, lo, hi, kid, interval, hull}
 use Rattle.words.specs.Intervals.{le, eq, contains}
+use Rattle.words.specs.Lists.{filter}
 use Rattle.words.specs.declared.interval.Interval.{Interval}
+use Rattle.words.proofs.Lists.{filter-append}
 use Rattle.tree.specs.Tree.{Tree, leaf, node, slots, occ, height, Shape}
 use Rattle.tree.specs.Zipper.{Frame, frame, plug}
 use Rattle.tree.specs.Order.{NotAfter, RisingAt}
@@ -18,13 +20,12 @@ use Rattle.tree.specs.Hulls.{Hulls}
 use Rattle.tree.proofs.Slots.{hit-same, times-slots}
 use Rattle.tree.proofs.Orders.{rising-left, rising-right, rising-at}
 use Rattle.iter.specs.Exact.{equals, sorted, shouldGoExact, exact, find}
-use Rattle.iter.specs.Lists.{those}
 use Rattle.iter_laws.specs.Place.{earlier, later}
 use Rattle.iter_laws.specs.Entered.{exactRule, goes}
 use Rattle.iter_laws.specs.Highest.{Highest}
 use Rattle.iter.proofs.Bools.{and-left, and-right}
 use Rattle.iter_laws.proofs.Script.{Empty, Fairs}
-use Rattle.iter_laws.proofs.Trees.{those-append, those-none}
+use Rattle.iter_laws.proofs.Trees.{no-hits}
 use Rattle.iter_laws.proofs.Walks.{follows}
 use Rattle.iter_laws.proofs.Within.{within}
 use Rattle.iter_laws.proofs.Later.{slots-plug}
@@ -146,24 +147,24 @@ module _ (W : List ℕ) (n : ℕ) (key : Interval) (small : n ≤ 65535) where
   -- the search finds the highest equal node, or there is none
   module _ {X : Type 0} (T : Tree) where
     pub find-is : (t : Tree) (way : List Frame) (fuel p k : ℕ) → Shape W n p k t → height t ≤ fuel → plug way t ≡ T → RisingAt W (slots t)
-        → those (equals W key) (earlier way) ≡ [] → those (equals W key) (later way) ≡ []
-        → (find W n key fuel k ≡ U → those (equals W key) (slots T) ≡ [] → X)
+        → filter (equals W key) (earlier way) ≡ [] → filter (equals W key) (later way) ≡ []
+        → (find W n key fuel k ≡ U → filter (equals W key) (slots T) ≡ [] → X)
         → (Highest W key T (find W n key fuel k) → X) → X
     unfolding find
-    find-is leaf way zero p k h f e o u v = λ x y. x refl (rw (← e, slots-plug way leaf, those-append, u) v)
-    find-is leaf way (suc fuel) p k h f e o u v = λ x y. x (rw (h, le-ltb U n (omega arith))) (rw (← e, slots-plug way leaf, those-append, u) v)
+    find-is leaf way zero p k h f e o u v = λ x y. x refl (rw (← e, slots-plug way leaf, filter-append, u) v)
+    find-is leaf way (suc fuel) p k h f e o u v = λ x y. x (rw (h, le-ltb U n (omega arith))) (rw (← e, slots-plug way leaf, filter-append, u) v)
     find-is (node l s r) way zero p k h f e o u v = absurd (omega arith)
     find-is (node l s r) way (suc fuel) p k h f e o u v =
         rw (h .here, lt-ltb s n (h .live))
         (go (equals W key s) (sorted W key true s) refl refl
         (λ i j. find-is l (frame true s r ∷ way) fuel s (kid W true s) (h .left) (omega arith) e (down-left W l s r o) u
-        (rw (i, those-append, those-none (exact W n key) r (right-none l s r o i j)) v))
+        (rw (i, filter-append, no-hits (exact W n key) r (right-none l s r o i j)) v))
         (λ i j. find-is r (frame false s l ∷ way) fuel s (kid W false s) (h .right) (omega arith) e (down-right W l s r o)
-        (rw (those-append, u, those-append, those-none (exact W n key) l (left-none l s r o i j), i)) v))
+        (rw (filter-append, u, filter-append, no-hits (exact W n key) l (left-none l s r o i j), i)) v))
       where
         -- what is left to show of the search that comes to d
         Ends : ℕ → Type 0
-        Ends d = (d ≡ U → those (equals W key) (slots T) ≡ [] → X) → (Highest W key T d → X) → X
+        Ends d = (d ≡ U → filter (equals W key) (slots T) ≡ [] → X) → (Highest W key T d → X) → X
 
         go : (i j : Bool) → equals W key s ≡ i → sorted W key true s ≡ j
             → (equals W key s ≡ false → sorted W key true s ≡ true → Ends (find W n key fuel (kid W true s)))

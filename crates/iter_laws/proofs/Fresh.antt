@@ -8,13 +8,14 @@ use lib.ListN.{length, take}
 use lib.Dec.{ltb}
 use borrow.Author.Tests.{le-ltb}
 use Rattle.words.specs.Ix.{U}
+use Rattle.words.specs.Lists.{filter}
 use Rattle.stack.specs.States.{top, stateAt}
 use Rattle.tree.specs.Tree.{Tree, leaf, node, slots, size, height, Shape}
 use Rattle.iter.specs.Cursors.{ended, fresh}
 use Rattle.iter.specs.Walk.{Rules, enters, hits, counts, fuel, seek, step, after}
 use Rattle.iter.specs.Drains.{drain, calls}
 use Rattle.iter.specs.declared.Cursor.{Cursor}
-use Rattle.iter.specs.Lists.{firstOr, those}
+use Rattle.iter.specs.Lists.{firstOr}
 use Rattle.iter_laws.specs.Place.{at}
 use Rattle.iter_laws.specs.Entered.{entered}
 use Rattle.iter.proofs.Bools.{and-false}
@@ -112,7 +113,7 @@ module _ (W : List ℕ) (n : ℕ) (Q : Rules) (E : Bool → ℕ → ℕ → Bool
           through W n Q (w .small) (w .linked) (node l s r) p k [] f g h (rw (h .here) (h .live)) (omega arith) (z .0)
           ∙ rw (ends W n Q (w .small) g ended (z .1) refl)
 
-  L-hits : hitSlots L ≡ those (Q .match) (slots t)
+  L-hits : hitSlots L ≡ filter (Q .match) (slots t)
   L-hits = rw (hits-script, append-nil) (finds-all Q t (w .fair))
 
   L-nodes : nodes L ≡ entered E t
@@ -121,17 +122,17 @@ module _ (W : List ℕ) (n : ℕ) (Q : Rules) (E : Bool → ℕ → ℕ → Bool
   no : hits n Q (fresh k) ≡ false
   no = fresh-misses W n Q (w .small) k
 
-  pub fresh-run : (limit : ℕ) → length (those (Q .match) (slots t)) < limit
-      → drain W n Q limit (fresh k) ≡ record { slots = those (Q .match) (slots t); next = ended; entered = length (entered E t) }
+  pub fresh-run : (limit : ℕ) → length (filter (Q .match) (slots t)) < limit
+      → drain W n Q limit (fresh k) ≡ record { slots = filter (Q .match) (slots t); next = ended; entered = length (entered E t) }
   fresh-run limit h = run-drain W n Q (w .small) (fresh k) no L whole limit (rw L-hits h) ∙ rw (L-hits, L-nodes)
 
-  pub fresh-nodes : (limit : ℕ) → length (those (Q .match) (slots t)) < limit → calls W n Q limit (fresh k) ≡ entered E t
+  pub fresh-nodes : (limit : ℕ) → length (filter (Q .match) (slots t)) < limit → calls W n Q limit (fresh k) ≡ entered E t
   fresh-nodes limit h = run-calls W n Q (w .small) (fresh k) no L whole limit (rw L-hits h) ∙ L-nodes
 
-  pub fresh-hits : (limit : ℕ) → drain W n Q limit (fresh k) .slots ≡ take limit (those (Q .match) (slots t))
+  pub fresh-hits : (limit : ℕ) → drain W n Q limit (fresh k) .slots ≡ take limit (filter (Q .match) (slots t))
   fresh-hits limit = run-hits W n Q (w .small) (fresh k) no L whole limit ∙ rw L-hits
 
-  pub fresh-step : step W n Q (fresh k) .slot ≡ firstOr U (those (Q .match) (slots t))
+  pub fresh-step : step W n Q (fresh k) .slot ≡ firstOr U (filter (Q .match) (slots t))
   fresh-step = run-step W n Q (w .small) (fresh k) no L whole ∙ rw L-hits
 
   pub fresh-most : (limit : ℕ) → drain W n Q limit (fresh k) .entered ≤ length (entered E t)

@@ -9,13 +9,15 @@ use lib.ListN.{length, take}
 use lib.Dec.{ltb}
 use Rattle.words.specs.Ix.{U}
 use Rattle.words.specs.Nodes.{kid, par}
+use Rattle.words.specs.Lists.{filter}
+use Rattle.words.proofs.Lists.{filter-append}
 use Rattle.tree.specs.Tree.{Tree, node, slots, size, height, Shape}
 use Rattle.tree.specs.Zipper.{bin, Frame, frame, plug}
 use Rattle.iter.specs.Cursors.{ended}
 use Rattle.iter.specs.Walk.{Rules, enters, counts, fuel, seek, step, after}
 use Rattle.iter.specs.Drains.{drain, calls}
 use Rattle.iter.specs.declared.Cursor.{Cursor}
-use Rattle.iter.specs.Lists.{firstOr, when, those}
+use Rattle.iter.specs.Lists.{firstOr, when}
 use Rattle.iter_laws.specs.Place.{at, held, sides, Held, earlier, later}
 use Rattle.iter_laws.specs.Entered.{enteredFrom}
 use Rattle.iter.proofs.Bools.{and-false}
@@ -25,7 +27,7 @@ use Rattle.iter_laws.proofs.Ways.{back, slot-at, top-at, move-back, tol
 use Rattle.iter_laws.proofs.Course.{one, own-part, right-part, through}
 use Rattle.iter.proofs.Steps.{Plays, ends-done, enough, ends-after, step-slot}
 use Rattle.iter.proofs.Drains.{drain-all, calls-all, drain-hits}
-use Rattle.iter_laws.proofs.Trees.{moves-few, hits-script, nodes-script, those-append, those-none, finds-all}
+use Rattle.iter_laws.proofs.Trees.{moves-few, hits-script, nodes-script, no-hits, finds-all}
 use Rattle.iter_laws.proofs.Fresh.{ends}
 use Rattle.iter_laws.proofs.Walks.{Walk, Parent, focus, visits-are, later-are}
 use Rattle.iter_laws.proofs.Places.{height-plug}
@@ -94,20 +96,20 @@ module _ (Q : Rules) where
   fairs-plug (frame b a far ∷ c) u h = fairs-bin b u a far (fairs-plug c (bin b u a far) h)
 
   -- the right subtree of a fair node
-  right-finds : (l : Tree) (s : ℕ) (r : Tree) → Fairs Q (node l s r) → when (Q .go false s) (finds Q r) ≡ those (Q .match) (slots r)
+  right-finds : (l : Tree) (s : ℕ) (r : Tree) → Fairs Q (node l s r) → when (Q .go false s) (finds Q r) ≡ filter (Q .match) (slots r)
   right-finds l s r h = go (Q .go false s) refl
     where
-      go : (j : Bool) → Q .go false s ≡ j → when j (finds Q r) ≡ those (Q .match) (slots r)
+      go : (j : Bool) → Q .go false s ≡ j → when j (finds Q r) ≡ filter (Q .match) (slots r)
       go true e = finds-all Q r (h .right)
-      go false e = sym (those-none Q r (h .no-right e))
+      go false e = sym (no-hits Q r (h .no-right e))
 
-  later-all : (way : List Frame) (u : Tree) → Fairs Q (plug way u) → laterFinds Q way ≡ those (Q .match) (later way)
+  later-all : (way : List Frame) (u : Tree) → Fairs Q (plug way u) → laterFinds Q way ≡ filter (Q .match) (later way)
   later-all [] u h = refl
   later-all (frame true a far ∷ c) u h =
-      rw (later-all c (node u a far) h, right-finds u a far (fairs-plug c (node u a far) h), those-append) (go (Q .match a))
+      rw (later-all c (node u a far) h, right-finds u a far (fairs-plug c (node u a far) h), filter-append) (go (Q .match a))
     where
-      go : (i : Bool) → when i (a ∷ []) ++ (those (Q .match) (slots far) ++ those (Q .match) (later c))
-          ≡ cond i (a ∷ (those (Q .match) (slots far) ++ those (Q .match) (later c))) (those (Q .match) (slots far) ++ those (Q .match) (later c))
+      go : (i : Bool) → when i (a ∷ []) ++ (filter (Q .match) (slots far) ++ filter (Q .match) (later c))
+          ≡ cond i (a ∷ (filter (Q .match) (slots far) ++ filter (Q .match) (later c))) (filter (Q .match) (slots far) ++ filter (Q .match) (later c))
       go true = refl
       go false = refl
   later-all (frame false a far ∷ c) u h = later-all c (node far a u) h
@@ -160,8 +162,8 @@ module _ (W : List ℕ) (n : ℕ) (Q : Rules) (E : Bool → ℕ → ℕ → Bool
   unfolding enters
   not-entered = rw (top-at s 1 (sides way) (omega arith)) (and-false (ltb (c .slot) n))
 
-  K-hits : hitSlots K ≡ those (Q .match) (slots r ++ later way)
-  K-hits = rw (those-append, ← (right-finds Q l s r (fairs-plug Q way (node l s r) (w .fair))), ← (later-all Q way (node l s r) (w .fair))) (go (Q .go false s))
+  K-hits : hitSlots K ≡ filter (Q .match) (slots r ++ later way)
+  K-hits = rw (filter-append, ← (right-finds Q l s r (fairs-plug Q way (node l s r) (w .fair))), ← (later-all Q way (node l s r) (w .fair))) (go (Q .go false s))
     where
       go : (j : Bool) → hitSlots (when j (script Q (false ∷ sides way) r) ++ (laterScript Q way ++ (done ∷ []))) ≡ when j (finds Q r) ++ laterFinds Q way
       go true = rw (hits-script, hits-later)
@@ -177,17 +179,17 @@ module _ (W : List ℕ) (n : ℕ) (Q : Rules) (E : Bool → ℕ → ℕ → Bool
       go true = rw (nodes-script, nodes-later)
       go false = nodes-later Q way
 
-  at-run : (limit : ℕ) → length (those (Q .match) (slots r ++ later way)) < limit
-      → drain W n Q limit c ≡ record { slots = those (Q .match) (slots r ++ later way); next = ended; entered = length (enteredFrom E s r way) }
+  at-run : (limit : ℕ) → length (filter (Q .match) (slots r ++ later way)) < limit
+      → drain W n Q limit c ≡ record { slots = filter (Q .match) (slots r ++ later way); next = ended; entered = length (enteredFrom E s r way) }
   at-run limit h = drain-all W n Q (w .small) limit c K held-plays (rw K-hits h) ∙ rw (not-entered, K-hits, K-nodes, zero-add)
 
-  at-nodes : (limit : ℕ) → length (those (Q .match) (slots r ++ later way)) < limit → calls W n Q limit c ≡ enteredFrom E s r way
+  at-nodes : (limit : ℕ) → length (filter (Q .match) (slots r ++ later way)) < limit → calls W n Q limit c ≡ enteredFrom E s r way
   at-nodes limit h = calls-all W n Q (w .small) limit c K held-plays (rw K-hits h) ∙ rw (not-entered, K-nodes)
 
-  at-step : step W n Q c .slot ≡ firstOr U (those (Q .match) (slots r ++ later way))
+  at-step : step W n Q c .slot ≡ firstOr U (filter (Q .match) (slots r ++ later way))
   at-step = step-slot W n Q c K held-plays ∙ rw K-hits
 
-  at-hits : (limit : ℕ) → drain W n Q limit c .slots ≡ take limit (those (Q .match) (slots r ++ later way))
+  at-hits : (limit : ℕ) → drain W n Q limit c .slots ≡ take limit (filter (Q .match) (slots r ++ later way))
   at-hits limit = drain-hits W n Q (w .small) limit c K held-plays ∙ rw K-hits
 
   at-ends : (f : ℕ) → fuel n ≤ f → n ≤ after W n Q f c .slot
@@ -206,18 +208,18 @@ module _ (W : List ℕ) (n : ℕ) (Q : Rules) (E : Bool → ℕ → ℕ → Bool
   abbrev pub rest : List ℕ
   rest = slots (h .right) ++ later (h .way)
 
-  pub held-run : (limit : ℕ) → length (those (Q .match) rest) < limit
-      → drain W n Q limit c ≡ record { slots = those (Q .match) rest; next = ended; entered = length (enteredFrom E (h .slot) (h .right) (h .way)) }
+  pub held-run : (limit : ℕ) → length (filter (Q .match) rest) < limit
+      → drain W n Q limit c ≡ record { slots = filter (Q .match) rest; next = ended; entered = length (enteredFrom E (h .slot) (h .right) (h .way)) }
   held-run limit i = rw (h .is) (at-run W n Q E p k (h .way) (h .left) (h .slot) (h .right) here limit i)
 
-  pub held-nodes : (limit : ℕ) → length (those (Q .match) rest) < limit
+  pub held-nodes : (limit : ℕ) → length (filter (Q .match) rest) < limit
       → calls W n Q limit c ≡ enteredFrom E (h .slot) (h .right) (h .way)
   held-nodes limit i = rw (h .is) (at-nodes W n Q E p k (h .way) (h .left) (h .slot) (h .right) here limit i)
 
-  pub held-step : step W n Q c .slot ≡ firstOr U (those (Q .match) rest)
+  pub held-step : step W n Q c .slot ≡ firstOr U (filter (Q .match) rest)
   held-step = rw (h .is) (at-step W n Q E p k (h .way) (h .left) (h .slot) (h .right) here)
 
-  pub held-hits : (limit : ℕ) → drain W n Q limit c .slots ≡ take limit (those (Q .match) rest)
+  pub held-hits : (limit : ℕ) → drain W n Q limit c .slots ≡ take limit (filter (Q .match) rest)
   held-hits limit = rw (h .is) (at-hits W n Q E p k (h .way) (h .left) (h .slot) (h .right) here limit)
 
   -- the fuel suffices

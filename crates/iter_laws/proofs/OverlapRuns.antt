@@ -9,6 +9,7 @@ use lib.ListN.{length, take}
 use lib.Dec.{eqb}
 use Rattle.words.specs.Ix.{U}
 use Rattle.words.specs.Nodes.{par}
+use Rattle.words.specs.Lists.{filter}
 use Rattle.words.specs.declared.interval.Span.{Span}
 use Rattle.tree.specs.Tree.{slots, height, times}
 use Rattle.tree.specs.Passes.{Passes}
@@ -19,7 +20,7 @@ use Rattle.iter.specs.Forms.{formOf}
 use Rattle.iter.specs.Overlap.{meets, shouldGo, overlap}
 use Rattle.iter.specs.declared.Cursor.{Cursor}
 use Rattle.iter.specs.declared.Form.the-variants as form
-use Rattle.iter.specs.Lists.{firstOr, those}
+use Rattle.iter.specs.Lists.{firstOr}
 use Rattle.iter_laws.specs.Place.{Held, later}
 use Rattle.iter_laws.specs.Entered.{overlapRule, entered, enteredFrom, touching}
 use Rattle.iter_laws.proofs.Trees.{each-once}
@@ -40,7 +41,7 @@ module _ (W C : List ℕ) (n r : ℕ) (q : Span) (small : n ≤ 65535) (P : Pass
 
   -- the slots of the intersecting entries, in tree order
   abbrev pub all : List ℕ
-  all = those (meets W q) (slots (P .tree))
+  all = filter (meets W q) (slots (P .tree))
 
   walk : Walk W n (overlap W n q) (overlapRule W q) U r (P .tree)
   walk = overlap-walk W C n r q small P
@@ -123,7 +124,7 @@ module _ (W C : List ℕ) (n r : ℕ) (q : Span) (small : n ≤ 65535) (P : Pass
 
     -- the slots of the intersecting entries after its slot
     abbrev pub after-it : List ℕ
-    after-it = those (meets W q) (slots (h .right) ++ later (h .way))
+    after-it = filter (meets W q) (slots (h .right) ++ later (h .way))
 
     pub overlap-held : (limit : ℕ) → length after-it < limit
         → drain W n Q limit c

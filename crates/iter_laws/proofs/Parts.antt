@@ -9,12 +9,12 @@ use native.Mathlib.Nat.{zero-add, suc-add}
 use lib.ListN.{length}
 use lib.Dec.{ltb}
 use borrow.Author.Tests.{ltb-true}
+use Rattle.words.specs.Lists.{filter}
 use Rattle.tree.specs.Tree.{Tree, slots}
 use Rattle.iter.specs.Cursors.{ended, fresh}
 use Rattle.iter.specs.Walk.{Rules, Answer, enters, fuel, step, call, after}
 use Rattle.iter.specs.Drains.{Drained, more, drain, calls}
 use Rattle.iter.specs.Forms.{formOf}
-use Rattle.iter.specs.Lists.{those}
 use Rattle.iter.specs.declared.Cursor.{Cursor}
 use Rattle.iter.specs.declared.Form.{Form}
 use Rattle.iter.specs.declared.Form.the-variants as form
@@ -73,9 +73,6 @@ module _ (W : List ℕ) (n : ℕ) (Q : Rules) (E : Bool → ℕ → ℕ → Bool
   ended-formed : Formed ended
   ended-formed e = bad-form W n (w .small) p k t (w .shape) (w .low) ended e .1 refl
 
-  pub fresh-formed : Formed (fresh k)
-  fresh-formed e = bad-form W n (w .small) p k t (w .shape) (w .low) (fresh k) e .0 refl
-
   held-formed : (c : Cursor) → Held t c → Formed c
   held-formed c h e = bad-form W n (w .small) p k t (w .shape) (w .low) c e .2 h
 
@@ -116,11 +113,11 @@ module _ (W : List ℕ) (n : ℕ) (Q : Rules) (E : Bool → ℕ → ℕ → Bool
 
   -- all hits, and one more
   abbrev most : ℕ
-  most = suc (length (those (Q .match) (slots t)))
+  most = suc (length (filter (Q .match) (slots t)))
 
   -- from the fresh cursor: what is left after a first part
   pub slots-parts : (limit : ℕ)
-      → drain W n Q limit (fresh k) .slots ++ drain W n Q most (drain W n Q limit (fresh k) .next) .slots ≡ those (Q .match) (slots t)
+      → drain W n Q limit (fresh k) .slots ++ drain W n Q most (drain W n Q limit (fresh k) .next) .slots ≡ filter (Q .match) (slots t)
   slots-parts limit =
       ap (λ (d : Drained). d .slots) (sym (drain-split W n Q (w .small) limit most (fresh k)) ∙ fresh-run W n Q E p k t w (limit + most) (omega arith))
 
@@ -129,7 +126,7 @@ module _ (W : List ℕ) (n : ℕ) (Q : Rules) (E : Bool → ℕ → ℕ → Bool
 
   -- at the end nothing is left
   module _ (limit : ℕ) (e : drain W n Q limit (fresh k) .next ≡ ended) where
-    pub slots-end : drain W n Q limit (fresh k) .slots ≡ those (Q .match) (slots t)
+    pub slots-end : drain W n Q limit (fresh k) .slots ≡ filter (Q .match) (slots t)
     slots-end = rw (e, drain-end W n Q (w .small) most, append-nil) at (slots-parts limit)
 
     pub nodes-end : calls W n Q limit (fresh k) ≡ entered E t

@@ -4,12 +4,14 @@ use mathlib.Core.Bool.{Bool, true, false, cond}
 use mathlib.Core.List.{List, [], _∷_, _++_, append-assoc}
 use Prim.Native.Nat.{ℕ, suc, _+_, _*_, _<_, _≤_}
 use native.Mathlib.Omega.{arith}
+use Rattle.words.specs.Lists.{filter}
 use Rattle.tree.specs.Tree.{Tree, leaf, node, slots, hit, size, times}
 use Rattle.tree.specs.Passes.{Passes}
+use Rattle.words.proofs.Lists.{filter-append}
 use Rattle.tree.proofs.Slots.{hit-same, hit-cases, times-slots}
 use Rattle.iter_laws.specs.Place.{held}
 use Rattle.iter.specs.Walk.{Rules}
-use Rattle.iter.specs.Lists.{when, those}
+use Rattle.iter.specs.Lists.{when}
 use Rattle.iter.proofs.Events.{Event, found, hitSlots, nodes}
 use Rattle.iter_laws.proofs.Script.{visits, finds, script, moves, Empty, Fairs}
 use Rattle.iter_laws.proofs.Ways.{slot-at}
@@ -64,31 +66,22 @@ module _ (Q : Rules) where
       go a b false false true = rw b
       go a b false false false = refl
 
-pub those-append : (p : ℕ → Bool) (xs ys : List ℕ) → those p (xs ++ ys) ≡ those p xs ++ those p ys
-those-append p [] ys = refl
-those-append p (a ∷ xs) ys = go (p a) (those-append p xs ys)
-  where
-    go : (b : Bool) → those p (xs ++ ys) ≡ those p xs ++ those p ys
-        → cond b (a ∷ those p (xs ++ ys)) (those p (xs ++ ys)) ≡ cond b (a ∷ those p xs) (those p xs) ++ those p ys
-    go true e = rw e
-    go false e = e
-
 -- how often a slot stands among those that p says
-pub times-those : (p : ℕ → Bool) (s : ℕ) (l : List ℕ) → times s (those p l) ≡ cond (p s) (times s l) 0
-times-those p s [] = go (p s)
+pub times-filter : (p : ℕ → Bool) (s : ℕ) (l : List ℕ) → times s (filter p l) ≡ cond (p s) (times s l) 0
+times-filter p s [] = go (p s)
   where
     go : (b : Bool) → _≡_ {A = ℕ} 0 (cond b 0 0)
     go true = refl
     go false = refl
-times-those p s (a ∷ l) = hit-cases s a (λ e. rw e (same (p a) (rw e at (times-those p s l)))) (λ z. other (p a) (p s) z (times-those p s l))
+times-filter p s (a ∷ l) = hit-cases s a (λ e. rw e (same (p a) (rw e at (times-filter p s l)))) (λ z. other (p a) (p s) z (times-filter p s l))
   where
-    same : (b : Bool) → times a (those p l) ≡ cond b (times a l) 0
-        → times a (cond b (a ∷ those p l) (those p l)) ≡ cond b (hit a a + times a l) 0
+    same : (b : Bool) → times a (filter p l) ≡ cond b (times a l) 0
+        → times a (cond b (a ∷ filter p l) (filter p l)) ≡ cond b (hit a a + times a l) 0
     same true h = omega arith
     same false h = h
 
-    other : (b d : Bool) → hit s a ≡ 0 → times s (those p l) ≡ cond d (times s l) 0
-        → times s (cond b (a ∷ those p l) (those p l)) ≡ cond d (hit s a + times s l) 0
+    other : (b d : Bool) → hit s a ≡ 0 → times s (filter p l) ≡ cond d (times s l) 0
+        → times s (cond b (a ∷ filter p l) (filter p l)) ≡ cond d (hit s a + times s l) 0
     other true true z h = omega arith
     other true false z h = omega arith
     other false true z h = omega arith
@@ -96,28 +89,28 @@ times-those p s (a ∷ l) = hit-cases s a (λ e. rw e (same (p a) (rw e at (time
 
 -- on a store that passes each live slot is among them once if p says it, and else not at all
 pub each-once : (W C : List ℕ) (n r : ℕ) (P : Passes W C n r) (p : ℕ → Bool) (s : ℕ) → s < n
-    → times s (those p (slots (P .tree))) ≡ cond (p s) 1 0
-each-once W C n r P p s h = times-those p s (slots (P .tree)) ∙ rw (times-slots, P .once s h)
+    → times s (filter p (slots (P .tree))) ≡ cond (p s) 1 0
+each-once W C n r P p s h = times-filter p s (slots (P .tree)) ∙ rw (times-slots, P .once s h)
 
 module _ (Q : Rules) where
-  pub those-none : (t : Tree) → Empty Q t → those (Q .match) (slots t) ≡ []
-  those-none leaf f = refl
-  those-none (node l s r) f =
-      rw (those-append (Q .match) (slots l) (s ∷ slots r), those-none l (λ a o. f a (omega arith)), f s (omega (arith, hit-same s)))
-      (those-none r (λ a o. f a (omega arith)))
+  pub no-hits : (t : Tree) → Empty Q t → filter (Q .match) (slots t) ≡ []
+  no-hits leaf f = refl
+  no-hits (node l s r) f =
+      rw (filter-append (Q .match) (slots l) (s ∷ slots r), no-hits l (λ a o. f a (omega arith)), f s (omega (arith, hit-same s)))
+      (no-hits r (λ a o. f a (omega arith)))
 
   -- pruning loses nothing
-  pub finds-all : (t : Tree) → Fairs Q t → finds Q t ≡ those (Q .match) (slots t)
+  pub finds-all : (t : Tree) → Fairs Q t → finds Q t ≡ filter (Q .match) (slots t)
   finds-all leaf h = refl
   finds-all (node l s r) h =
-      rw those-append
+      rw filter-append
       (go (finds-all l (h .left)) (finds-all r (h .right)) (Q .go true s) (Q .match s) (Q .go false s)
-      (λ e. those-none l (h .no-left e)) (λ e. those-none r (h .no-right e)))
+      (λ e. no-hits l (h .no-left e)) (λ e. no-hits r (h .no-right e)))
     where
-      go : finds Q l ≡ those (Q .match) (slots l) → finds Q r ≡ those (Q .match) (slots r) → (i m j : Bool)
-          → (i ≡ false → those (Q .match) (slots l) ≡ []) → (j ≡ false → those (Q .match) (slots r) ≡ [])
+      go : finds Q l ≡ filter (Q .match) (slots l) → finds Q r ≡ filter (Q .match) (slots r) → (i m j : Bool)
+          → (i ≡ false → filter (Q .match) (slots l) ≡ []) → (j ≡ false → filter (Q .match) (slots r) ≡ [])
           → when i (finds Q l) ++ (when m (s ∷ []) ++ when j (finds Q r))
-          ≡ those (Q .match) (slots l) ++ cond m (s ∷ those (Q .match) (slots r)) (those (Q .match) (slots r))
+          ≡ filter (Q .match) (slots l) ++ cond m (s ∷ filter (Q .match) (slots r)) (filter (Q .match) (slots r))
       go a b true true true x y = rw (a, b)
       go a b true true false x y = rw (a, y refl)
       go a b true false true x y = rw (a, b)

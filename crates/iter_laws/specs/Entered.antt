@@ -5,12 +5,13 @@ use Prim.Native.Nat.{ℕ}
 use lib.ListN.{length}
 use Rattle.words.specs.Nodes.{lo, hi, interval, hull}
 use Rattle.words.specs.Intervals.{reached, admits, touches, contains}
+use Rattle.words.specs.Lists.{filter}
 use Rattle.words.specs.declared.interval.Interval.{Interval}
 use Rattle.words.specs.declared.interval.Span.{Span}
 use Rattle.tree.specs.Tree.{Tree, leaf, node, slots}
 use Rattle.tree.specs.Zipper.{Frame, frame}
 use Rattle.iter.specs.Exact.{sorted}
-use Rattle.iter.specs.Lists.{when, those}
+use Rattle.iter.specs.Lists.{when}
 
 -- "the left child of an entered node if the child's hull end >= lo (Included and Excluded alike) or lo is Unbounded; the right child
 -- if its hull start is <= hi, < hi, or hi is Unbounded, in that order of kinds"
@@ -44,4 +45,4 @@ enteredFrom E s r c = when (goes E false s r) (entered E r) ++ enteredLater E c
 
 -- how many entries of a tree "meet or touch" the range
 abbrev pub touching : List ℕ → Span → Tree → ℕ
-touching W q t = length (those (λ s. touches q (interval W s)) (slots t))
+touching W q t = length (filter (λ s. touches q (interval W s)) (slots t))

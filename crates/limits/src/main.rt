@@ -1,7 +1,6 @@
 // Builds and checks at the limits of the memory that a map can have. A line for each build: the number of entries, then
 // the refusal, and where there is none the count, the root and the refusal of the check afterwards. Then a line for each
 // chain of nodes that hang below one another by their right links: how many they are, and the refusal of the check.
-use iset::Checked;
 use iset::Map;
 use iset::build::Built;
 use libc::STDOUT_FILENO;
@@ -9,6 +8,8 @@ use words::interval::Interval;
 use words::ix::U;
 use words::node::Entry;
 use words::node::put_node;
+use words::node::slots_in;
+use words::numbers::least;
 ghost use mathlib.Core.Path.{_≡_};
 ghost use Prim.Native.Nat.{_*_, _≤_, _<_};
 ghost use lib.ListN.{length};
@@ -36,19 +37,6 @@ fn number(x: u64) {
     io::write_all(STDOUT_FILENO, b" ");
 }
 
-fn number_of(c: Checked) -> u64 {
-    match c {
-        Checked::Sound => 0,
-        Checked::Refused(why) => why.number(),
-    }
-}
-
-fn least(a: usize, b: usize) -> usize
-    ensures { λ r. ⌜ (r ≤ a) × (r ≤ b) ⌝ }
-{
-    if a < b { a } else { b }
-}
-
 // The k-th entry: entries overlap, and they begin at the same address by twos.
 fn put_triple(list: &mut [u64], k: usize) {
     if k < list.len() / 3 {
@@ -71,7 +59,7 @@ fn show_map(m: Map, nodes: &[u64], colours: &[u8]) {
     number(0);
     number(m.count);
     number(m.root);
-    number(number_of(m.check(nodes, colours)));
+    number(m.check(nodes, colours).number());
 }
 
 fn show_built(a: Built, nodes: &[u64], colours: &[u8]) {
@@ -131,51 +119,30 @@ fn put_chain(nodes: &mut [u64], n: u64)
 }
 
 fn chain(n: u64, nodes: &mut [u64], colours: &[u8]) {
-    if n <= (nodes.len() / 8) as u64 {
+    if n <= slots_in(nodes.len()) {
         put_chain(nodes, n);
         number(n);
-        number(number_of((Map { count: n, root: 0 }).check(nodes, colours)));
+        let m = Map { count: n, root: 0 };
+        number(m.check(nodes, colours).number());
         io::write_all(STDOUT_FILENO, b"\n");
     }
 }
 
-// How many entries the builds have: the last but one as many as a map can have, the last one more.
-fn size(k: u64) -> usize {
-    match k {
-        0 => 255,
-        1 => 256,
-        2 => 4096,
-        3 => 65535,
-        _ => 65536,
-    }
-}
-
+// The last build but one has as many entries as a map can have, the last one more.
 fn builds(list: &mut [u64], nodes: &mut [u64], colours: &mut [u8]) {
-    let mut k = 0;
-    while k < 5 {
-        let n = size(k);
-        k += 1;
-        build(n, list, nodes, colours);
-    }
-}
-
-fn links(k: u64) -> u64 {
-    match k {
-        0 => 1,
-        1 => 2,
-        2 => 4000,
-        3 => 65535,
-        _ => 65536,
-    }
+    build(255, list, nodes, colours);
+    build(256, list, nodes, colours);
+    build(4096, list, nodes, colours);
+    build(65535, list, nodes, colours);
+    build(65536, list, nodes, colours);
 }
 
 fn chains(nodes: &mut [u64], colours: &[u8]) {
-    let mut k = 0;
-    while k < 5 {
-        let n = links(k);
-        k += 1;
-        chain(n, nodes, colours);
-    }
+    chain(1, nodes, colours);
+    chain(2, nodes, colours);
+    chain(4000, nodes, colours);
+    chain(65535, nodes, colours);
+    chain(65536, nodes, colours);
 }
 
 fn main() {

@@ -1,5 +1,6 @@
 // A line read byte by byte: a name, then numbers, each after one space. The name is all before the first number, its
 // spaces included; it is empty where the line begins with a number.
+use words::numbers::wide;
 ghost use mathlib.Core.Path.{_≡_};
 ghost use Prim.Native.Nat.{_<_};
 ghost use lib.ListN.{length};
@@ -35,12 +36,6 @@ pub enum Digit {
 pub enum Value {
     Is(u64),
     Over,
-}
-
-fn wide(b: u8) -> u64
-    ensures { λ r. ⌜ r ≡ b ⌝ }
-{
-    b as u64
 }
 
 pub fn digit_of(b: u8) -> Digit

@@ -12,11 +12,11 @@ use lib.Dec.{eqb}
 use borrow.Author.Tests.{eq-eqb, ne-eqb}
 use Rattle.words.specs.Ix.{U, linkOf, onLink}
 use Rattle.words.specs.Nodes.{kid, par}
+use Rattle.words.specs.Lists.{filter}
 use Rattle.words.specs.declared.ix.Link.{Link}
 use Rattle.words.specs.declared.ix.Link.the-variants.{Slot, Nil}
 use Rattle.tree_links.proofs.LinkLaws.{read-linked, read-unlinked, slot-is}
 use Rattle.iter.specs.Drains.{filled}
-use Rattle.iter.specs.Lists.{those}
 use Rattle.iter.specs.Walk.{Rules}
 use Rattle.iter.proofs.Fills.{drop-on}
 use Rattle.plain_laws.specs.Tour.{ascend, nextOf, firstOf, tour, entries, plain}
@@ -101,20 +101,20 @@ module _ (W : List ℕ) (n : ℕ) where
 
   -- the hits, i of which stand in `out`
   module _ (Q : Rules) where
-    pub scan-begin : (r k : ℕ) (out : List ℕ) → k ≡ firstOf n W r → plain n W Q r ≡ take 0 out ++ those (Q .match) (rest (n - 0) k)
+    pub scan-begin : (r k : ℕ) (out : List ℕ) → k ≡ firstOf n W r → plain n W Q r ≡ take 0 out ++ filter (Q .match) (rest (n - 0) k)
     unfolding plain entries
     scan-begin r k out e = rw (sub-zero, ← e)
 
-    module _ (k m : ℕ) (P out old : List ℕ) (i : ℕ) (e : P ≡ take i out ++ those (Q .match) (rest (n - m) k)) (few : i ≤ m) (big : n ≤ length old)
+    module _ (k m : ℕ) (P out old : List ℕ) (i : ℕ) (e : P ≡ take i out ++ filter (Q .match) (rest (n - m) k)) (few : i ≤ m) (big : n ≤ length old)
         (len : length out ≡ length old) where
       -- one entry more
       pub scan-on : (l : Link) (s i′ u : ℕ) (b : Bool) (new : List ℕ) → l ≡ linkOf n k → l ≡ Slot s → m < n → b ≡ Q .match s
-          → i′ ≡ cond b (i + 1) i → new ≡ cond b (set out i s) out → u ≡ nextOf n W s → P ≡ take i′ new ++ those (Q .match) (rest (n - (m + 1)) u)
+          → i′ ≡ cond b (i + 1) i → new ≡ cond b (set out i s) out → u ≡ nextOf n W s → P ≡ take i′ new ++ filter (Q .match) (rest (n - (m + 1)) u)
       scan-on l s i′ u b new p q h f g j x =
-          rw (g, j, x) (e ∙ ap (λ (y : List ℕ). take i out ++ those (Q .match) y) (some k m l p s q h) ∙ go b f)
+          rw (g, j, x) (e ∙ ap (λ (y : List ℕ). take i out ++ filter (Q .match) y) (some k m l p s q h) ∙ go b f)
         where
-          go : (b : Bool) → b ≡ Q .match s → take i out ++ those (Q .match) (s ∷ rest (n - (m + 1)) (nextOf n W s))
-              ≡ take (cond b (i + 1) i) (cond b (set out i s) out) ++ those (Q .match) (rest (n - (m + 1)) (nextOf n W s))
+          go : (b : Bool) → b ≡ Q .match s → take i out ++ filter (Q .match) (s ∷ rest (n - (m + 1)) (nextOf n W s))
+              ≡ take (cond b (i + 1) i) (cond b (set out i s) out) ++ filter (Q .match) (rest (n - (m + 1)) (nextOf n W s))
           go true f = rw (← f, add-one i, take-suc-set out i s (omega (arith, few, big, len, h)), append-assoc)
           go false f = rw (← f)
 

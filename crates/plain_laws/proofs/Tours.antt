@@ -9,6 +9,7 @@ use lib.ListN.{length, length-append}
 use lib.Dec.{eqb}
 use Rattle.words.specs.Ix.{U}
 use Rattle.words.specs.Nodes.{kid, par}
+use Rattle.words.specs.Lists.{filter}
 use Rattle.words.specs.declared.interval.Span.{Span}
 use Rattle.words.specs.declared.interval.Interval.{Interval}
 use Rattle.tree.specs.Tree.{Tree, leaf, node, slots, size, height, occ, first, Shape}
@@ -23,7 +24,6 @@ use Rattle.tree_edit.proofs.Rotations.{side-of}
 use Rattle.iter.specs.Cursors.{ended, fresh}
 use Rattle.iter.specs.Drains.{drain}
 use Rattle.iter.specs.Exact.{equals, exact, findFrom}
-use Rattle.iter.specs.Lists.{those}
 use Rattle.iter.specs.Overlap.{meets, overlap}
 use Rattle.iter_laws.proofs.OverlapRuns.{overlap-run}
 use Rattle.iter_laws.proofs.ExactRuns.{exact-run}
@@ -112,7 +112,7 @@ module _ (W C : List ℕ) (n r : ℕ) (small : n ≤ 65535) (P : Passes W C n r)
       → (drain W n (overlap W n q) limit (fresh r) .slots ≡ plain n W (overlap W n q) r) × (drain W n (overlap W n q) limit (fresh r) .next ≡ ended)
   unfolding plain
   overlap-agrees q limit h =
-      let k : length (those (meets W q) (slots (P .tree))) < limit = rw entries-are at h in
+      let k : length (filter (meets W q) (slots (P .tree))) < limit = rw entries-are at h in
       rw (overlap-run W C n r q small P limit k, entries-are) (refl, refl)
 
   pub exact-agrees : (x : Interval) (limit : ℕ) → length (plain n W (exact W n x) r) < limit
@@ -120,7 +120,7 @@ module _ (W C : List ℕ) (n r : ℕ) (small : n ≤ 65535) (P : Passes W C n r)
       × (drain W n (exact W n x) limit (fresh (findFrom W n x r)) .next ≡ ended)
   unfolding plain
   exact-agrees x limit h =
-      let k : length (those (equals W x) (slots (P .tree))) < limit = rw entries-are at h in
+      let k : length (filter (equals W x) (slots (P .tree))) < limit = rw entries-are at h in
       let z = exact-run W C n r x small P limit k in
       rw entries-are z
 

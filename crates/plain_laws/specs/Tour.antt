@@ -5,8 +5,8 @@ use Prim.Native.Nat.{ℕ, zero, suc}
 use lib.Dec.{eqb}
 use Rattle.words.specs.Ix.{U, onLink}
 use Rattle.words.specs.Nodes.{kid, par}
+use Rattle.words.specs.Lists.{filter}
 use Rattle.tree_edit.specs.Links.{leftmost}
-use Rattle.iter.specs.Lists.{those}
 use Rattle.iter.specs.Walk.{Rules}
 
 -- the first slot above s that has s on the left, at most `height` links up; U if there is none
@@ -37,4 +37,4 @@ entries n W r = tour n n W (firstOf n W r)
 
 -- "tests each": those that the query asks for
 unfoldable pub plain : ℕ → List ℕ → Rules → ℕ → List ℕ
-plain n W Q r = those (Q .match) (entries n W r)
+plain n W Q r = filter (Q .match) (entries n W r)

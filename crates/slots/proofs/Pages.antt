@@ -109,15 +109,15 @@ module _ (W : List ℕ) (n k : ℕ) (P p : Page) (e : P ≡ puts p (rows W k (n 
   rows-end h = let d : n - k ≡ 0 = omega arith in sym (rw d at e)
 
 -- a map that the words hold, and one that they do not
-module _ (m : Map) (W : List ℕ) (p r : Page) where
-  pub map-short : length W / 8 < m .count → r ≡ puts p (refusalText 1) → r ≡ puts p (heldText m W)
+module _ (m : Map) (W : List ℕ) (p r : Page) (t : ℕ) (i : t ≡ length W / 8) where
+  pub map-short : t < m .count → r ≡ puts p (refusalText 1) → r ≡ puts p (heldText m W)
   unfolding heldText
-  map-short h e = rw (lt-ltb (length W / 8) (m .count) h) e
+  map-short h e = rw (← i, lt-ltb t (m .count) h) e
 
-  pub map-text : m .count ≤ length W / 8 → (q : Page) → q ≡ puts p (head (m .count) (m .root)) → r ≡ puts q (rows W 0 (m .count))
+  pub map-text : m .count ≤ t → (q : Page) → q ≡ puts p (head (m .count) (m .root)) → r ≡ puts q (rows W 0 (m .count))
       → r ≡ puts p (heldText m W)
   unfolding heldText mapText
-  map-text h q e f = rw (le-ltb (length W / 8) (m .count) h) (then p q r (head (m .count) (m .root)) (rows W 0 (m .count)) e f)
+  map-text h q e f = rw (← i, le-ltb t (m .count) h) (then p q r (head (m .count) (m .root)) (rows W 0 (m .count)) e f)
 
 -- what is printed of work that was taken apart
 pub text-of : (w z : Work) (W : List ℕ) (p q : Page) → w ≡ z → q ≡ puts p (workText z W) → q ≡ puts p (workText w W)

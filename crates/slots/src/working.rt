@@ -4,8 +4,9 @@ use iset::Map;
 use iset::Refusal;
 use iset::build::Built;
 use iset::remove::Removal;
+use words::numbers::least;
 ghost use mathlib.Core.Path.{_≡_};
-ghost use Prim.Native.Nat.{_+_, _*_, _/_, _≤_, min};
+ghost use Prim.Native.Nat.{_+_, _*_, _/_, _≤_};
 ghost use lib.ListN.{length};
 ghost use lib.Seq.{sets};
 ghost use mathlib.Core.List.{[], _∷_};
@@ -43,12 +44,6 @@ fn put_triple(n: usize, a: u64, b: u64, c: u64, entries: &mut [u64]) -> usize
     entries[n * 3 + 1] = b;
     entries[n * 3 + 2] = c;
     n + 1
-}
-
-fn least(a: usize, b: usize) -> usize
-    ensures { λ r. ⌜ r ≡ min a b ⌝ }
-{
-    if a < b { a } else { b }
 }
 
 // One more entry after n of them.

@@ -5,6 +5,7 @@ use iset::Map;
 use words::ix::U;
 use words::node::Entry;
 use words::node::entry_of;
+use words::node::slots_in;
 ghost use mathlib.Core.Path.{_≡_};
 ghost use Prim.Native.Nat.{_+_, _*_, _<_, _≤_};
 ghost use lib.ListN.{length};
@@ -129,7 +130,7 @@ fn put_map(out: &mut [u8], map: Map, nodes: &[u64]) -> usize
     ensures { λ r. ⌜ page r (now (out .exit)) ≡ puts (page 0 (now (out .entry))) (heldText map (now (nodes .entry))) ⌝ }
 {
     let count = map.count;
-    if ((nodes.len() / 8) as u64) < count {
+    if slots_in(nodes.len()) < count {
         return put_refusal(out, 1);
     }
     let to = put_head(out, map);

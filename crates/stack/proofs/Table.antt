@@ -1,17 +1,17 @@
 -- The stack's calls in the words of document 01: what each test says of the four states, what state each mark leaves, what `push`, `pop` and `new` write,
 -- and when a call is refused.
-use mathlib.Core.Path.{_≡_, refl, sym, _∙_}
-use mathlib.Core.Bool.{Bool, true, false, cond, _&&_}
-use Prim.Native.Nat.{ℕ, zero, suc, _+_, _-_, _*_, _/_, _^_, _<_, _≤_}
+use mathlib.Core.Path.{_≡_, refl, _∙_}
+use mathlib.Core.Bool.{Bool, true, false, _&&_}
+use Prim.Native.Nat.{ℕ, zero, suc, _+_, _-_, _*_, _<_, _≤_}
 use native.Mathlib.Omega.{arith}
 use native.Mathlib.Numerals.{add-one}
 use native.Mathlib.Nat.{div-eq-of-lt}
-use lib.Dec.{eqb, leb}
+use lib.Dec.{leb}
 use borrow.Author.Tests.{le-leb, lt-leb, leb-true, ne-eqb}
 use Rattle.bitvec.specs.Bits.{bit}
 use Rattle.bitvec.proofs.Numbers.{num}
 use Rattle.stack.specs.States.{entered, wasLeft, returned, wasRight, stateAt, putState, start, top, marked, pushed, popped}
-use Rattle.stack.specs.Calls.{Told, done, some, testRule, markRule, pushRule, popRule, isEmptyRule}
+use Rattle.stack.specs.Calls.{done, some, testRule, markRule, pushRule, popRule, isEmptyRule}
 use Rattle.stack.specs.Calls.{justEntered, notReturned, notRight, wentLeft, canGoLeftRule, canMatchRule, canGoRightRule, goLeftRule, makeMatchRule, goRightRule}
 use Rattle.stack.specs.Written.{state, byState, Writes, refusedBy}
 use Rattle.stack.specs.declared.ActionStack.{ActionStack}

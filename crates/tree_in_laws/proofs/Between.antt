@@ -1,50 +1,43 @@
 -- Entries and order: a new one between those that are not greater and the greater ones.
 use mathlib.Core.Path.{_≡_, refl, ap, _∙_}
-use mathlib.Core.Bool.{Bool, true, false, cond, not}
+use mathlib.Core.Bool.{Bool, true, false, not}
 use mathlib.Core.List.{List, [], _∷_, _++_, append-nil, map}
 use Prim.Native.Nat.{ℕ, _<_}
 use native.Mathlib.Omega.{arith}
 use Rattle.words.specs.Intervals.{le}
+use Rattle.words.specs.Lists.{filter}
 use Rattle.words.specs.Nodes.{interval}
 use Rattle.words.specs.declared.interval.Interval.{Interval}
+use Rattle.words.proofs.Lists.{filter-append}
 use Rattle.tree.specs.Order.{NotAfter, Next, Rising}
 use Rattle.tree.specs.Tree.{times}
 use Rattle.tree.proofs.Slots.{hit-same}
 use Rattle.tree.proofs.Orders.{le-sound, le-not, Before}
-use Rattle.tree_in_laws.specs.InsertionGuarantee.{only, notGreater, greater}
+use Rattle.tree_in_laws.specs.InsertionGuarantee.{notGreater, greater}
 
 module _ (p : ℕ → Bool) where
-  only-append : (A B : List ℕ) → only p (A ++ B) ≡ only p A ++ only p B
-  only-append [] B = refl
-  only-append (a ∷ A) B = go (p a) (only-append A B)
-    where
-      go : (t : Bool) → only p (A ++ B) ≡ only p A ++ only p B
-          → cond t (a ∷ only p (A ++ B)) (only p (A ++ B)) ≡ cond t (a ∷ only p A) (only p A) ++ only p B
-      go true e = rw e
-      go false e = e
+  filter-all : (l : List ℕ) → ((a : ℕ) → 0 < times a l → p a ≡ true) → filter p l ≡ l
+  filter-all [] h = refl
+  filter-all (a ∷ l) h = rw (h a (omega (arith, hit-same a)), filter-all l (λ b o. h b (omega arith)))
 
-  only-all : (l : List ℕ) → ((a : ℕ) → 0 < times a l → p a ≡ true) → only p l ≡ l
-  only-all [] h = refl
-  only-all (a ∷ l) h = rw (h a (omega (arith, hit-same a)), only-all l (λ b o. h b (omega arith)))
-
-  only-none : (l : List ℕ) → ((a : ℕ) → 0 < times a l → p a ≡ false) → only p l ≡ []
-  only-none [] h = refl
-  only-none (a ∷ l) h = rw (h a (omega (arith, hit-same a)), only-none l (λ b o. h b (omega arith)))
+  filter-none : (l : List ℕ) → ((a : ℕ) → 0 < times a l → p a ≡ false) → filter p l ≡ []
+  filter-none [] h = refl
+  filter-none (a ∷ l) h = rw (h a (omega (arith, hit-same a)), filter-none l (λ b o. h b (omega arith)))
 
 -- a row that is parted already
 module _ (W : List ℕ) (x : Interval) (A B : List ℕ) (f : (a : ℕ) → 0 < times a A → le (interval W a) x ≡ true)
     (g : (a : ℕ) → 0 < times a B → le (interval W a) x ≡ false) where
   pub first-part : notGreater W x (A ++ B) ≡ A
   first-part =
-      only-append (λ a. le (interval W a) x) A B
-      ∙ rw (only-all (λ a. le (interval W a) x) A f, only-none (λ a. le (interval W a) x) B g) (append-nil A)
+      filter-append (λ a. le (interval W a) x) A B
+      ∙ rw (filter-all (λ a. le (interval W a) x) A f, filter-none (λ a. le (interval W a) x) B g) (append-nil A)
 
   pub second-part : greater W x (A ++ B) ≡ B
   second-part =
-      only-append (λ a. not (le (interval W a) x)) A B
+      filter-append (λ a. not (le (interval W a) x)) A B
       ∙ rw (
-        only-none (λ a. not (le (interval W a) x)) A (λ a o. ap not (f a o)),
-        only-all (λ a. not (le (interval W a) x)) B (λ a o. ap not (g a o)),
+        filter-none (λ a. not (le (interval W a) x)) A (λ a o. ap not (f a o)),
+        filter-all (λ a. not (le (interval W a) x)) B (λ a o. ap not (g a o)),
       ) refl
 
 -- each of a list is not after x

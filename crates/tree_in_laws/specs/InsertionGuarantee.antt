@@ -1,11 +1,12 @@
 -- What the insertion of an entry owes, to a store that passes the check and has room.
 use mathlib.Core.Path.{_≡_}
 use mathlib.Core.Logic.{_≢_}
-use mathlib.Core.Bool.{Bool, true, cond, not}
-use mathlib.Core.List.{List, [], _∷_, _++_, map}
+use mathlib.Core.Bool.{true, not}
+use mathlib.Core.List.{List, _∷_, _++_, map}
 use Prim.Native.Nat.{ℕ, _+_}
 use Rattle.words.specs.Ix.{U, onLink}
 use Rattle.words.specs.Intervals.{le}
+use Rattle.words.specs.Lists.{filter}
 use Rattle.words.specs.Nodes.{interval, entry}
 use Rattle.words.specs.declared.interval.Interval.{Interval}
 use Rattle.words.specs.declared.node.Entry.{Entry}
@@ -19,17 +20,12 @@ use Rattle.tree_in_laws.specs.Descent.{descend}
 use Rattle.tree_in_laws.specs.InsertRepair.{insertRepair}
 use Rattle.tree_in_laws.specs.Insert.{own, hungWords, hungRoot}
 
--- the slots of a list that a test picks
-abbrev pub only : (ℕ → Bool) → List ℕ → List ℕ
-only p [] = []
-only p (a ∷ l) = cond (p a) (a ∷ only p l) (only p l)
-
 -- those whose interval is not greater than x, by start, then end; and those whose interval is greater
 abbrev pub notGreater : List ℕ → Interval → List ℕ → List ℕ
-notGreater W x l = only (λ a. le (interval W a) x) l
+notGreater W x l = filter (λ a. le (interval W a) x) l
 
 abbrev pub greater : List ℕ → Interval → List ℕ → List ℕ
-greater W x l = only (λ a. not (le (interval W a) x)) l
+greater W x l = filter (λ a. not (le (interval W a) x)) l
 
 pub record InsertionGuarantee (W C : List ℕ) (n r : ℕ) (e : Entry) (before : Passes W C n r) (S : Store) : Type 0 where
   -- the store passes again, with one entry more

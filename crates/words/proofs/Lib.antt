@@ -1,4 +1,6 @@
+pub mod Bounds
 pub mod Laws
+pub mod Lists
 pub mod Nodes
 pub mod Refusals
 pub mod Tests

@@ -9,7 +9,7 @@ use lib.Dec.{eqb}
 use lib.ListN.{length, length-set}
 use lib.Seq.{getD-set-same, getD-set-other}
 use borrow.Author.Tests.{eqb-true, eqb-false}
-use Rattle.words.specs.Nodes.{place, word, put, kid, par, interval, hull, entry, putKid, putPar, putEntry, putHull, putNode, swap, hullOf, fix}
+use Rattle.words.specs.Nodes.{place, word, put, kid, par, hull, entry, putKid, putPar, putEntry, putHull, putNode, swap, hullOf, fix}
 use Rattle.words.specs.declared.interval.Interval.{Interval}
 use Rattle.words.specs.declared.node.Entry.{Entry}
 use Rattle.words.specs.declared.node.Field.{Field}

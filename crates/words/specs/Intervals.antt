@@ -1,11 +1,15 @@
 -- Intervals: their order and their hull; and the bounds of a range.
-use mathlib.Core.Bool.{Bool, true, false, _&&_, _||_}
+use mathlib.Core.Bool.{Bool, true, cond, _&&_, _||_}
 use Prim.Native.Nat.{ℕ, min, max}
 use lib.Dec.{eqb, leb, ltb}
 use Rattle.words.specs.declared.interval.Bound.{Bound}
 use Rattle.words.specs.declared.interval.Bound.the-variants.{Included, Excluded, Unbounded}
 use Rattle.words.specs.declared.interval.Span.{Span}
 use Rattle.words.specs.declared.interval.Interval.{Interval}
+
+-- "A range has two bounds, each Included, Excluded or Unbounded": a bound by the number of its kind, 0, 1 or 2, and its own number
+abbrev pub boundOf : ℕ → ℕ → Bound
+boundOf kind x = cond (eqb kind 0) (Included x) (cond (eqb kind 1) (Excluded x) Unbounded)
 
 -- "end > lo, or lo is Unbounded"
 abbrev pub passed : Bound → ℕ → Bool

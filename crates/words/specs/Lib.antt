@@ -2,3 +2,4 @@ pub mod Ix
 pub mod Refusals
 pub mod Intervals
 pub mod Nodes
+pub mod Lists

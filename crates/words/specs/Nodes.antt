@@ -116,6 +116,10 @@ HoldsBits C n = n ≤ bitsOf (length C)
 abbrev pub HasBit : (bytes : List ℕ) (bit : ℕ) → Type 0
 HasBit C i = i < bitsOf (length C)
 
+-- how many slots so many node words hold
+abbrev pub slotsIn : ℕ → ℕ
+slotsIn words = words / 8
+
 -- "Capacity: the least of node words div 8, colour bytes × 8, and 65,535."
-abbrev pub room : ℕ → ℕ → ℕ
-room words bytes = min (words / 8) (min (bytes * 8) 65535)
+abbrev pub capacity : ℕ → ℕ → ℕ
+capacity words bytes = min (slotsIn words) (min (bytes * 8) 65535)

@@ -1,7 +1,7 @@
 // Intervals of addresses, and ranges of two bounds.
 ghost use mathlib.Core.Path.{_≡_};
 ghost use Prim.Native.Nat.{min, max};
-ghost use Rattle.words.specs.Intervals.{passed, reached, admits, proper, le, eq, contains, extended, intersects};
+ghost use Rattle.words.specs.Intervals.{passed, reached, admits, boundOf, proper, le, eq, contains, extended, intersects};
 
 // One bound of a range.
 pub enum Bound {
@@ -35,6 +35,20 @@ pub fn larger(a: u64, b: u64) -> u64
 }
 
 impl Bound {
+    // The bound of a kind: 0 Included, 1 Excluded, any other Unbounded, whose number is not read. A caller that
+    // takes only the kinds 0 to 2 tests them first.
+    pub fn of_kind(kind: u64, x: u64) -> Bound
+        ensures { λ r. ⌜ r ≡ boundOf kind x ⌝ }
+    {
+        if kind == 0 {
+            return Bound::Included(x);
+        }
+        if kind == 1 {
+            return Bound::Excluded(x);
+        }
+        Bound::Unbounded
+    }
+
     // As a lower bound: what ends at `end` goes past it. An Excluded bound is passed as an Included one is.
     pub fn passed_by(self, end: u64) -> bool
         ensures { λ r. ⌜ r ≡ passed self end ⌝ }

@@ -1,6 +1,8 @@
-// What every layer shares: links, refusals, intervals and the bounds of a range, and the eight words of a node.
+// What every layer shares: links, refusals, intervals and the bounds of a range, the eight words of a
+// node, and two functions on plain numbers.
 pub mod interval;
 pub mod ix;
 pub mod node;
+pub mod numbers;
 pub mod pair;
 pub mod refusal;

@@ -5,7 +5,7 @@ use crate::ix::Link;
 ghost use mathlib.Core.Path.{_≡_};
 ghost use Prim.Native.Nat.{_+_, _*_, _<_, _≤_};
 ghost use lib.ListN.{length};
-ghost use Rattle.words.specs.Nodes.{place, word, put, start, stop, value, lo, hi, kid, par, interval, hull, entry, putKid, putPar, putEntry, putHull, putNode, swap, joined, hullOf, altered, fix, room};
+ghost use Rattle.words.specs.Nodes.{place, word, put, start, stop, value, lo, hi, kid, par, interval, hull, entry, putKid, putPar, putEntry, putHull, putNode, swap, joined, hullOf, altered, fix, slotsIn, capacity};
 
 // How many words a node has: where the words of a store can be cut between two slots.
 pub const NODE_WORDS: usize = 8;
@@ -17,11 +17,18 @@ pub struct Entry {
     pub value: u64,
 }
 
+// How many slots so many node words hold.
+pub fn slots_in(words: usize) -> u64
+    ensures { λ r. ⌜ r ≡ slotsIn words ⌝ }
+{
+    (words / NODE_WORDS) as u64
+}
+
 // How many entries so many node words and colour bytes can hold.
 pub fn capacity(words: usize, bytes: usize) -> u64
-    ensures { λ r. ⌜ r ≡ room words bytes ⌝ }
+    ensures { λ r. ⌜ r ≡ capacity words bytes ⌝ }
 {
-    let nodes = (words / NODE_WORDS) as u64;
+    let nodes = slots_in(words);
     if bytes < 8192 {
         return smaller(nodes, smaller((bytes * 8) as u64, 65535));
     }

@@ -6,8 +6,6 @@ use lib.ListN.{length, length-set}
 use Rattle.bitvec.specs.Bits.{fill}
 use Rattle.bitvec.proofs.fill_bytes.Statement.{statement}
 use Rattle.bitvec.proofs.fill_bytes.Tie as tie
-use Rattle.bitvec.proofs.fill_bytes.Reads as reads
-use Rattle.bitvec.proofs.fill_bytes.Lts as lts
 
 abbrev Inv-loop : tie.InvT-loop
 Inv-loop bytes₀ n x j₀ bytes j = (bytes ≡ fill j x bytes₀) × (length bytes ≡ length bytes₀) × (j ≤ n)

@@ -1,15 +1,6 @@
-use Rattle.capi.proofs.Laws.{sound-number, refused-number}
 use borrow.Author.Needs.{needs}
 use Rattle.capi.proofs.iset_check.Statement.{statement}
 use Rattle.capi.proofs.iset_check.Tie as tie
 
 pub iset-check-spec : {M : Type 1} → statement M
-iset-check-spec =
-    tie.close
-    (tie.spec
-    (λ c κs. search needs)
-    (λ c. search needs)
-    (λ c. search needs)
-    (λ c κs. search needs)
-    (λ c. search sound-number)
-    (λ c. search refused-number))
+iset-check-spec = tie.close (tie.spec (λ c κs. search needs) (λ c κs. search needs) (λ c. cc))

@@ -29,16 +29,6 @@ fn is_bound(kind: u64, x: u64) -> bool {
     (kind < 2) | ((kind == 2) & (x == 0))
 }
 
-fn bound(kind: u64, x: u64) -> Bound {
-    if kind == 0 {
-        Bound::Included(x)
-    } else if kind == 1 {
-        Bound::Excluded(x)
-    } else {
-        Bound::Unbounded
-    }
-}
-
 fn are_bounds(numbers: &[u64]) -> bool {
     is_bound(given::number(numbers, 0), given::number(numbers, 1))
         & is_bound(given::number(numbers, 2), given::number(numbers, 3))
@@ -54,8 +44,8 @@ pub(crate) fn fits(kind: Kind, numbers: &[u64]) -> bool {
 
 fn overlap(numbers: &[u64]) -> Query {
     Query::Overlap(Span {
-        lo: bound(given::number(numbers, 0), given::number(numbers, 1)),
-        hi: bound(given::number(numbers, 2), given::number(numbers, 3)),
+        lo: Bound::of_kind(given::number(numbers, 0), given::number(numbers, 1)),
+        hi: Bound::of_kind(given::number(numbers, 2), given::number(numbers, 3)),
     })
 }
 

@@ -1,9 +1,9 @@
 // `build LIST`: a map built into the slices of the store.
-use crate::arena;
 use crate::given;
 use crate::map::reply::Reply;
 use iset::Map;
 use iset::build::Built;
+use words::numbers::least;
 
 // The first number says how many follow, at most 12,288.
 pub(crate) fn fits(numbers: &[u64]) -> bool {
@@ -20,7 +20,7 @@ fn reply_of(a: Built) -> Reply {
 }
 
 pub(crate) fn build(numbers: &[u64], nodes: &mut [u64], colours: &mut [u8]) -> Reply {
-    let from = arena::least(1, numbers.len());
-    let n = arena::least(given::size(numbers, 0), numbers.len() - from);
+    let from = least(1, numbers.len());
+    let n = least(given::size(numbers, 0), numbers.len() - from);
     reply_of(Map::build(nodes, colours, &numbers[from..from + n]))
 }

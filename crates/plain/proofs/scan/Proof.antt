@@ -3,8 +3,8 @@ use mathlib.Core.List.{_++_}
 use Prim.Native.Nat.{_+_, _-_, _≤_}
 use native.Mathlib.Omega.{arith}
 use lib.ListN.{length, take, drop}
+use Rattle.words.specs.Lists.{filter}
 use Rattle.words.proofs.Laws.{slot-live}
-use Rattle.iter.specs.Lists.{those}
 use Rattle.iter.specs.Queries.{rules}
 use Rattle.plain_laws.specs.Tour.{tour, entries, plain}
 use Rattle.plain.proofs.Scans.{scan-begin, count-begin, scan-on, none-filled, none-hits, full-hits, full-filled, count-on, count-none, count-full, tally-is, drop-noted, length-noted, few-noted}
@@ -13,7 +13,7 @@ use Rattle.plain.proofs.scan.Statement.{statement}
 use Rattle.plain.proofs.scan.Tie as tie
 
 abbrev Inv-loop : tie.InvT-loop
-Inv-loop nodes count root query out₀ at₀ hits₀ seen₀ out at hits seen = (plain count nodes (rules nodes count query) root ≡ take hits out ++ those (rules nodes count query .match) (tour count (count - seen) nodes at))
+Inv-loop nodes count root query out₀ at₀ hits₀ seen₀ out at hits seen = (plain count nodes (rules nodes count query) root ≡ take hits out ++ filter (rules nodes count query .match) (tour count (count - seen) nodes at))
     × (length (entries count nodes root) ≡ seen + length (tour count (count - seen) nodes at)) × (hits ≤ seen) × (seen ≤ count) × (drop hits out ≡ drop hits out₀) × (length out ≡ length out₀)
 
 abbrev μ-loop : tie.MeasureT-loop

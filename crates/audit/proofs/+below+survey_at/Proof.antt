@@ -5,25 +5,25 @@ use borrow.Fn.PlainCycle.{Measures, is, falls, and}
 use Rattle.audit.proofs.Laws.{room, dry, ended, outside, untied, alive, alone, entered}
 use Rattle.audit.proofs.below.Reads as below
 use Rattle.audit.proofs.below.Kinds as below-kinds
-use Rattle.audit.proofs.+below+walk.Lts-below as below-lts
-use Rattle.audit.proofs.walk.Reads as walk
-use Rattle.audit.proofs.walk.Kinds as walk-kinds
-use Rattle.audit.proofs.+below+walk.Lts-walk as walk-lts
+use Rattle.audit.proofs.+below+survey_at.Lts-below as below-lts
+use Rattle.audit.proofs.survey_at.Reads as survey
+use Rattle.audit.proofs.survey_at.Kinds as survey-kinds
+use Rattle.audit.proofs.+below+survey_at.Lts-survey_at as survey-lts
 use Rattle.audit.proofs.combine.Reads as combine-reads
 use Rattle.audit.proofs.is_leaf.Reads as is-leaf-reads
 use Rattle.audit.proofs.is_tied.Reads as is-tied-reads
 use Rattle.audit.proofs.lone.Reads as lone-reads
 use Rattle.audit.proofs.no_nodes.Reads as no-nodes-reads
 use Rattle.audit.proofs.node_at.Reads as node-at-reads
-use Rattle.audit.proofs.+below+walk.{statement}
-use Rattle.audit.proofs.+below+walk.Tie.{close}
+use Rattle.audit.proofs.+below+survey_at.{statement}
+use Rattle.audit.proofs.+below+survey_at.Tie.{close}
 
--- the height that is left, twice: `below` hands its own on to `walk`, and `walk` one less to `below`
+-- the height that is left, twice: `below` hands its own on to `survey_at`, and `survey_at` one less to `below`
 abbrev μ-below : Measures 2 below-kinds.ps ℕ
 μ-below κs a = 2 * a .1 .1 .1 .1 .1 .1 .0 + 1
 
-abbrev μ-walk : Measures 2 walk-kinds.ps ℕ
-μ-walk κs a = 2 * a .1 .1 .1 .1 .1 .1 .0
+abbrev μ-survey : Measures 2 survey-kinds.ps ℕ
+μ-survey κs a = 2 * a .1 .1 .1 .1 .1 .1 .0
 
 abbrev below-at : ℕ → In 2 below-kinds.ps
 below-at t = and 2 below-kinds.ps (is 2 below-kinds.ps μ-below t) below.Pre
@@ -31,14 +31,14 @@ below-at t = and 2 below-kinds.ps (is 2 below-kinds.ps μ-below t) below.Pre
 abbrev below-under : ℕ → In 2 below-kinds.ps
 below-under t = and 2 below-kinds.ps (falls 2 below-kinds.ps _<_ μ-below t) below.Pre
 
-abbrev walk-at : ℕ → In 2 walk-kinds.ps
-walk-at t = and 2 walk-kinds.ps (is 2 walk-kinds.ps μ-walk t) walk.Pre
+abbrev survey-at-height : ℕ → In 2 survey-kinds.ps
+survey-at-height t = and 2 survey-kinds.ps (is 2 survey-kinds.ps μ-survey t) survey.Pre
 
-abbrev walk-under : ℕ → In 2 walk-kinds.ps
-walk-under t = and 2 walk-kinds.ps (falls 2 walk-kinds.ps _<_ μ-walk t) walk.Pre
+abbrev survey-under : ℕ → In 2 survey-kinds.ps
+survey-under t = and 2 survey-kinds.ps (falls 2 survey-kinds.ps _<_ μ-survey t) survey.Pre
 
-pub +below+walk-spec : {M : Type 1} → statement M
-+below+walk-spec = close μ-below μ-walk
+pub +below+survey-at-spec : {M : Type 1} → statement M
++below+survey-at-spec = close μ-below μ-survey
     (λ t. below-lts.spec (
       is-leaf-reads.Asked,
       is-leaf-reads.Learnt,
@@ -46,8 +46,8 @@ pub +below+walk-spec : {M : Type 1} → statement M
       node-at-reads.Learnt,
       lone-reads.Asked,
       lone-reads.Learnt,
-      walk-under t,
-      walk.Post,
+      survey-under t,
+      survey.Post,
     )
     (below-at t)
     below.Post
@@ -56,8 +56,8 @@ pub +below+walk-spec : {M : Type 1} → statement M
     (λ c κs. tt)
     (λ c κs. omega (arith, c .before .before .before .before .pre))
     (λ c. search alone)
-    (λ c. c .walk .ensures))
-    (λ t. walk-lts.spec (
+    (λ c. c .survey-at .ensures))
+    (λ t. survey-lts.spec (
       no-nodes-reads.Asked,
       no-nodes-reads.Learnt,
       node-at-reads.Asked,
@@ -69,8 +69,8 @@ pub +below+walk-spec : {M : Type 1} → statement M
       combine-reads.Asked,
       combine-reads.Learnt,
     )
-    (walk-at t)
-    walk.Post
+    (survey-at-height t)
+    survey.Post
     (λ c κs. tt)
     (λ c. search dry)
     (λ c κs. tt)
