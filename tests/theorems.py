@@ -4,6 +4,9 @@
 A statement shown in a fenced block stands verbatim in the file that the line before the block names. Every theorem that a table names is
 declared in a file that the same row names, every file that the two papers name exists, and a number of lines is that of its file, without
 blank lines and imports.
+
+With --mend it first writes into the papers what the sources say now: the numbers of lines, and each
+shown statement whose first and last declaration still have their names.
 """
 import pathlib
 import re
@@ -54,6 +57,11 @@ def sizes(paper):
             yield i + 1, row[1], int(row[2])
 
 
+def size(path):
+    """The number of lines of a file, without blank lines and imports."""
+    return sum(1 for text in (source(path) or '').splitlines() if text.strip() and not text.startswith('use '))
+
+
 def check(name, count, wrong):
     paper = (TOP / 'docs' / name).read_text()
     for path in set(re.findall(r'crates/[\w]+/[\w/+.-]+', paper)):
@@ -64,9 +72,8 @@ def check(name, count, wrong):
         if text not in (source(path) or '' if path else ''):
             wrong.append(f'{name}:{line}: the statement does not stand in {path or "any named file"}')
     for line, path, number in sizes(paper):
-        lines = sum(1 for text in (source(path) or '').splitlines() if text.strip() and not text.startswith('use '))
-        if lines != number:
-            wrong.append(f'{name}:{line}: {path} has {lines} lines')
+        if size(path) != number:
+            wrong.append(f'{name}:{line}: {path} has {size(path)} lines')
     for line, names, files in rows(paper):
         texts = [t for t in map(source, files) if t]
         for theorem in names:
@@ -76,7 +83,46 @@ def check(name, count, wrong):
                 wrong.append(f'{name}:{line}: {theorem} is not declared in {", ".join(files) or "any named file"}')
 
 
+def declared(line):
+    """The indent and the name of a declaration, a field or an equation; None for any other line."""
+    m = re.match(r'( *)(?!--)(?:abbrev |unfoldable )?(?:pub )?(?:record |data )?([^\s()]+) ', line)
+    return m and (m[1], m[2])
+
+
+def present(old, text):
+    """A shown statement as it stands in the source now; the old one where an end of it is not found."""
+    old, text = old.splitlines(), text.splitlines()
+    ends = [line for line in map(declared, old) if line]
+    places = [i for i, line in enumerate(text) if ends and declared(line) == ends[0]]
+    if not places:
+        return '\n'.join(old)
+    start = places[0]
+    last = [i for i in range(start, len(text)) if declared(text[i]) == ends[-1]][:ends.count(ends[-1])]
+    if not last:
+        return '\n'.join(old)
+    end = last[-1] + 1
+    while end < len(text) and re.match(ends[-1][0] + r' +(?!--)\S', text[end]):
+        end += 1
+    while old[0].startswith('--') and text[start - 1].startswith('--'):
+        start -= 1
+    return '\n'.join(text[start:end])
+
+
+def mend(name):
+    path = TOP / 'docs' / name
+    paper = path.read_text()
+    for _, file, text in blocks(paper):
+        if source(file) and text not in source(file):
+            paper = paper.replace(text, present(text, source(file)))
+    for _, file, number in sizes(paper):
+        if source(file):
+            paper = paper.replace(f'| {file} | {number} |', f'| {file} | {size(file)} |')
+    path.write_text(paper)
+
+
 def main():
+    for name in ('THEOREMS.md', 'READING.md') if sys.argv[1:] == ['--mend'] else ():
+        mend(name)
     count, wrong = {'statements': 0, 'theorems': 0}, []
     for name in ('THEOREMS.md', 'READING.md'):
         check(name, count, wrong)
