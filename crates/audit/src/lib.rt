@@ -14,10 +14,10 @@ use words::node::interval_of;
 use words::node::parent_of;
 ghost use mathlib.Core.Path.{_≡_};
 ghost use mathlib.Core.Bool.{true, false};
-ghost use Prim.Native.Nat.{_+_, _*_, _≤_, _<_};
-ghost use lib.ListN.{length};
+ghost use Prim.Native.Nat.{_+_, _≤_, _<_};
 ghost use Rattle.tree.specs.RedBlack.{blackOf};
 ghost use Rattle.audit.specs.Survey.{nodeAt, noNodes, tied, ordered, hulled, coloured, fits, combined, childless, survey, wholeOf};
+ghost use Rattle.words.specs.Nodes.{Has, HasBit, Holds, HoldsBits};
 
 // What the check reads of a slot.
 pub struct Node {
@@ -48,7 +48,7 @@ pub struct Found {
 }
 
 fn node_at(nodes: &[u64], colours: &[u8], slot: u64) -> Node
-    requires { ⌜ (slot * 8 + 8 ≤ length (now nodes)) × (slot < length (now colours) * 8) ⌝ }
+    requires { ⌜ Has (now nodes) slot × HasBit (now colours) slot ⌝ }
     ensures { λ r. ⌜ r ≡ nodeAt (now (nodes .entry)) (now (colours .entry)) slot ⌝ }
 {
     Node {
@@ -149,7 +149,7 @@ fn combine(x: Node, l: Found, r: Found) -> Found
 // Whether a link below the slot `parent` leads to a slot that knows its parent and has no children, and the height allows for the ways
 // past it.
 fn is_leaf(nodes: &[u64], count: u64, link: u64, parent: u64, height: u64) -> bool
-    requires { ⌜ count * 8 ≤ length (now nodes) ⌝ }
+    requires { ⌜ Holds (now nodes) count ⌝ }
     ensures { λ r. ⌜ r ≡ childless (now (nodes .entry)) count height parent link ⌝ }
 {
     if link < count {
@@ -182,7 +182,7 @@ fn below(
     above: Interval,
     height: u64,
 ) -> Found
-    requires { ⌜ (count * 8 ≤ length (now nodes)) × (count ≤ length (now colours) * 8) × (height ≤ 33) ⌝ }
+    requires { ⌜ Holds (now nodes) count × HoldsBits (now colours) count × (height ≤ 33) ⌝ }
     ensures { λ r. ⌜ r ≡ survey (now (nodes .entry)) (now (colours .entry)) count height parent above link ⌝ }
 {
     if is_leaf(nodes, count, link, parent, height) {
@@ -202,7 +202,7 @@ fn survey_at(
     above: Interval,
     height: u64,
 ) -> Found
-    requires { ⌜ (count * 8 ≤ length (now nodes)) × (count ≤ length (now colours) * 8) × (height ≤ 33) ⌝ }
+    requires { ⌜ Holds (now nodes) count × HoldsBits (now colours) count × (height ≤ 33) ⌝ }
     ensures { λ r. ⌜ r ≡ survey (now (nodes .entry)) (now (colours .entry)) count height parent above link ⌝ }
 {
     if height == 0 {
@@ -228,7 +228,7 @@ fn survey_at(
 // Whether a store passes. No tree that passes is higher than 32. The root has no slot above it, so any interval stands
 // for that one's.
 pub fn audit(nodes: &[u64], colours: &[u8], count: u64, root: u64) -> bool
-    requires { ⌜ (count * 8 ≤ length (now nodes)) × (count ≤ length (now colours) * 8) ⌝ }
+    requires { ⌜ Holds (now nodes) count × HoldsBits (now colours) count ⌝ }
     ensures { λ r. ⌜ r ≡ wholeOf (now (nodes .entry)) (now (colours .entry)) count root ⌝ }
 {
     let none = Interval { start: 0, end: 0 };

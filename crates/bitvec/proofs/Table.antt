@@ -2,7 +2,7 @@
 use mathlib.Core.Path.{_≡_, refl, ap, _∙_}
 use mathlib.Core.Bool.{Bool, true, false, cond, _&&_}
 use mathlib.Core.List.{List}
-use Prim.Native.Nat.{ℕ, suc, _+_, _-_, _*_, _/_, _%_, _^_, _<_, _≤_}
+use Prim.Native.Nat.{ℕ, suc, _+_, _-_, _*_, _/_, _%_, _^_, _<_}
 use native.Mathlib.Omega.{arith}
 use lib.ListN.{length, getD}
 use lib.Dec.{eqb, ltb, leb}
@@ -12,6 +12,7 @@ use Rattle.bitvec.specs.Calls.{done, badBit, allowed, roomy, getRule, se
 use Rattle.bitvec.specs.Written.{Writes, Fills, refusedBy}
 use Rattle.bitvec.proofs.Numbers.{bit-weight}
 use Rattle.bitvec.proofs.Bytes.{length-setBit, bitAt-same, bitAt-other, length-fill, bitAt-fill, bitAt-fill-rest}
+use Rattle.words.specs.Nodes.{HasBit, HoldsBits}
 
 writes : (s : List ℕ) (i : ℕ) (v : Bool) → i / 8 < length s → Writes s i v (setBit s i v)
 writes s i v h = record { as-many = length-setBit s i v; there = bitAt-same s i v h; elsewhere = λ k d. bitAt-other s i v k d }
@@ -23,7 +24,7 @@ both-false true false h = refl
 both-false false q h = refl
 
 -- the length is not above bytes × 8
-module _ (s : List ℕ) (len : ℕ) (holds : len ≤ length s * 8) where
+module _ (s : List ℕ) (len : ℕ) (holds : HoldsBits s len) where
   allowed-is : (i : ℕ) → i < len → allowed (length s) len i ≡ true
   unfolding allowed
   allowed-is i h = rw (le-leb len (length s * 8) holds, lt-ltb i len h)
@@ -70,14 +71,14 @@ module _ (s : List ℕ) (len : ℕ) (holds : len ≤ length s * 8) where
       }
 
 -- the new bit is the one after the others
-pub push-says : (s : List ℕ) (len : ℕ) (v : Bool) → len < length s * 8 → len < 18446744073709551615
+pub push-says : (s : List ℕ) (len : ℕ) (v : Bool) → HasBit s len → len < 18446744073709551615
     → (pushRule s len ≡ done false (len + 1)) × Writes s len v (pushBytes s len v)
 unfolding pushRule pushBytes roomy
 push-says s len v h l =
     (rw (lt-ltb len (length s * 8) h, lt-ltb len 18446744073709551615 l), rw (lt-ltb len (length s * 8) h, lt-ltb len 18446744073709551615 l) (writes s len v (omega arith)))
 
 -- refusal 10: "length .. above bytes × 8; bit at or past the length; pop .. of nothing"
-module _ (s : List ℕ) (len i : ℕ) (outside : len ≤ length s * 8 → i < len → ⊥) where
+module _ (s : List ℕ) (len i : ℕ) (outside : HoldsBits s len → i < len → ⊥) where
   allowed-not : allowed (length s) len i ≡ false
   unfolding allowed
   allowed-not = both-false (leb len (length s * 8)) (ltb i len) (λ p q. outside (leb-true len (length s * 8) p) (ltb-true i len q))
@@ -94,12 +95,12 @@ module _ (s : List ℕ) (len i : ℕ) (outside : len ≤ length s * 8 → i < le
   unfolding swapRemoveRule swapRemoveBytes
   swap-remove-refused = (rw allowed-not, rw allowed-not)
 
-pub pop-refused : (s : List ℕ) (len : ℕ) → (len ≤ length s * 8 → 0 < len → ⊥) → popRule s len ≡ refusedBy 10 len
+pub pop-refused : (s : List ℕ) (len : ℕ) → (HoldsBits s len → 0 < len → ⊥) → popRule s len ≡ refusedBy 10 len
 unfolding popRule
 pop-refused s len outside = rw (allowed-not s len 0 outside)
 
 -- "push with no byte left"; and the length is a 64-bit number
-pub push-refused : (s : List ℕ) (len : ℕ) (v : Bool) → (len < length s * 8 → len < 18446744073709551615 → ⊥)
+pub push-refused : (s : List ℕ) (len : ℕ) (v : Bool) → (HasBit s len → len < 18446744073709551615 → ⊥)
     → (pushRule s len ≡ refusedBy 10 len) × (pushBytes s len v ≡ s)
 unfolding pushRule pushBytes roomy
 push-refused s len v full =

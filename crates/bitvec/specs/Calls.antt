@@ -1,13 +1,14 @@
 -- What the bit calls answer and leave.
 use mathlib.Core.Bool.{Bool, false, cond, _&&_}
 use mathlib.Core.List.{List}
-use Prim.Native.Nat.{ℕ, _+_, _-_, _*_, _/_}
+use Prim.Native.Nat.{ℕ, _+_, _-_, _/_}
 use lib.ListN.{length}
 use lib.Dec.{eqb, ltb, leb}
 use Rattle.words.specs.Refusals.{refusalNumber}
 use Rattle.bitvec.specs.Bits.{bitAt, setBit, fill}
 use Rattle.bitvec.specs.declared.Answer.{Answer}
 use Rattle.bitvec.specs.declared.Answer.the-variants.{Done, Refused}
+use Rattle.words.specs.Nodes.{bitsOf}
 
 -- an answer by this paper's numbers: the refusal's, 0 for none; the bit that was read; the length
 pub record Bits : Type 0 where
@@ -28,7 +29,7 @@ badBit given = record { no = 10; bit = false; len = given }
 
 -- refusal 10: "length above bytes × 8; bit at or past the length"
 unfoldable pub allowed : ℕ → ℕ → ℕ → Bool
-allowed n len i = leb len (n * 8) && ltb i len
+allowed n len i = leb len (bitsOf n) && ltb i len
 
 unfoldable pub getRule : List ℕ → ℕ → ℕ → Bits
 getRule s len i = cond (allowed (length s) len i) (done (bitAt s i) len) (badBit len)
@@ -41,7 +42,7 @@ setBytes s len i v = cond (allowed (length s) len i) (setBit s i v) s
 
 -- "push with no byte left"; and the length is a 64-bit number, so one of 2^64 - 1 has no next
 unfoldable pub roomy : ℕ → ℕ → Bool
-roomy n len = ltb len (n * 8) && ltb len 18446744073709551615
+roomy n len = ltb len (bitsOf n) && ltb len 18446744073709551615
 
 unfoldable pub pushRule : List ℕ → ℕ → Bits
 pushRule s len = cond (roomy (length s) len) (done false (len + 1)) (badBit len)
@@ -68,7 +69,7 @@ unfoldable pub bytesFor : ℕ → ℕ
 bytesFor len = (len + 7) / 8
 
 unfoldable pub fromElemRule : List ℕ → ℕ → Bits
-fromElemRule s len = cond (leb len (length s * 8)) (done false len) (badBit 0)
+fromElemRule s len = cond (leb len (bitsOf (length s))) (done false len) (badBit 0)
 
 unfoldable pub fromElemBytes : List ℕ → ℕ → Bool → List ℕ
-fromElemBytes s len v = cond (leb len (length s * 8)) (fill (bytesFor len) (cond v 255 0) s) s
+fromElemBytes s len v = cond (leb len (bitsOf (length s))) (fill (bytesFor len) (cond v 255 0) s) s

@@ -2,19 +2,18 @@
 use words::ix::Link;
 ghost use mathlib.Core.Path.{_≡_};
 ghost use mathlib.Core.Bool.{true, false, not};
-ghost use Prim.Native.Nat.{_*_, _≤_, _<_};
-ghost use lib.ListN.{length};
 ghost use Rattle.bitvec.specs.Colours.{red, redAt, paint, paintAt};
+ghost use Rattle.words.specs.Nodes.{HasBit, HoldsBits};
 
 pub fn is_red(colours: &[u8], ix: u64) -> bool
-    requires { ⌜ ix < length (now colours) * 8 ⌝ }
+    requires { ⌜ HasBit (now colours) ix ⌝ }
     ensures { λ r. ⌜ r ≡ red (now (colours .entry)) ix ⌝ }
 {
     crate::bit_at(colours, ix as usize)
 }
 
 pub fn is_black(colours: &[u8], ix: u64) -> bool
-    requires { ⌜ ix < length (now colours) * 8 ⌝ }
+    requires { ⌜ HasBit (now colours) ix ⌝ }
     ensures { λ r. ⌜ r ≡ not (red (now (colours .entry)) ix) ⌝ }
 {
     !is_red(colours, ix)
@@ -22,7 +21,7 @@ pub fn is_black(colours: &[u8], ix: u64) -> bool
 
 // A link leads to a black slot or to none.
 pub fn is_black_or_nil(colours: &[u8], count: u64, word: u64) -> bool
-    requires { ⌜ count ≤ length (now colours) * 8 ⌝ }
+    requires { ⌜ HoldsBits (now colours) count ⌝ }
     ensures { λ r. ⌜ r ≡ not (redAt count (now (colours .entry)) word) ⌝ }
 {
     let Link::Slot(ix) = Link::new(word, count) else {
@@ -32,14 +31,14 @@ pub fn is_black_or_nil(colours: &[u8], count: u64, word: u64) -> bool
 }
 
 pub fn set_red(colours: &mut [u8], ix: u64)
-    requires { ⌜ ix < length (now colours) * 8 ⌝ }
+    requires { ⌜ HasBit (now colours) ix ⌝ }
     ensures { λ _. ⌜ now (colours .exit) ≡ paint (now (colours .entry)) ix true ⌝ }
 {
     crate::put_bit(colours, ix as usize, true);
 }
 
 pub fn set_black(colours: &mut [u8], ix: u64)
-    requires { ⌜ ix < length (now colours) * 8 ⌝ }
+    requires { ⌜ HasBit (now colours) ix ⌝ }
     ensures { λ _. ⌜ now (colours .exit) ≡ paint (now (colours .entry)) ix false ⌝ }
 {
     crate::put_bit(colours, ix as usize, false);
@@ -47,7 +46,7 @@ pub fn set_black(colours: &mut [u8], ix: u64)
 
 // Slot `to` gets the colour of slot `from`.
 pub fn copy_colour(colours: &mut [u8], from: u64, to: u64)
-    requires { ⌜ (from < length (now colours) * 8) × (to < length (now colours) * 8) ⌝ }
+    requires { ⌜ HasBit (now colours) from × HasBit (now colours) to ⌝ }
     ensures { λ _. ⌜ now (colours .exit) ≡ paint (now (colours .entry)) to (red (now (colours .entry)) from) ⌝ }
 {
     let v = is_red(colours, from);
@@ -56,7 +55,7 @@ pub fn copy_colour(colours: &mut [u8], from: u64, to: u64)
 
 // A link that leads to a slot has it made black.
 pub fn set_black_at(colours: &mut [u8], count: u64, word: u64)
-    requires { ⌜ count ≤ length (now colours) * 8 ⌝ }
+    requires { ⌜ HoldsBits (now colours) count ⌝ }
     ensures { λ _. ⌜ now (colours .exit) ≡ paintAt count (now (colours .entry)) word false ⌝ }
 {
     let Link::Slot(ix) = Link::new(word, count) else {

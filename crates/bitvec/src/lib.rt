@@ -5,11 +5,12 @@ pub mod colours;
 use words::refusal::Refusal;
 ghost use mathlib.Core.Path.{_≡_};
 ghost use mathlib.Core.Bool.{cond};
-ghost use Prim.Native.Nat.{_+_, _*_, _/_, _%_, _^_, _≤_, _<_};
+ghost use Prim.Native.Nat.{_+_, _/_, _%_, _^_, _≤_, _<_};
 ghost use lib.ListN.{length};
 ghost use lib.Dec.{leb};
 ghost use Rattle.bitvec.specs.Bits.{bit, put, bitAt, setBit, fill};
 ghost use Rattle.bitvec.specs.Calls.{allowed, roomy, bytesFor, paper, getRule, setRule, setBytes, pushRule, pushBytes, popRule, swapRemoveRule, gapClosed, swapRemoveBytes, fromElemRule, fromElemBytes};
+ghost use Rattle.words.specs.Nodes.{HoldsBits, bitsOf};
 
 pub struct BitVec {
     pub len: usize,
@@ -82,7 +83,7 @@ fn get_byte_len(bit_len: usize) -> usize
 
 // Whether n bytes hold len bits; len may be any number.
 fn holds(n: usize, len: usize) -> bool
-    ensures { λ r. ⌜ r ≡ leb len (n * 8) ⌝ }
+    ensures { λ r. ⌜ r ≡ leb len (bitsOf n) ⌝ }
 {
     get_byte_len(len) <= n
 }
@@ -122,7 +123,7 @@ fn fill_bytes(bytes: &mut [u8], n: usize, x: u8)
 
 // The last of len bits takes the place of bit i, unless it is that bit.
 fn close_gap(bytes: &mut [u8], len: usize, i: usize)
-    requires { ⌜ (len ≤ length (now bytes) * 8) × (i < len) ⌝ }
+    requires { ⌜ HoldsBits (now bytes) len × (i < len) ⌝ }
     ensures { λ _. ⌜ now (bytes .exit) ≡ gapClosed (now (bytes .entry)) len i ⌝ }
 {
     if i + 1 != len {

@@ -10,7 +10,7 @@ use lib.Dec.{eqb}
 use borrow.Author.Tests.{ne-eqb}
 use Rattle.words.specs.Ix.{U}
 use Rattle.words.specs.Intervals.{extended}
-use Rattle.words.specs.Nodes.{put, putEntry, putHull, putNode}
+use Rattle.words.specs.Nodes.{put, putEntry, putHull, putNode, Has, Holds, HoldsBits}
 use Rattle.words.specs.declared.interval.Interval.{Interval}
 use Rattle.words.specs.declared.node.Entry.{Entry}
 use Rattle.bitvec.specs.Colours.{paint}
@@ -20,7 +20,7 @@ use Rattle.builder.proofs.Spans.{few-left, few-right, root-none, hull-n
 use Rattle.builder.proofs.Levels.{levels-few}
 
 -- a node written takes the place of eight words
-put-node-is : (W : List ℕ) (s : ℕ) (e : Entry) (h : Interval) (left right up : ℕ) → s * 8 + 8 ≤ length W
+put-node-is : (W : List ℕ) (s : ℕ) (e : Entry) (h : Interval) (left right up : ℕ) → Has W s
     → putNode W s e h left right up ≡ take (s * 8) W ++ (nodeWords e h left right up ++ drop (s * 8 + 8) W)
 unfolding put putEntry putHull putNode
 put-node-is W s e h left right up room =
@@ -45,7 +45,7 @@ back w m x = x ++ drop (m * 8) w
 abbrev back-both : List ℕ → ℕ → List ℕ → List ℕ → List ℕ
 back-both w m x y = take ((m + 1) * 8) (back w m x) ++ (y ++ drop (length (back w m x) - (m + 1) * 8) (drop ((m + 1) * 8) (back w m x)))
 
-module _ (w : List ℕ) (m : ℕ) (x y : List ℕ) (room : (m + 1) * 8 ≤ length w) (kx : length x ≡ length (take (m * 8) w))
+module _ (w : List ℕ) (m : ℕ) (x y : List ℕ) (room : Holds w (m + 1)) (kx : length x ≡ length (take (m * 8) w))
     (ky : length y ≡ length (rest (back w m x) ((m + 1) * 8))) where
   length-x : length x ≡ m * 8
   length-x = kx ∙ simp length-take (omega arith)
@@ -125,7 +125,7 @@ module _ (S w C : List ℕ) (a b f : ℕ) (span : Lent S w C a b f) (some : a < 
         few = deep (λ f. b - (center a b + 1) < 2 ^ (f - 1)) (λ g few. rw (sub-one (suc g)) (few-right a b g few some));
       }
 
-  room : (half a b + 1) * 8 ≤ length w
+  room : Holds w (half a b + 1)
   room = omega (arith, span .words)
 
   pub span-back : (x y : List ℕ) → length x ≡ length (take (half a b * 8) w)
@@ -251,7 +251,7 @@ module _ (a b : ℕ) (some : a < b) (one : b - a ≡ 1) where
 
 -- the whole list
 module _ (n f : ℕ) (e : f ≡ levels n) where
-  pub span-all : (S W C : List ℕ) → n ≤ 65535 → n * 3 ≤ length S → n * 8 ≤ length W → n ≤ length C * 8
+  pub span-all : (S W C : List ℕ) → n ≤ 65535 → n * 3 ≤ length S → Holds W n → HoldsBits C n
       → Lent S (take (n * 8) W) C 0 n f
   span-all S W C few triples room bits =
       record {

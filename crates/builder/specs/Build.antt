@@ -8,7 +8,7 @@ use lib.ListN.{length, drop}
 use lib.Dec.{eqb, leb}
 use Rattle.words.specs.Ix.{U}
 use Rattle.words.specs.Intervals.{extended}
-use Rattle.words.specs.Nodes.{putNode}
+use Rattle.words.specs.Nodes.{putNode, HoldsBits, wordsOf}
 use Rattle.words.specs.declared.interval.Interval.{Interval}
 use Rattle.words.specs.declared.node.Entry.{Entry}
 use Rattle.bitvec.specs.Colours.{paint}
@@ -66,7 +66,7 @@ levels n = suc (log 16 (n + 1))
 
 -- The store of the first n triples of S, in the words W and the colours C: "Slots and colour bits from n up keep their state."
 unfoldable pub buildWords : List ℕ → ℕ → List ℕ → List ℕ
-buildWords S n W = spanWords S (levels n) 0 n U ++ drop (n * 8) W
+buildWords S n W = spanWords S (levels n) 0 n U ++ drop (wordsOf n) W
 
 unfoldable pub buildColours : ℕ → List ℕ → List ℕ
 buildColours n C = painted (levels n) C 0 n
@@ -78,6 +78,6 @@ buildRoot n = rootOf 0 n
 -- few enough for f levels.
 pub record Lent (S w C : List ℕ) (a b f : ℕ) : Type 0 where
   pub triples : b * 3 ≤ length S
-  pub words : length w ≡ (b - a) * 8
-  pub bits : b ≤ length C * 8
+  pub words : length w ≡ wordsOf (b - a)
+  pub bits : HoldsBits C b
   pub few : b - a < 2 ^ f

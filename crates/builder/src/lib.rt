@@ -12,7 +12,7 @@ use words::node::put_node;
 ghost use mathlib.Core.Path.{_≡_};
 ghost use Prim.Native.Nat.{_+_, _*_, _-_, _/_, _≤_, _<_};
 ghost use lib.ListN.{length};
-ghost use Rattle.words.specs.Nodes.{putNode};
+ghost use Rattle.words.specs.Nodes.{putNode, Holds, HoldsBits, wordsOf};
 ghost use Rattle.builder.specs.Input.{entryOf};
 ghost use Rattle.builder.specs.Build.{center, rootOf, spanHull, spanWords, painted, log, levels, buildWords, buildColours, buildRoot, Lent};
 
@@ -51,7 +51,7 @@ fn root_of(start: usize, end: usize) -> u64
 
 // Writes the root of the slots [start, end), in their part of the node words.
 fn put_root(list: &[u64], nodes: &mut [u64], start: usize, end: usize, parent: u64, hull: Interval)
-    requires { ⌜ (end * 3 ≤ length (now list)) × (length (now nodes) ≡ (end - start) * 8) × (start < end) ⌝ }
+    requires { ⌜ (end * 3 ≤ length (now list)) × (length (now nodes) ≡ wordsOf (end - start)) × (start < end) ⌝ }
     ensures { λ _. ⌜ now (nodes .exit)
         ≡ putNode (now (nodes .entry)) ((end - start) / 2) (entryOf (now (list .entry)) (center start end)) hull
         (rootOf start (center start end)) (rootOf (center start end + 1) end) parent ⌝ }
@@ -140,7 +140,7 @@ fn init_from_sorted(
 
 // Builds the store of the first n triples of the list; the answer is its root. Slots and colour bits from n up stay.
 pub fn from_sorted(list: &[u64], nodes: &mut [u64], colours: &mut [u8], n: usize) -> u64
-    requires { ⌜ (n ≤ 65535) × (n * 3 ≤ length (now list)) × (n * 8 ≤ length (now nodes)) × (n ≤ length (now colours) * 8) ⌝ }
+    requires { ⌜ (n ≤ 65535) × (n * 3 ≤ length (now list)) × Holds (now nodes) n × HoldsBits (now colours) n ⌝ }
     ensures { λ r. ⌜ (r ≡ buildRoot n) × (now (nodes .exit) ≡ buildWords (now (list .entry)) n (now (nodes .entry)))
         × (now (colours .exit) ≡ buildColours n (now (colours .entry))) ⌝ }
 {

@@ -11,7 +11,7 @@ use lib.Seq.{drop-at}
 use lib.Dec.{eqb}
 use borrow.Author.Tests.{ne-eqb, lt-leb}
 use Rattle.words.specs.Ix.{U}
-use Rattle.words.specs.Nodes.{interval, entry}
+use Rattle.words.specs.Nodes.{interval, entry, Holds, HoldsBits}
 use Rattle.words.specs.declared.node.Entry.{Entry}
 use Rattle.bitvec.specs.Colours.{red}
 use Rattle.tree.specs.Tree.{Tree, slots}
@@ -76,7 +76,7 @@ map-range : (f g : ℕ → Entry) (m a n : ℕ) → ((s : ℕ) → s < n → f s
 map-range f g zero a n h q = refl
 map-range f g (suc m) a n h q = rw (h a (omega arith), map-range f g m (suc a) n h (omega arith))
 
-pub build-passes : (S W C : List ℕ) (n : ℕ) → n ≤ 65535 → n * 8 ≤ length W → n ≤ length C * 8 → Input S n
+pub build-passes : (S W C : List ℕ) (n : ℕ) → n ≤ 65535 → Holds W n → HoldsBits C n → Input S n
     → Built S W C n (buildWords S n W) (buildColours n C) (buildRoot n)
 unfolding buildWords buildColours buildRoot
 build-passes S W C n few room bits input =

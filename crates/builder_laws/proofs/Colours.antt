@@ -18,6 +18,7 @@ use Rattle.builder.specs.Build.{center, painted}
 use Rattle.builder.proofs.Spans.{painted-none, painted-some}
 use Rattle.builder_laws.specs.Built.{Depths}
 use Rattle.builder_laws.proofs.Trees.{treeOf, spans}
+use Rattle.words.specs.Nodes.{HoldsBits}
 
 pub length-painted : (f : ℕ) (C : List ℕ) (a b : ℕ) → length (painted f C a b) ≡ length C
 unfolding painted
@@ -46,7 +47,7 @@ painted-out (suc f) C a b s h =
 abbrev Agree : (ℕ → Bool) → List ℕ → ℕ → ℕ → Type 0
 Agree K C a b = (s : ℕ) → a ≤ s → s < b → K s ≡ red C s
 
-module _ (K : ℕ → Bool) (f : ℕ) (C : List ℕ) (a b : ℕ) (e : a < b) (room : b ≤ length C * 8)
+module _ (K : ℕ → Bool) (f : ℕ) (C : List ℕ) (a b : ℕ) (e : a < b) (room : HoldsBits C b)
     (h : Agree K (painted (suc f) C a b) a b) where
   -- the colours with the root's written, and then those of the left half
   C₁ : List ℕ
@@ -136,19 +137,19 @@ colours-some K f s l r k x y =
     top zero k q = absurd (q refl)
     top (suc f) k q = k ∙ ne-eqb (suc f) 0 (omega arith)
 
-pub colours-span : (K : ℕ → Bool) (f a b : ℕ) (C : List ℕ) → b - a < 2 ^ f → 2 ^ f ≤ 2 * (b - a + 1) → b ≤ length C * 8
+pub colours-span : (K : ℕ → Bool) (f a b : ℕ) (C : List ℕ) → b - a < 2 ^ f → 2 ^ f ≤ 2 * (b - a + 1) → HoldsBits C b
     → Agree K (painted f C a b) a b → SpanColours K f (treeOf f a b)
 unfolding C₂
 colours-span K f a b C few full room h =
-    spans (λ f a b t. (C : List ℕ) → 2 ^ f ≤ 2 * (b - a + 1) → b ≤ length C * 8 → Agree K (painted f C a b) a b → SpanColours K f t)
+    spans (λ f a b t. (C : List ℕ) → 2 ^ f ≤ 2 * (b - a + 1) → HoldsBits C b → Agree K (painted f C a b) a b → SpanColours K f t)
     (λ f a b h C full room k. colours-none K f (omega arith)) some f a b few C full room h
   where
     some : (f a b : ℕ) (l r : Tree) → b - a < 2 ^ suc f → a < b
         → ((C : List ℕ) → 2 ^ f ≤ 2 * (center a b - a + 1) → center a b ≤ length C * 8
         → Agree K (painted f C a (center a b)) a (center a b) → SpanColours K f l)
-        → ((C : List ℕ) → 2 ^ f ≤ 2 * (b - (center a b + 1) + 1) → b ≤ length C * 8
+        → ((C : List ℕ) → 2 ^ f ≤ 2 * (b - (center a b + 1) + 1) → HoldsBits C b
         → Agree K (painted f C (center a b + 1) b) (center a b + 1) b → SpanColours K f r)
-        → (C : List ℕ) → 2 ^ suc f ≤ 2 * (b - a + 1) → b ≤ length C * 8 → Agree K (painted (suc f) C a b) a b
+        → (C : List ℕ) → 2 ^ suc f ≤ 2 * (b - a + 1) → HoldsBits C b → Agree K (painted (suc f) C a b) a b
         → SpanColours K (suc f) (node l (center a b) r)
     some f a b l r h e x y C full room k =
         colours-some K f (center a b) l r (root-colour K f C a b e room k)

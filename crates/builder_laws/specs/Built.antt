@@ -2,11 +2,11 @@
 use mathlib.Core.Path.{_≡_}
 use mathlib.Core.Bool.{Bool, cond}
 use mathlib.Core.List.{List, [], _∷_, map}
-use Prim.Native.Nat.{ℕ, zero, suc, _+_, _*_, _/_, _^_, _<_, _≤_}
+use Prim.Native.Nat.{ℕ, zero, suc, _+_, _/_, _^_, _<_, _≤_}
 use lib.ListN.{length, drop}
 use lib.Dec.{eqb, ltb}
 use Rattle.words.specs.Ix.{U}
-use Rattle.words.specs.Nodes.{entry}
+use Rattle.words.specs.Nodes.{entry, wordsOf}
 use Rattle.bitvec.specs.Colours.{red}
 use Rattle.tree.specs.Tree.{Tree, leaf, node, slots}
 use Rattle.tree.specs.Passes.{Passes}
@@ -42,7 +42,7 @@ pub record Built (S W C : List ℕ) (n : ℕ) (X K : List ℕ) (r : ℕ) : Type 
   pub entries : (k : ℕ) → k < n → entry X k ≡ entryOf S k
   pub depths : (D : ℕ) → Greatest D n → Depths (red K) D 1 (passes .tree)
   -- "Slots and colour bits from n up keep their state."
-  pub words-kept : drop (n * 8) X ≡ drop (n * 8) W
+  pub words-kept : drop (wordsOf n) X ≡ drop (wordsOf n) W
   pub words-length : length X ≡ length W
   pub bits-kept : (s : ℕ) → n ≤ s → red K s ≡ red C s
   pub bits-length : length K ≡ length C

@@ -7,7 +7,7 @@ use native.Mathlib.Omega.{arith}
 use lib.ListN.{length}
 use lib.Dec.{eqb, ltb}
 use borrow.Author.Tests.{lt-ltb, le-ltb, ltb-false, eq-eqb, ne-eqb}
-use Rattle.words.specs.Nodes.{capacity}
+use Rattle.words.specs.Nodes.{capacity, Has, HasBit, Holds, HoldsBits}
 use Rattle.words.specs.Refusals.{refusalNumber}
 use Rattle.words.specs.declared.node.Entry.{Entry}
 use Rattle.words.specs.declared.refusal.Refusal.{Refusal}
@@ -104,10 +104,10 @@ module _ (m : Map) (W C : List ℕ) (s : ℕ) (t : Checked) (e : checkNumber t �
   removable : (m .count ≤ capacity (length W) (length C)) × (s < m .count)
   removable = open-accepts m W C s (sym e ∙ ap checkNumber q)
 
-  pub removable-words : m .count * 8 ≤ length W
+  pub removable-words : Holds W (m .count)
   removable-words = omega (arith, removable)
 
-  pub removable-bytes : m .count ≤ length C * 8
+  pub removable-bytes : HoldsBits C (m .count)
   removable-bytes = omega (arith, removable)
 
   pub removable-slot : s < m .count
@@ -125,10 +125,10 @@ module _ (m : Map) (W C : List ℕ) (e : Entry) (t : Checked) (f : checkNumber t
   insertable : m .count < capacity (length W) (length C)
   insertable = insertions.open-accepts m W C e (sym f ∙ ap checkNumber q) .0
 
-  pub insertable-words : m .count * 8 + 8 ≤ length W
+  pub insertable-words : Has W (m .count)
   insertable-words = omega (arith, insertable)
 
-  pub insertable-bytes : m .count < length C * 8
+  pub insertable-bytes : HasBit C (m .count)
   insertable-bytes = omega (arith, insertable)
 
 -- what the insertion's code answers and leaves

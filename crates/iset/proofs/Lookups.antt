@@ -2,12 +2,12 @@
 use mathlib.Core.Path.{_≡_, refl, sym, ap, _∙_}
 use mathlib.Core.Bool.{Bool, true, false, cond}
 use mathlib.Core.List.{List}
-use Prim.Native.Nat.{ℕ, _*_, _<_, _≤_}
+use Prim.Native.Nat.{ℕ, _<_, _≤_}
 use native.Mathlib.Omega.{arith}
 use lib.ListN.{length}
 use lib.Dec.{ltb}
 use borrow.Author.Tests.{ltb-false, lt-ltb, le-ltb}
-use Rattle.words.specs.Nodes.{capacity}
+use Rattle.words.specs.Nodes.{capacity, Holds}
 use Rattle.words.specs.Refusals.{refusalNumber}
 use Rattle.words.specs.Intervals.{admits, proper}
 use Rattle.words.specs.declared.interval.Bound.{Bound}
@@ -89,7 +89,7 @@ pub not-bad : (f : Form) → formNumber f ≡ 0 → f ≡ Bad → ⊥
 not-bad f e q = let z : _≡_ {A = ℕ} 7 0 = sym (ap formNumber q) ∙ e in omega arith
 
 module _ (m : Map) (W C : List ℕ) (q : Query) (t : Checked) (s : t ≡ Sound) where
-  pub start-words : checkNumber t ≡ openStartNumber m W C q → m .count * 8 ≤ length W
+  pub start-words : checkNumber t ≡ openStartNumber m W C q → Holds W (m .count)
   start-words e = omega (arith, held m W C q (sym e ∙ ap checkNumber s))
 
   module _ (c : Cursor) where
@@ -103,7 +103,7 @@ module _ (m : Map) (W C : List ℕ) (q : Query) (t : Checked) (s : t ≡ Sound) 
       step-zero : openStepNumber m W C q c ≡ 0
       step-zero = sym e ∙ ap checkNumber s
 
-      pub step-words : m .count * 8 ≤ length W
+      pub step-words : Holds W (m .count)
       step-words = omega (arith, fit step-zero .0)
 
       pub step-few : m .count ≤ 65535
@@ -116,7 +116,7 @@ module _ (m : Map) (W C : List ℕ) (q : Query) (t : Checked) (s : t ≡ Sound) 
       drain-zero : (openStepNumber m W C q c ≡ 0) × (drains.limitOf limit out ≤ out)
       drain-zero = open-drain-accepts m W C q c limit out (sym e ∙ ap checkNumber s)
 
-      pub drain-words : m .count * 8 ≤ length W
+      pub drain-words : Holds W (m .count)
       drain-words = omega (arith, fit (drain-zero .0) .0)
 
       pub drain-few : m .count ≤ 65535

@@ -2,7 +2,7 @@
 use mathlib.Core.Path.{_≡_, refl, sym, ap, _∙_}
 use mathlib.Core.Bool.{Bool, true, false, cond}
 use mathlib.Core.List.{List, [], _∷_, append-nil}
-use Prim.Native.Nat.{ℕ, _*_, _<_, _≤_}
+use Prim.Native.Nat.{ℕ, _<_, _≤_}
 use native.Mathlib.Omega.{arith}
 use native.Mathlib.Nat.{add-zero}
 use lib.ListN.{length, take, drop}
@@ -37,6 +37,7 @@ use Rattle.iset.proofs.Found.{few}
 use Rattle.iset.proofs.Lookups.{open-start-accepts}
 use Rattle.iset.proofs.Orders.{plain-order}
 use Rattle.iset.proofs.Runs.{range-started, interval-started, overlap-runs, exact-runs}
+use Rattle.words.specs.Nodes.{Holds}
 
 -- an output with a place for every entry
 places-held : (n places : ℕ) → _≡_ {A = ℕ} (cond (leb n places) 0 9) 0 → n ≤ places
@@ -52,7 +53,7 @@ module _ (m : Map) (W C : List ℕ) (q : Query) (places : ℕ) (t : Checked) (e 
   unfolding openPlainNumber
   passed = both-zero (openStartNumber m W C q) (cond (leb (m .count) places) 0 9) (sym e ∙ ap checkNumber s)
 
-  pub plain-words : m .count * 8 ≤ length W
+  pub plain-words : Holds W (m .count)
   plain-words = omega (arith, count-zero m W C (open-start-accepts m W C q (passed .0) .0))
 
   pub plain-places : m .count ≤ places

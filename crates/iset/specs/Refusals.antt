@@ -3,9 +3,9 @@
 use mathlib.Core.Path.{_≡_}
 use mathlib.Core.Logic.{_↔_, _⊎_}
 use mathlib.Core.List.{List}
-use Prim.Native.Nat.{ℕ, zero, suc, _*_, _/_, _%_, _<_, _≤_}
+use Prim.Native.Nat.{ℕ, zero, suc, _/_, _%_, _<_, _≤_}
 use lib.ListN.{length}
-use Rattle.words.specs.Nodes.{capacity}
+use Rattle.words.specs.Nodes.{capacity, bitsOf}
 use Rattle.words.specs.declared.interval.Bound.{Bound}
 use Rattle.words.specs.declared.interval.Bound.the-variants.{Included, Excluded, Unbounded}
 use Rattle.words.specs.declared.interval.Interval.{Interval}
@@ -125,7 +125,7 @@ plainRows m W C (Exact x) places =
 
 -- 10, BadBit, one by one. "length (or `from_elem` length) above bytes × 8"
 abbrev pub TooLong : List ℕ → ℕ → Type 0
-TooLong bytes len = length bytes * 8 < len
+TooLong bytes len = bitsOf (length bytes) < len
 
 -- "bit at or past the length"
 abbrev pub PastLength : ℕ → ℕ → Type 0
@@ -133,7 +133,7 @@ PastLength len i = len ≤ i
 
 -- "push with no byte left"; and a length of 2^64 - 1 has no next one that is a 64-bit number (docs/DECISIONS.md, Bits)
 abbrev pub NoByteLeft : List ℕ → ℕ → Type 0
-NoByteLeft bytes len = length bytes * 8 ≤ len
+NoByteLeft bytes len = bitsOf (length bytes) ≤ len
 
 abbrev pub NoNextLength : ℕ → Type 0
 NoNextLength len = 18446744073709551615 ≤ len

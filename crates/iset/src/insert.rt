@@ -6,11 +6,11 @@ use words::node::Entry;
 use words::node::capacity;
 use words::refusal::Refusal;
 ghost use mathlib.Core.Path.{_≡_};
-ghost use Prim.Native.Nat.{_+_, _*_, _≤_, _<_};
-ghost use lib.ListN.{length};
+ghost use Prim.Native.Nat.{_+_, _<_};
 ghost use Rattle.iset.specs.Changes.{change};
 ghost use Rattle.iset.specs.Check.{checkNumber};
 ghost use Rattle.iset.specs.Insert.{entryOf, fullNumber, openInsertNumber, roomThenCheck, insertAnswer, insertEntry, openInsertCall, insertCall};
+ghost use Rattle.words.specs.Nodes.{Has, HasBit};
 
 // The map with the entry, the entry's slot, and how many hulls changed.
 pub struct Inserted {
@@ -60,7 +60,7 @@ impl Map {
 
     // The insertion of an entry that there is room for.
     fn insert_entry(self, nodes: &mut [u64], colours: &mut [u8], entry: Entry) -> Insertion
-        requires { ⌜ (self .count * 8 + 8 ≤ length (now nodes)) × (self .count < length (now colours) * 8) ⌝ }
+        requires { ⌜ Has (now nodes) (self .count) × HasBit (now colours) (self .count) ⌝ }
         ensures { λ r. ⌜ change (insertAnswer self r) (now (nodes .exit)) (now (colours .exit))
             ≡ insertEntry self (now (nodes .entry)) (now (colours .entry)) entry ⌝ }
     {

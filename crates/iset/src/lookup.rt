@@ -13,8 +13,7 @@ use words::interval::Span;
 use words::refusal::Refusal;
 ghost use mathlib.Core.Path.{_≡_};
 ghost use mathlib.Core.Bool.{cond};
-ghost use Prim.Native.Nat.{_*_, _≤_};
-ghost use lib.ListN.{length};
+ghost use Prim.Native.Nat.{_≤_};
 ghost use lib.Dec.{ltb};
 ghost use Rattle.iter.specs.Cursors.{fresh};
 ghost use Rattle.iter.specs.Drains.{limitOf};
@@ -26,7 +25,7 @@ ghost use Rattle.iter.specs.Answers.{answer, isHit};
 ghost use Rattle.iset.specs.Changes.{output};
 ghost use Rattle.iset.specs.Check.{checkNumber};
 ghost use Rattle.iset.specs.Lookup.{ordered, queryNumber, beginning, formNumber, openStartNumber, openStepNumber, openDrainNumber, startAnswer, openStartCall, startCall, stepAnswer, openStepCall, stepCall, drainAnswer, openDrainCall, drainCall};
-ghost use Rattle.words.specs.Lists.{filter};
+ghost use Rattle.words.specs.Nodes.{Holds};
 
 // What the calls answer.
 pub enum Started {
@@ -106,7 +105,7 @@ fn test_room(limit: u64, places: u64) -> Checked
 
 // The step as a drain of one hit. So the walk has one caller, and the drain's loop takes it in.
 fn one_hit(cursor: Cursor, nodes: &[u64], count: u64, query: Query) -> Step
-    requires { ⌜ (count * 8 ≤ length (now nodes)) × (count ≤ 65535) × Placed count cursor ⌝ }
+    requires { ⌜ Holds (now nodes) count × (count ≤ 65535) × Placed count cursor ⌝ }
     ensures { λ r. ⌜ (answer r ≡ step (now (nodes .entry)) count (rules (now (nodes .entry)) count query) cursor)
         × (isHit r ≡ ltb (answer r .slot) count) ⌝ }
 {
@@ -134,7 +133,7 @@ impl Map {
 
     // The slot that a lookup begins at.
     fn begin(self, nodes: &[u64], query: Query) -> u64
-        requires { ⌜ self .count * 8 ≤ length (now nodes) ⌝ }
+        requires { ⌜ Holds (now nodes) (self .count) ⌝ }
         ensures { λ r. ⌜ r ≡ beginning self (now (nodes .entry)) query ⌝ }
     {
         match query {
@@ -144,7 +143,7 @@ impl Map {
     }
 
     fn test_place(self, nodes: &[u64], query: Query, cursor: Cursor) -> Checked
-        requires { ⌜ self .count * 8 ≤ length (now nodes) ⌝ }
+        requires { ⌜ Holds (now nodes) (self .count) ⌝ }
         ensures { λ r. ⌜ checkNumber r ≡ formNumber (formOf (now (nodes .entry)) (self .count) (beginning self (now (nodes .entry)) query) cursor) ⌝ }
     {
         test_form(cursor.form(nodes, self.count, self.begin(nodes, query)))

@@ -6,11 +6,11 @@ use words::ix::U;
 use words::pair::Pairs;
 use words::refusal::Refusal;
 ghost use mathlib.Core.Path.{_≡_};
-ghost use Prim.Native.Nat.{_*_, _≤_, _<_};
-ghost use lib.ListN.{length};
+ghost use Prim.Native.Nat.{_<_};
 ghost use Rattle.iset.specs.Changes.{change};
 ghost use Rattle.iset.specs.Check.{checkNumber};
 ghost use Rattle.iset.specs.Remove.{slotAfter, removeAnswer, removeSlot, openRemoveNumber, openRemoveCall, removeCall};
+ghost use Rattle.words.specs.Nodes.{Holds, HoldsBits};
 
 // The map without the entry, the entry's value, the other entries that changed slot, and how many hulls changed.
 pub struct Removed {
@@ -61,7 +61,7 @@ impl Map {
 
     // The removal of a slot that is there.
     fn remove_slot(self, nodes: &mut [u64], colours: &mut [u8], slot: u64) -> Removal
-        requires { ⌜ (self .count * 8 ≤ length (now nodes)) × (self .count ≤ length (now colours) * 8) × (slot < self .count) ⌝ }
+        requires { ⌜ Holds (now nodes) (self .count) × HoldsBits (now colours) (self .count) × (slot < self .count) ⌝ }
         ensures { λ r. ⌜ change (removeAnswer self r) (now (nodes .exit)) (now (colours .exit))
             ≡ removeSlot self (now (nodes .entry)) (now (colours .entry)) slot ⌝ }
     {

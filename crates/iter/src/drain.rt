@@ -3,12 +3,13 @@ use crate::Cursor;
 use crate::rules::Query;
 use crate::seek::Step;
 ghost use mathlib.Core.Path.{_≡_};
-ghost use Prim.Native.Nat.{_*_, _≤_};
+ghost use Prim.Native.Nat.{_≤_};
 ghost use lib.ListN.{length};
 ghost use Rattle.iter.specs.Drains.{drain, filled};
 ghost use Rattle.iter.specs.Queries.{rules};
 ghost use Rattle.iter.specs.Places.{Placed};
 ghost use Rattle.iter.specs.Answers.{summary};
+ghost use Rattle.words.specs.Nodes.{Holds};
 
 // What a drain answers: the hits written, the nodes entered in its steps, and the next cursor.
 pub struct Drained {
@@ -28,7 +29,7 @@ impl Cursor {
         limit: u64,
         out: &mut [u64],
     ) -> Drained
-        requires { ⌜ (count * 8 ≤ length (now nodes)) × (count ≤ 65535) × (limit ≤ length (now out)) × Placed count self ⌝ }
+        requires { ⌜ Holds (now nodes) count × (count ≤ 65535) × (limit ≤ length (now out)) × Placed count self ⌝ }
         ensures { λ r. ⌜ (r ≡ summary (drain (now (nodes .entry)) count (rules (now (nodes .entry)) count query) limit self))
             × (now (out .exit)
             ≡ filled (drain (now (nodes .entry)) count (rules (now (nodes .entry)) count query) limit self .slots) (now (out .entry))) ⌝ }

@@ -11,13 +11,13 @@ use words::node::child_of;
 use words::node::parent_of;
 ghost use mathlib.Core.Path.{_≡_};
 ghost use mathlib.Core.Bool.{_&&_};
-ghost use Prim.Native.Nat.{_+_, _-_, _*_, _/_, _^_, _≤_, _<_};
-ghost use lib.ListN.{length};
+ghost use Prim.Native.Nat.{_-_, _*_, _/_, _^_, _≤_, _<_};
 ghost use lib.Dec.{eqb};
 ghost use Rattle.stack.specs.States.{returned};
 ghost use Rattle.iter.specs.Cursors.{fresh, ended};
 ghost use Rattle.iter.specs.Forms.{same, onSide, formed, heldForm, formOf};
 ghost use Rattle.iter.specs.Places.{Live};
+ghost use Rattle.words.specs.Nodes.{Has, Holds};
 
 // What stands in a number from a level's bits up.
 fn from_level(bits: u64, level: u64) -> u64
@@ -29,7 +29,7 @@ fn from_level(bits: u64, level: u64) -> u64
 
 // The slot is the child of `parent` on the side that its state says.
 fn is_on_side(nodes: &[u64], state: u64, parent: u64, slot: u64) -> bool
-    requires { ⌜ parent * 8 + 8 ≤ length (now nodes) ⌝ }
+    requires { ⌜ Has (now nodes) parent ⌝ }
     ensures { λ r. ⌜ r ≡ onSide (now (nodes .entry)) state parent slot ⌝ }
 {
     let left = child_of(nodes, parent, true);
@@ -39,7 +39,7 @@ fn is_on_side(nodes: &[u64], state: u64, parent: u64, slot: u64) -> bool
 
 // So many links up from the slot is `start`, and each level says by which side the way comes.
 fn is_way(nodes: &[u64], count: u64, start: u64, bits: u64, links: u64, slot: u64) -> bool
-    requires { ⌜ (count * 8 ≤ length (now nodes)) × (slot < count) × (links ≤ 32) ⌝ }
+    requires { ⌜ Holds (now nodes) count × (slot < count) × (links ≤ 32) ⌝ }
     ensures { λ r. ⌜ r ≡ formed (now (nodes .entry)) count start bits links slot ⌝ }
 {
     if links == 0 {
@@ -86,7 +86,7 @@ impl Cursor {
 
     // The top level is 10 with nothing above it, and the levels below say the way from `start`.
     fn is_reached(self, nodes: &[u64], count: u64, start: u64) -> bool
-        requires { ⌜ (count * 8 ≤ length (now nodes)) × Live count self ⌝ }
+        requires { ⌜ Holds (now nodes) count × Live count self ⌝ }
         ensures { λ r. ⌜ r ≡ eqb (self .bits / 4 ^ (self .levels - 1)) returned
             && formed (now (nodes .entry)) count start (self .bits) (self .levels - 1) (self .slot) ⌝ }
     {
@@ -96,7 +96,7 @@ impl Cursor {
     }
 
     fn is_held(self, nodes: &[u64], count: u64, start: u64) -> bool
-        requires { ⌜ count * 8 ≤ length (now nodes) ⌝ }
+        requires { ⌜ Holds (now nodes) count ⌝ }
         ensures { λ r. ⌜ r ≡ heldForm (now (nodes .entry)) count start self ⌝ }
     {
         if count <= self.slot {
@@ -113,7 +113,7 @@ impl Cursor {
 
     // The form of a cursor in the tree that begins at the slot `start`, judged against the present store.
     pub fn form(self, nodes: &[u64], count: u64, start: u64) -> Form
-        requires { ⌜ count * 8 ≤ length (now nodes) ⌝ }
+        requires { ⌜ Holds (now nodes) count ⌝ }
         ensures { λ r. ⌜ r ≡ formOf (now (nodes .entry)) count start self ⌝ }
     {
         if self.is_same(start, 1, 0) {

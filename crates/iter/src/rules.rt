@@ -11,11 +11,11 @@ use words::node::hull_start_of;
 use words::node::interval_of;
 ghost use mathlib.Core.Path.{_≡_};
 ghost use mathlib.Core.Bool.{true, false};
-ghost use Prim.Native.Nat.{_*_, _≤_, _<_};
-ghost use lib.ListN.{length};
+ghost use Prim.Native.Nat.{_<_};
 ghost use Rattle.iter.specs.Overlap.{shouldGoLeft, shouldGoRight, shouldGo};
 ghost use Rattle.iter.specs.Exact.{shouldGoExact, find, findFrom};
 ghost use Rattle.iter.specs.Queries.{rules};
+ghost use Rattle.words.specs.Nodes.{Holds};
 
 // What is looked for: the entries that intersect a range, or those equal to an interval.
 pub enum Query {
@@ -25,7 +25,7 @@ pub enum Query {
 
 // Whether the walk goes left: some entry below may end at or past the lower bound.
 fn should_go_left(nodes: &[u64], count: u64, index: u64, lo: Bound) -> bool
-    requires { ⌜ (count * 8 ≤ length (now nodes)) × (index < count) ⌝ }
+    requires { ⌜ Holds (now nodes) count × (index < count) ⌝ }
     ensures { λ r. ⌜ r ≡ shouldGoLeft (now (nodes .entry)) count lo index ⌝ }
 {
     let Link::Slot(left) = Link::new(child_of(nodes, index, true), count) else {
@@ -36,7 +36,7 @@ fn should_go_left(nodes: &[u64], count: u64, index: u64, lo: Bound) -> bool
 
 // Whether the walk goes right: the upper bound admits the least start below.
 fn should_go_right(nodes: &[u64], count: u64, index: u64, hi: Bound) -> bool
-    requires { ⌜ (count * 8 ≤ length (now nodes)) × (index < count) ⌝ }
+    requires { ⌜ Holds (now nodes) count × (index < count) ⌝ }
     ensures { λ r. ⌜ r ≡ shouldGoRight (now (nodes .entry)) count hi index ⌝ }
 {
     let Link::Slot(right) = Link::new(child_of(nodes, index, false), count) else {
@@ -46,7 +46,7 @@ fn should_go_right(nodes: &[u64], count: u64, index: u64, hi: Bound) -> bool
 }
 
 fn should_go_left_exact(nodes: &[u64], count: u64, index: u64, query: Interval) -> bool
-    requires { ⌜ (count * 8 ≤ length (now nodes)) × (index < count) ⌝ }
+    requires { ⌜ Holds (now nodes) count × (index < count) ⌝ }
     ensures { λ r. ⌜ r ≡ shouldGoExact (now (nodes .entry)) count query true index ⌝ }
 {
     let Link::Slot(left) = Link::new(child_of(nodes, index, true), count) else {
@@ -56,7 +56,7 @@ fn should_go_left_exact(nodes: &[u64], count: u64, index: u64, query: Interval) 
 }
 
 fn should_go_right_exact(nodes: &[u64], count: u64, index: u64, query: Interval) -> bool
-    requires { ⌜ (count * 8 ≤ length (now nodes)) × (index < count) ⌝ }
+    requires { ⌜ Holds (now nodes) count × (index < count) ⌝ }
     ensures { λ r. ⌜ r ≡ shouldGoExact (now (nodes .entry)) count query false index ⌝ }
 {
     let Link::Slot(right) = Link::new(child_of(nodes, index, false), count) else {
@@ -66,7 +66,7 @@ fn should_go_right_exact(nodes: &[u64], count: u64, index: u64, query: Interval)
 }
 
 fn goes_overlap(nodes: &[u64], count: u64, index: u64, range: Span, left_side: bool) -> bool
-    requires { ⌜ (count * 8 ≤ length (now nodes)) × (index < count) ⌝ }
+    requires { ⌜ Holds (now nodes) count × (index < count) ⌝ }
     ensures { λ r. ⌜ r ≡ shouldGo (now (nodes .entry)) count range «left_side» index ⌝ }
 {
     let lo = range.lo;
@@ -79,7 +79,7 @@ fn goes_overlap(nodes: &[u64], count: u64, index: u64, range: Span, left_side: b
 }
 
 fn goes_exact(nodes: &[u64], count: u64, index: u64, query: Interval, left_side: bool) -> bool
-    requires { ⌜ (count * 8 ≤ length (now nodes)) × (index < count) ⌝ }
+    requires { ⌜ Holds (now nodes) count × (index < count) ⌝ }
     ensures { λ r. ⌜ r ≡ shouldGoExact (now (nodes .entry)) count query «left_side» index ⌝ }
 {
     if left_side {
@@ -91,7 +91,7 @@ fn goes_exact(nodes: &[u64], count: u64, index: u64, query: Interval, left_side:
 
 // Whether the walk goes to a child of the slot `index`.
 pub fn goes(nodes: &[u64], count: u64, query: Query, index: u64, left_side: bool) -> bool
-    requires { ⌜ (count * 8 ≤ length (now nodes)) × (index < count) ⌝ }
+    requires { ⌜ Holds (now nodes) count × (index < count) ⌝ }
     ensures { λ r. ⌜ r ≡ rules (now (nodes .entry)) count query .go «left_side» index ⌝ }
 {
     match query {
@@ -102,7 +102,7 @@ pub fn goes(nodes: &[u64], count: u64, query: Query, index: u64, left_side: bool
 
 // Whether the entry of the slot `index` is looked for.
 pub fn matches(nodes: &[u64], count: u64, query: Query, index: u64) -> bool
-    requires { ⌜ (count * 8 ≤ length (now nodes)) × (index < count) ⌝ }
+    requires { ⌜ Holds (now nodes) count × (index < count) ⌝ }
     ensures { λ r. ⌜ r ≡ rules (now (nodes .entry)) count query .match index ⌝ }
 {
     let own = interval_of(nodes, index);
@@ -114,7 +114,7 @@ pub fn matches(nodes: &[u64], count: u64, query: Query, index: u64) -> bool
 
 // The highest node equal to the query, below a link with at most `height` nodes on its ways down; U if there is none.
 fn find_below(nodes: &[u64], count: u64, query: Interval, link: u64, height: u64) -> u64
-    requires { ⌜ count * 8 ≤ length (now nodes) ⌝ }
+    requires { ⌜ Holds (now nodes) count ⌝ }
     ensures { λ r. ⌜ r ≡ find (now (nodes .entry)) count query height link ⌝ }
 {
     if height == 0 {
@@ -138,7 +138,7 @@ fn find_below(nodes: &[u64], count: u64, query: Interval, link: u64, height: u64
 
 // Where exact lookup starts.
 pub fn find_index(nodes: &[u64], count: u64, query: Interval, root: u64) -> u64
-    requires { ⌜ count * 8 ≤ length (now nodes) ⌝ }
+    requires { ⌜ Holds (now nodes) count ⌝ }
     ensures { λ r. ⌜ r ≡ findFrom (now (nodes .entry)) count query root ⌝ }
 {
     find_below(nodes, count, query, root, 32)

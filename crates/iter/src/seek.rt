@@ -3,12 +3,12 @@ use crate::Cursor;
 use crate::rules::Query;
 ghost use mathlib.Core.Path.{_≡_};
 ghost use Prim.Native.Nat.{_*_, _≤_};
-ghost use lib.ListN.{length};
 ghost use lib.Dec.{ltb};
 ghost use Rattle.iter.specs.Walk.{seek, step, fuel};
 ghost use Rattle.iter.specs.Queries.{rules};
 ghost use Rattle.iter.specs.Places.{Placed};
 ghost use Rattle.iter.specs.Answers.{answer, isHit};
+ghost use Rattle.words.specs.Nodes.{Holds};
 
 // What a step answers: a hit with its cursor, which is the next one too, or the end; and the nodes entered in this call.
 pub enum Step {
@@ -31,7 +31,7 @@ impl Step {
 impl Cursor {
     // Moves until a hit or the end, with some nodes entered so far. `move_to_next_exact` is this at an exact query.
     fn move_to_next(self, nodes: &[u64], count: u64, query: Query, before: u64) -> Step
-        requires { ⌜ (count * 8 ≤ length (now nodes)) × (count ≤ 65535) × Placed count self × (before ≤ 1) ⌝ }
+        requires { ⌜ Holds (now nodes) count × (count ≤ 65535) × Placed count self × (before ≤ 1) ⌝ }
         ensures { λ r. ⌜ (answer r ≡ seek (now (nodes .entry)) count (rules (now (nodes .entry)) count query) (fuel count) before self)
             × (isHit r ≡ ltb (answer r .slot) count) ⌝ }
     {
@@ -54,7 +54,7 @@ impl Cursor {
     }
 
     pub fn step(self, nodes: &[u64], count: u64, query: Query) -> Step
-        requires { ⌜ (count * 8 ≤ length (now nodes)) × (count ≤ 65535) × Placed count self ⌝ }
+        requires { ⌜ Holds (now nodes) count × (count ≤ 65535) × Placed count self ⌝ }
         ensures { λ r. ⌜ (answer r ≡ step (now (nodes .entry)) count (rules (now (nodes .entry)) count query) self)
             × (isHit r ≡ ltb (answer r .slot) count) ⌝ }
     {

@@ -13,11 +13,10 @@ use words::node::child_of;
 use words::node::parent_of;
 ghost use mathlib.Core.Path.{_≡_};
 ghost use mathlib.Core.Bool.{true, false, cond};
-ghost use Prim.Native.Nat.{_+_, _*_, _≤_, _<_};
-ghost use lib.ListN.{length};
+ghost use Prim.Native.Nat.{_≤_, _<_};
 ghost use lib.Dec.{eqb};
 ghost use Rattle.words.specs.Ix.{U};
-ghost use Rattle.words.specs.Nodes.{par};
+ghost use Rattle.words.specs.Nodes.{par, Has, Holds};
 ghost use Rattle.stack.specs.States.{wasLeft, top};
 ghost use Rattle.iter.specs.Cursors.{stackOf, upTo};
 ghost use Rattle.iter.specs.Walk.{side, mark, down, deeper, move, enters, hits, counts};
@@ -69,7 +68,7 @@ impl Cursor {
     }
 
     fn down(self, nodes: &[u64], left_side: bool) -> Cursor
-        requires { ⌜ (self .slot * 8 + 8 ≤ length (now nodes)) × (1 ≤ self .levels) × (self .levels < 32) ⌝ }
+        requires { ⌜ Has (now nodes) (self .slot) × (1 ≤ self .levels) × (self .levels < 32) ⌝ }
         ensures { λ r. ⌜ r ≡ down (now (nodes .entry)) «left_side» self ⌝ }
     {
         let marked = self.stack().mark(side_mark(left_side));
@@ -82,7 +81,7 @@ impl Cursor {
     }
 
     fn up(self, nodes: &[u64]) -> Cursor
-        requires { ⌜ (self .slot * 8 + 8 ≤ length (now nodes)) × (1 ≤ self .levels) × (self .levels ≤ 32) ⌝ }
+        requires { ⌜ Has (now nodes) (self .slot) × (1 ≤ self .levels) × (self .levels ≤ 32) ⌝ }
         ensures { λ r. ⌜ r ≡ upTo (par (now (nodes .entry)) (self .slot)) self ⌝ }
     {
         let stack = self.stack().shorten();
@@ -96,7 +95,7 @@ impl Cursor {
 
     // Whether the walk goes down on a side: the stack takes one more level, and the rules say so.
     fn goes_down(self, nodes: &[u64], count: u64, query: Query, left_side: bool) -> bool
-        requires { ⌜ (count * 8 ≤ length (now nodes)) × (self .slot < count) ⌝ }
+        requires { ⌜ Holds (now nodes) count × (self .slot < count) ⌝ }
         ensures { λ r. ⌜ r ≡ deeper (rules (now (nodes .entry)) count query) «left_side» self ⌝ }
     {
         (self.levels < 32) & goes(nodes, count, query, self.slot, left_side)
@@ -104,7 +103,7 @@ impl Cursor {
 
     // From 00: left, or mark 01.
     fn left_or_mark(self, nodes: &[u64], count: u64, query: Query) -> Cursor
-        requires { ⌜ (count * 8 ≤ length (now nodes)) × Live count self ⌝ }
+        requires { ⌜ Holds (now nodes) count × Live count self ⌝ }
         ensures { λ r. ⌜ r ≡ cond (deeper (rules (now (nodes .entry)) count query) true self)
             (down (now (nodes .entry)) true self) (mark wasLeft self) ⌝ }
     {
@@ -117,7 +116,7 @@ impl Cursor {
 
     // From 10: right, or up.
     fn right_or_up(self, nodes: &[u64], count: u64, query: Query) -> Cursor
-        requires { ⌜ (count * 8 ≤ length (now nodes)) × Live count self ⌝ }
+        requires { ⌜ Holds (now nodes) count × Live count self ⌝ }
         ensures { λ r. ⌜ r ≡ cond (deeper (rules (now (nodes .entry)) count query) false self)
             (down (now (nodes .entry)) false self) (upTo (par (now (nodes .entry)) (self .slot)) self) ⌝ }
     {
@@ -130,7 +129,7 @@ impl Cursor {
 
     // One move.
     pub fn walk(self, nodes: &[u64], count: u64, query: Query) -> Cursor
-        requires { ⌜ (count * 8 ≤ length (now nodes)) × Live count self ⌝ }
+        requires { ⌜ Holds (now nodes) count × Live count self ⌝ }
         ensures { λ r. ⌜ r ≡ move (now (nodes .entry)) (rules (now (nodes .entry)) count query) self ⌝ }
     {
         let state = self.state();
@@ -167,7 +166,7 @@ impl Cursor {
 
     // A live node is on top in state 10, and its entry is looked for.
     pub fn is_hit(self, nodes: &[u64], count: u64, query: Query) -> bool
-        requires { ⌜ (count * 8 ≤ length (now nodes)) × Placed count self ⌝ }
+        requires { ⌜ Holds (now nodes) count × Placed count self ⌝ }
         ensures { λ r. ⌜ r ≡ hits count (rules (now (nodes .entry)) count query) self ⌝ }
     {
         if count <= self.slot {

@@ -11,8 +11,9 @@ use words::node::put_node;
 use words::node::slots_in;
 use words::numbers::least;
 ghost use mathlib.Core.Path.{_≡_};
-ghost use Prim.Native.Nat.{_*_, _≤_, _<_};
+ghost use Prim.Native.Nat.{_*_, _<_};
 ghost use lib.ListN.{length};
+ghost use Rattle.words.specs.Nodes.{Holds};
 
 fn words_space() -> [u64; 524288]
     ensures { λ r. ⌜ 524288 ≡ length r ⌝ }
@@ -97,7 +98,7 @@ fn before(k: u64) -> u64 {
 
 // Slot k of a chain of n: its right link leads to the next slot, its parent is the one before.
 fn put_link(nodes: &mut [u64], n: u64, k: u64)
-    requires { ⌜ (k < n) × (n * 8 ≤ length (now nodes)) ⌝ }
+    requires { ⌜ (k < n) × Holds (now nodes) n ⌝ }
 {
     let e = Entry {
         start: k,
@@ -109,7 +110,7 @@ fn put_link(nodes: &mut [u64], n: u64, k: u64)
 }
 
 fn put_chain(nodes: &mut [u64], n: u64)
-    requires { ⌜ n * 8 ≤ length (now nodes) ⌝ }
+    requires { ⌜ Holds (now nodes) n ⌝ }
 {
     let mut k = 0;
     while k < n {

@@ -10,12 +10,13 @@ use words::node::child_of;
 use words::node::parent_of;
 ghost use mathlib.Core.Path.{_≡_};
 ghost use mathlib.Core.Bool.{cond};
-ghost use Prim.Native.Nat.{_+_, _*_, _<_, _≤_};
+ghost use Prim.Native.Nat.{_+_, _<_, _≤_};
 ghost use lib.ListN.{length, set};
 ghost use Rattle.iter.specs.Drains.{filled};
 ghost use Rattle.iter.specs.Queries.{rules};
 ghost use Rattle.plain_laws.specs.Tour.{ascend, nextOf, firstOf, plain};
 ghost use Rattle.plain.specs.Answers.{tally};
+ghost use Rattle.words.specs.Nodes.{Holds};
 
 // How many hits were written, and how many entries the lookup went through.
 pub struct Tally {
@@ -25,7 +26,7 @@ pub struct Tally {
 
 // The first slot above `slot` that has it on the left, at most `height` links up; U if there is none.
 fn next_above(nodes: &[u64], count: u64, slot: u64, height: u64) -> u64
-    requires { ⌜ (count * 8 ≤ length (now nodes)) × (slot < count) ⌝ }
+    requires { ⌜ Holds (now nodes) count × (slot < count) ⌝ }
     ensures { λ r. ⌜ r ≡ ascend count height (now (nodes .entry)) slot ⌝ }
 {
     if height == 0 {
@@ -42,7 +43,7 @@ fn next_above(nodes: &[u64], count: u64, slot: u64, height: u64) -> u64
 
 // The slot after `slot` in tree order; U if there is none.
 pub fn next_slot(nodes: &[u64], count: u64, slot: u64) -> u64
-    requires { ⌜ (count * 8 ≤ length (now nodes)) × (slot < count) ⌝ }
+    requires { ⌜ Holds (now nodes) count × (slot < count) ⌝ }
     ensures { λ r. ⌜ r ≡ nextOf count (now (nodes .entry)) slot ⌝ }
 {
     let Link::Slot(right) = Link::new(child_of(nodes, slot, false), count) else {
@@ -53,7 +54,7 @@ pub fn next_slot(nodes: &[u64], count: u64, slot: u64) -> u64
 
 // The first slot in tree order; U if there is none.
 pub fn first_slot(nodes: &[u64], count: u64, root: u64) -> u64
-    requires { ⌜ count * 8 ≤ length (now nodes) ⌝ }
+    requires { ⌜ Holds (now nodes) count ⌝ }
     ensures { λ r. ⌜ r ≡ firstOf count (now (nodes .entry)) root ⌝ }
 {
     let Link::Slot(top) = Link::new(root, count) else {
@@ -77,7 +78,7 @@ fn note(out: &mut [u64], hits: u64, slot: u64, hit: bool) -> u64
 
 // Writes the slots of all entries that the query asks for, in tree order.
 pub fn scan(nodes: &[u64], count: u64, root: u64, query: Query, out: &mut [u64]) -> Tally
-    requires { ⌜ (count * 8 ≤ length (now nodes)) × (count ≤ length (now out)) ⌝ }
+    requires { ⌜ Holds (now nodes) count × (count ≤ length (now out)) ⌝ }
     ensures { λ r. ⌜ (r ≡ tally count (now (nodes .entry)) (rules (now (nodes .entry)) count query) root)
         × (now (out .exit) ≡ filled (plain count (now (nodes .entry)) (rules (now (nodes .entry)) count query) root) (now (out .entry))) ⌝ }
 {

@@ -27,6 +27,7 @@ use Rattle.slots.specs.declared.reading.Said.{Said}
 use Rattle.slots.specs.declared.reading.Said.the-variants.{Entry, Remove, Other}
 use Rattle.slots.specs.declared.working.Work.{Work}
 use Rattle.slots.specs.declared.working.Work.the-variants.{Listing, Held, Refused}
+use Rattle.words.specs.Nodes.{Holds}
 
 -- what the lines led to, read off the work and its memory
 abbrev pub standOf : Work → List ℕ → List ℕ → List ℕ → Stand
@@ -37,7 +38,7 @@ standOf (Refused why) X K E = refused why
 -- The work stands in memory that was W and C at first and is so while entries are listed; 256 entries at most are listed and held.
 abbrev pub Kept : List ℕ → List ℕ → Work → List ℕ → List ℕ → Type 0
 Kept W C (Listing n) X K = (n ≤ 256) × (X ≡ W) × (K ≡ C)
-Kept W C (Held m) X K = (m .count ≤ 256) × (m .count * 8 ≤ length X)
+Kept W C (Held m) X K = (m .count ≤ 256) × Holds X (m .count)
 Kept W C (Refused why) X K = Unit {0}
 
 -- the work w in the memory X, K and E is the stand t
@@ -72,7 +73,7 @@ list-more n a b c E h long =
 
 -- what a call leaves: the number of a refusal, or the map, whose entries the words hold
 module _ (W C : List ℕ) (why : ℕ) (m : Map) (X K E : List ℕ) (long : 768 ≤ length E) where
-  call-left : (why ≡ 0 → (m .count ≤ 256) × (m .count * 8 ≤ length X)) → Stands W C (desk (workLeft why m) X K E) (left why m X K)
+  call-left : (why ≡ 0 → (m .count ≤ 256) × Holds X (m .count)) → Stands W C (desk (workLeft why m) X K E) (left why m X K)
   call-left f = go (eqb why 0) refl
     where
       go : (t : Bool) → eqb why 0 ≡ t → Stands W C (desk (cond t (Held m) (Refused why)) X K E) (cond t (held m X K) (refused why))
@@ -87,7 +88,7 @@ build-held W C S h e =
     let b = build-answers W C S e in
     (omega (arith, b .0), omega (arith, b .0, b .1 .words-length, a .room-for))
 
-remove-held : (m : Map) (W C : List ℕ) (k : ℕ) → m .count ≤ 256 → m .count * 8 ≤ length W → removeCall m W C k .answer .no ≡ 0
+remove-held : (m : Map) (W C : List ℕ) (k : ℕ) → m .count ≤ 256 → Holds W (m .count) → removeCall m W C k .answer .no ≡ 0
     → (removeCall m W C k .answer .map .count ≤ 256) × (removeCall m W C k .answer .map .count * 8 ≤ length (removeCall m W C k .words))
 unfolding removeCall
 remove-held m W C k h g e =
@@ -111,7 +112,7 @@ module _ (W C : List ℕ) where
   settled-of (Held m) X K E p long = record { same = refl; kept = p; long = long }
   settled-of (Refused why) X K E p long = record { same = refl; kept = p; long = long }
 
-  removal-stands : (m : Map) (X K E : List ℕ) (k : ℕ) → m .count ≤ 256 → m .count * 8 ≤ length X → 768 ≤ length E
+  removal-stands : (m : Map) (X K E : List ℕ) (k : ℕ) → m .count ≤ 256 → Holds X (m .count) → 768 ≤ length E
       → Stands W C (onDesk (removalIn m X K k) E) (removal m X K k)
   unfolding removalIn removal
   removal-stands m X K E k h g long =

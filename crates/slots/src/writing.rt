@@ -7,11 +7,11 @@ use words::node::Entry;
 use words::node::entry_of;
 use words::node::slots_in;
 ghost use mathlib.Core.Path.{_≡_};
-ghost use Prim.Native.Nat.{_+_, _*_, _<_, _≤_};
-ghost use lib.ListN.{length};
+ghost use Prim.Native.Nat.{_+_, _<_};
 ghost use Rattle.lines.specs.Output.{page, decimal, number, next};
 ghost use Rattle.slots.specs.Text.{rootText, head, row, rows, refusalText};
 ghost use Rattle.slots.specs.Writing.{putByte, puts, heldText, workText};
+ghost use Rattle.words.specs.Nodes.{Has, Holds};
 
 fn put_byte(out: &mut [u8], at: usize, b: u8) -> usize
     ensures { λ r. ⌜ page r (now (out .exit)) ≡ putByte (page at (now (out .entry))) b ⌝ }
@@ -93,7 +93,7 @@ fn put_head(out: &mut [u8], map: Map) -> usize
 
 // The line of a slot.
 fn put_row(out: &mut [u8], at: usize, nodes: &[u64], slot: u64) -> usize
-    requires { ⌜ slot * 8 + 8 ≤ length (now nodes) ⌝ }
+    requires { ⌜ Has (now nodes) slot ⌝ }
     ensures { λ r. ⌜ page r (now (out .exit)) ≡ puts (page at (now (out .entry))) (row (now (nodes .entry)) slot) ⌝ }
 {
     let e = entry_of(nodes, slot);
@@ -105,7 +105,7 @@ fn put_row(out: &mut [u8], at: usize, nodes: &[u64], slot: u64) -> usize
 }
 
 fn put_rows(out: &mut [u8], at: usize, nodes: &[u64], count: u64) -> usize
-    requires { ⌜ count * 8 ≤ length (now nodes) ⌝ }
+    requires { ⌜ Holds (now nodes) count ⌝ }
     ensures { λ r. ⌜ page r (now (out .exit)) ≡ puts (page at (now (out .entry))) (rows (now (nodes .entry)) 0 count) ⌝ }
 {
     let mut to = at;

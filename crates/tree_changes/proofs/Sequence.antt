@@ -2,10 +2,9 @@
 -- used again.
 use mathlib.Core.Path.{_≡_, refl}
 use mathlib.Core.List.{List, [], _∷_, map}
-use Prim.Native.Nat.{ℕ, _+_, _-_, _*_, _<_, _≤_}
+use Prim.Native.Nat.{ℕ, _+_, _-_, _<_, _≤_}
 use native.Mathlib.Omega.{arith}
-use lib.ListN.{length}
-use Rattle.words.specs.Nodes.{entry}
+use Rattle.words.specs.Nodes.{entry, Holds, HoldsBits}
 use Rattle.words.specs.declared.node.Entry.{Entry}
 use Rattle.tree.specs.Passes.{Passes}
 use Rattle.tree_edit.specs.Store.{Store}
@@ -35,7 +34,7 @@ counted-most : (x : Change) (n m : ℕ) → n ≤ m → Takes m n x → counted 
 counted-most (remove s) n m q t = omega arith
 counted-most (insert e) n m q t = omega (arith, t .0)
 
-changed-passes : (x : Change) (S : Store) (n m : ℕ) → m ≤ 65535 → m * 8 ≤ length (S .words) → m ≤ length (S .colours) * 8 → n ≤ m
+changed-passes : (x : Change) (S : Store) (n m : ℕ) → m ≤ 65535 → Holds (S .words) m → HoldsBits (S .colours) m → n ≤ m
     → Passes (S .words) (S .colours) n (S .root) → Takes m n x
     → Passes (changed S n x .words) (changed S n x .colours) (counted n x) (changed S n x .root)
 changed-passes (remove s) S n m small fit bits q h t =
@@ -51,7 +50,7 @@ run-inside (x ∷ l) S n m q t =
     inside-trans m m S T (run T (counted n x) l) (omega arith) (changed-inside x S n m q (t .0))
     (run-inside l T (counted n x) m (counted-most x n m q (t .0)) (t .1))
 
-pub ran : (l : List Change) (S : Store) (n m : ℕ) → m ≤ 65535 → m * 8 ≤ length (S .words) → m ≤ length (S .colours) * 8 → n ≤ m
+pub ran : (l : List Change) (S : Store) (n m : ℕ) → m ≤ 65535 → Holds (S .words) m → HoldsBits (S .colours) m → n ≤ m
     → Passes (S .words) (S .colours) n (S .root) → TakesAll m n l
     → Passes (run S n l .words) (run S n l .colours) (total n l) (run S n l .root) × (total n l ≤ m)
 ran [] S n m small fit bits q h t = (h, q)
@@ -63,7 +62,7 @@ ran (x ∷ l) S n m small fit bits q h t =
 
 -- "Room given up by removals is used again, since slot count is always the next one": an arena that is full takes a new entry after any removal,
 -- in the slot that the removal emptied, and is full again
-module _ (W C : List ℕ) (n r s : ℕ) (e : Entry) (small : n ≤ 65535) (fit : n * 8 ≤ length W) (bits : n ≤ length C * 8) (ls : s < n)
+module _ (W C : List ℕ) (n r s : ℕ) (e : Entry) (small : n ≤ 65535) (fit : Holds W n) (bits : HoldsBits C n) (ls : s < n)
     (proper : e .start < e .end) (h : Passes W C n r) where
   abbrev T : Store
   T = removeRule W C n r s .store
@@ -75,7 +74,7 @@ module _ (W C : List ℕ) (n r s : ℕ) (e : Entry) (small : n ≤ 65535) (fit :
   reused =
       let i : Inside n W C T = removed-inside W C n r s ls in
       let k : n - 1 + 1 ≡ n = omega arith in
-      let room : (n - 1 + 1) * 8 ≤ length (T .words) = rw (k, i .words-length) fit in
+      let room : Holds (T .words) (n - 1 + 1) = rw (k, i .words-length) fit in
       let g = inserted (T .words) (T .colours) (n - 1) (T .root) e (omega arith) room (rw (k, i .colours-length) bits) proper
       (removed W C n r s small fit bits ls h .passes) in
       (rw k at (g .passes), g .entry-new)

@@ -3,14 +3,14 @@
 use mathlib.Core.Path.{_≡_, refl, sym, _∙_}
 use mathlib.Core.Bool.{Bool, true, false, cond, not}
 use mathlib.Core.List.{List, [], _∷_, _++_}
-use Prim.Native.Nat.{ℕ, zero, suc, _+_, _-_, _*_, _<_, _≤_}
+use Prim.Native.Nat.{ℕ, zero, suc, _+_, _*_, _<_}
 use native.Mathlib.Omega.{arith}
 use lib.ListN.{length, getD, set}
 use lib.Dec.{eqb, leb}
 use borrow.Author.Tests.{eqb-true, eqb-false, leb-false}
 use Rattle.words.specs.Ix.{onLink}
 use Rattle.words.specs.Intervals.{eq, extended}
-use Rattle.words.specs.Nodes.{place, word, put, value, kid, par, interval, hull, entry, putPar, putEntry, putHull, joined, hullOf, altered, fix, putNode}
+use Rattle.words.specs.Nodes.{place, word, put, value, kid, par, interval, hull, entry, putPar, putEntry, putHull, joined, hullOf, altered, fix, putNode, HoldsBits}
 use Rattle.words.specs.declared.interval.Interval.{Interval}
 use Rattle.words.specs.declared.node.Entry.{Entry}
 use Rattle.words.specs.declared.node.Field.{Field}
@@ -47,7 +47,7 @@ module _ (n : ℕ) where
       go false i = h (leb-false n k i)
 
   -- the colours: a bit is written in both
-  pub sameColours-paint : (C D : List ℕ) (s : ℕ) (v : Bool) → n ≤ length C * 8 → s < n → SameColours n C D → SameColours n (paint C s v) (paint D s v)
+  pub sameColours-paint : (C D : List ℕ) (s : ℕ) (v : Bool) → HoldsBits C n → s < n → SameColours n C D → SameColours n (paint C s v) (paint D s v)
   sameColours-paint C D s v bits h H = (length-setBit C s v ∙ H .0 ∙ sym (length-setBit D s v), λ a l. go a l (eqb a s) refl)
     where
       go : (a : ℕ) → a < n → (t : Bool) → eqb a s ≡ t → red (paint C s v) a ≡ red (paint D s v) a
@@ -173,7 +173,7 @@ module _ (n : ℕ) where
 
   -- colours that agree, with room for n of them
   abbrev pub Both : List ℕ → List ℕ → Type 0
-  Both C D = (n ≤ length C * 8) × SameColours n C D
+  Both C D = HoldsBits C n × SameColours n C D
 
   pub both-paint : (C D : List ℕ) (s : ℕ) (v : Bool) → s < n → Both C D → Both (paint C s v) (paint D s v)
   both-paint C D s v h B = (rw length-setBit (B .0), sameColours-paint C D s v (B .0) h (B .1))

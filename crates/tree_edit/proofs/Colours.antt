@@ -13,6 +13,7 @@ use Rattle.bitvec.proofs.Bytes.{bitAt-same, bitAt-other, length-setBit}
 use Rattle.tree.specs.Tree.{Tree, Shape, leaf, node}
 use Rattle.tree.specs.RedBlack.{rootRed}
 use Rattle.tree_edit.proofs.Links.{by-link, on-slot, on-none}
+use Rattle.words.specs.Nodes.{HasBit, HoldsBits}
 
 unfoldable pub withColour : (ℕ → Bool) → ℕ → Bool → ℕ → Bool
 withColour K s v a = cond (eqb a s) v (K a)
@@ -35,22 +36,22 @@ module _ (K : ℕ → Bool) (s : ℕ) (v : Bool) where
       go a false q = f a (eqb-false a s q) ∙ sym (withColour-other a (eqb-false a s q))
 
 -- in the bytes
-pub red-paint : (C : List ℕ) (s : ℕ) (v : Bool) → s < length C * 8 → red (paint C s v) ≡ withColour (red C) s v
+pub red-paint : (C : List ℕ) (s : ℕ) (v : Bool) → HasBit C s → red (paint C s v) ≡ withColour (red C) s v
 red-paint C s v h = withColour-is (red C) s v (red (paint C s v)) (bitAt-same C s v (omega arith)) (bitAt-other C s v)
 
 -- colours made one after the other
-module _ (n : ℕ) (C : List ℕ) (bits : n ≤ length C * 8) where
-  pub paint-one : (s : ℕ) (v : Bool) → s < n → (n ≤ length (paint C s v) * 8) × (red (paint C s v) ≡ withColour (red C) s v)
+module _ (n : ℕ) (C : List ℕ) (bits : HoldsBits C n) where
+  pub paint-one : (s : ℕ) (v : Bool) → s < n → HoldsBits (paint C s v) n × (red (paint C s v) ≡ withColour (red C) s v)
   paint-one s v q = (rw length-setBit bits, red-paint C s v (omega arith))
 
-pub paint-two : (n : ℕ) (C : List ℕ) (s a : ℕ) (v w : Bool) → n ≤ length C * 8 → s < n → a < n
-    → (n ≤ length (paint (paint C s v) a w) * 8) × (red (paint (paint C s v) a w) ≡ withColour (withColour (red C) s v) a w)
+pub paint-two : (n : ℕ) (C : List ℕ) (s a : ℕ) (v w : Bool) → HoldsBits C n → s < n → a < n
+    → HoldsBits (paint (paint C s v) a w) n × (red (paint (paint C s v) a w) ≡ withColour (withColour (red C) s v) a w)
 paint-two n C s a v w bits q o =
     let (i, e) = paint-one n C bits s v q in
     let (j, f) = paint-one n (paint C s v) i a w o in
     (j, f ∙ rw e)
 
-pub paint-three : (n : ℕ) (C : List ℕ) (s a d : ℕ) (v w u : Bool) → n ≤ length C * 8 → s < n → a < n → d < n
+pub paint-three : (n : ℕ) (C : List ℕ) (s a d : ℕ) (v w u : Bool) → HoldsBits C n → s < n → a < n → d < n
     → (n ≤ length (paint (paint (paint C s v) a w) d u) * 8) × (red (paint (paint (paint C s v) a w) d u) ≡ withColour (withColour (withColour (red C) s v) a w) d u)
 paint-three n C s a d v w u bits q o p =
     let (i, e) = paint-two n C s a v w bits q o in
@@ -70,5 +71,5 @@ red-slot n C k = by-link n k (λ v. v ≡ true → k < n) (λ s. red C s) false 
 pub red-child : (w a t : Bool) → w ≡ not a → not w ≡ t → a ≡ t
 red-child w a t f z = sym (Bool·not-not a) ∙ ap not (sym f) ∙ z
 
-pub red-fits : (n : ℕ) (C : List ℕ) (k : ℕ) (w : Bool) → n ≤ length C * 8 → w ≡ not (redAt n C k) → not w ≡ true → k < length C * 8
+pub red-fits : (n : ℕ) (C : List ℕ) (k : ℕ) (w : Bool) → HoldsBits C n → w ≡ not (redAt n C k) → not w ≡ true → HasBit C k
 red-fits n C k w h e q = let l : k < n = red-slot n C k (red-child w (redAt n C k) true e q) in omega arith

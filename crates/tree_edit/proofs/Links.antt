@@ -9,7 +9,7 @@ use lib.ListN.{length}
 use lib.Dec.{eqb, leb}
 use borrow.Author.Tests.{eqb-true, eqb-false, leb-true, leb-false, lt-leb, le-leb}
 use Rattle.words.specs.Ix.{onLink}
-use Rattle.words.specs.Nodes.{word, kid, par}
+use Rattle.words.specs.Nodes.{word, kid, par, Has}
 use Rattle.words.proofs.Nodes.{length-put, word-put, word-put-slot, word-put-field, inLinks, kid-putPar, par-putKid, kid-putKid-not}
 use Rattle.words.specs.declared.node.Field.{Field}
 use Rattle.words.specs.declared.node.Field.the-variants.{Child, Parent}
@@ -60,7 +60,7 @@ module _ (n : ℕ) (W : List ℕ) (c p : ℕ) where
   unfolding adopt
   kid-adopt d a = by-link n c (λ X. kid X d a ≡ kid W d a) _ W (λ h. kid-putPar W c p d a) (λ h. refl)
 
-  pub par-adopt : c < n → c * 8 + 8 ≤ length W → par (adopt n W c p) c ≡ p
+  pub par-adopt : c < n → Has W c → par (adopt n W c p) c ≡ p
   unfolding adopt
   par-adopt u h = rw (on-slot n c u) (word-put W Parent c p h)
 
@@ -69,7 +69,7 @@ module _ (n : ℕ) (W : List ℕ) (c p : ℕ) where
   word-adopt-slot g a d = by-link n c (λ X. word X g a ≡ word W g a) _ W (λ h. word-put-slot W Parent c p g a d) (λ h. refl)
 
   -- a parent that is p already stays
-  pub par-adopt-kept : (a : ℕ) → a * 8 + 8 ≤ length W → a < n → par W a ≡ p → par (adopt n W c p) a ≡ p
+  pub par-adopt-kept : (a : ℕ) → Has W a → a < n → par W a ≡ p → par (adopt n W c p) a ≡ p
   par-adopt-kept a h u e = go (eqb a c) refl
     where
       go : (t : Bool) → eqb a c ≡ t → par (adopt n W c p) a ≡ p
@@ -86,7 +86,7 @@ module _ (n : ℕ) (W : List ℕ) (p c : ℕ) (b : Bool) where
   unfolding setChild
   kept-setChild a g q = word-put-field _ (Child b) p c inLinks g a refl q ∙ kept-adopt n W c p a g q
 
-  pub kid-setChild : p * 8 + 8 ≤ length W → kid (setChild n W p c b) b p ≡ c
+  pub kid-setChild : Has W p → kid (setChild n W p c b) b p ≡ c
   unfolding setChild
   kid-setChild h = word-put _ (Child b) p c (rw length-adopt h)
 
@@ -98,7 +98,7 @@ module _ (n : ℕ) (W : List ℕ) (p c : ℕ) (b : Bool) where
   unfolding setChild
   kid-setChild-other d a h = word-put-slot _ (Child b) p c (Child d) a h ∙ kid-adopt n W c p d a
 
-  pub par-setChild : c < n → c * 8 + 8 ≤ length W → par (setChild n W p c b) c ≡ p
+  pub par-setChild : c < n → Has W c → par (setChild n W p c b) c ≡ p
   unfolding setChild
   par-setChild u h = par-putKid _ b p c c ∙ par-adopt n W c p u h
 
@@ -126,7 +126,7 @@ module _ (n : ℕ) (W : List ℕ) (g z v : ℕ) where
   word-redirect-slot f a d = by-link n g (λ X. word X f a ≡ word W f a) _ W (λ h. word-put-slot W _ g v f a d) (λ h. refl)
 
   -- the link of g on the side b, where z stands on that side; and the other one
-  pub kid-redirect : (b : Bool) → g < n → g * 8 + 8 ≤ length W → eqb (kid W true g) z ≡ b → kid (redirect n W g z v) b g ≡ v
+  pub kid-redirect : (b : Bool) → g < n → Has W g → eqb (kid W true g) z ≡ b → kid (redirect n W g z v) b g ≡ v
   unfolding redirect redirected
   kid-redirect b u h e = rw (on-slot n g u, e) (word-put W (Child b) g v h)
 
@@ -145,7 +145,7 @@ module _ (n : ℕ) (W : List ℕ) (old new : ℕ) where
   unfolding replaced
   kept-replaced a g q = word-put-field _ Parent new _ inLinks g a refl q ∙ kept-redirect n W (par W old) old new a g q
 
-  pub par-replaced : new * 8 + 8 ≤ length W → par (replaced n W old new) new ≡ par W old
+  pub par-replaced : Has W new → par (replaced n W old new) new ≡ par W old
   unfolding replaced
   par-replaced h = word-put _ Parent new (par W old) (rw length-redirect h)
 

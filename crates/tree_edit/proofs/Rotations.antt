@@ -3,12 +3,12 @@ use mathlib.Core.Path.{_≡_, refl, sym, _∙_}
 use mathlib.Core.Logic.{_≢_}
 use mathlib.Core.Bool.{Bool, true, false, not}
 use mathlib.Core.List.{List, [], _∷_}
-use Prim.Native.Nat.{ℕ, _+_, _*_, _<_, _≤_}
+use Prim.Native.Nat.{ℕ, _+_, _<_, _≤_}
 use native.Mathlib.Omega.{arith}
 use lib.ListN.{length}
 use lib.Dec.{eqb}
 use borrow.Author.Tests.{eq-eqb, ne-eqb}
-use Rattle.words.specs.Nodes.{kid, par}
+use Rattle.words.specs.Nodes.{kid, par, Has}
 use Rattle.tree.specs.Tree.{Tree, hit, occ, Node, Shape}
 use Rattle.tree.specs.Zipper.{bin, Frame, occs, Above, frame}
 use Rattle.tree.proofs.Slots.{hit-same, hit-zero, apart, apart-way, occ-bin}
@@ -162,7 +162,7 @@ module _ (W : List ℕ) (n r ix : ℕ) (b : Bool) (P S : ℕ) (c : List Frame) (
   abbrev k : ℕ
   k = kid W b S
 
-  fit : (s : ℕ) → s < n → s * 8 + 8 ≤ length W
+  fit : (s : ℕ) → s < n → Has W s
   fit s u = omega (arith, h .room)
 
   live-P : P < n

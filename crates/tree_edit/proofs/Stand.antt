@@ -1,10 +1,9 @@
 -- Shape and slots at a place: the slot ix below p, the way up from it, and the tree at it.
 use mathlib.Core.Bool.{Bool}
 use mathlib.Core.List.{List, _∷_}
-use Prim.Native.Nat.{ℕ, _+_, _*_, _≤_}
+use Prim.Native.Nat.{ℕ, _+_, _≤_}
 use native.Mathlib.Omega.{arith}
-use lib.ListN.{length}
-use Rattle.words.specs.Nodes.{kid, par, fix}
+use Rattle.words.specs.Nodes.{kid, par, fix, Holds}
 use Rattle.words.proofs.Nodes.{length-fix}
 use Rattle.tree.specs.Tree.{Tree, occ, Shape}
 use Rattle.tree.specs.Zipper.{bin, Frame, occs, Above, frame}
@@ -14,7 +13,7 @@ use Rattle.tree_edit.proofs.Upward.{same-fix}
 
 pub record Stand (W : List ℕ) (n r ix p : ℕ) (c : List Frame) (t : Tree) : Type 0 where
   pub small : n ≤ 65535
-  pub room : n * 8 ≤ length W
+  pub room : Holds W n
   pub once : (s : ℕ) → occs s c + occ s t ≤ 1
   pub way : Above W n r c p ix
   pub tree : Shape W n p ix t

@@ -2,12 +2,12 @@
 use mathlib.Core.Path.{_≡_, refl, ap, fun-ext, _∙_, sym}
 use mathlib.Core.Bool.{Bool, true, false, not}
 use mathlib.Core.List.{List, [], _∷_, _++_}
-use Prim.Native.Nat.{ℕ, zero, suc, _+_, _*_, _<_, _≤_, min, max}
+use Prim.Native.Nat.{ℕ, zero, suc, _+_, _<_, _≤_, min, max}
 use native.Mathlib.Omega.{arith}
 use lib.ListN.{length}
 use Rattle.words.specs.Ix.{U}
 use Rattle.words.specs.Intervals.{extended}
-use Rattle.words.specs.Nodes.{start, stop, lo, hi, kid, par, interval, hull, entry, joined, hullOf, fix}
+use Rattle.words.specs.Nodes.{start, stop, lo, hi, kid, par, interval, hull, entry, joined, hullOf, fix, Holds}
 use Rattle.words.proofs.Nodes.{length-fix, word-fix, word-fix-slot, hull-fix}
 use Rattle.words.specs.declared.interval.Interval.{Interval}
 use Rattle.words.specs.declared.node.Field.the-variants.{Start, End, Value, Child, Parent}
@@ -72,7 +72,7 @@ module _ (W : List ℕ) (n : ℕ) (small : n ≤ 65535) where
       join-link s (kid W false s) r _ (h .right) ∙ rw (join-link s (kid W true s) l (interval W s) (h .left)) refl
 
   -- one slot: its hull is right after `fix`, if its children's are
-  fix-node : (p k : ℕ) (l : Tree) (s : ℕ) (r : Tree) → n * 8 ≤ length W → occ s l ≡ 0 → occ s r ≡ 0
+  fix-node : (p k : ℕ) (l : Tree) (s : ℕ) (r : Tree) → Holds W n → occ s l ≡ 0 → occ s r ≡ 0
       → Shape W n p k (node l s r) → Hulls W l → Hulls W r → Hulls (fix n W s) (node l s r)
   fix-node p k l s r room zl zr h hl hr =
       let q : s < n = h .live in
@@ -85,13 +85,13 @@ module _ (W : List ℕ) (n : ℕ) (small : n ≤ 65535) where
         right = hulls-fix n W s r zr hr;
       }
 
-  pub fix-bin : n * 8 ≤ length W → (p k : ℕ) (b : Bool) (t : Tree) (s : ℕ) (far : Tree)
+  pub fix-bin : Holds W n → (p k : ℕ) (b : Bool) (t : Tree) (s : ℕ) (far : Tree)
       → occ s t ≡ 0 → occ s far ≡ 0 → Shape W n p k (bin b t s far) → Hulls W t → Hulls W far → Hulls (fix n W s) (bin b t s far)
   fix-bin room p k true t s far zt zf h ht hf = fix-node p k t s far room zt zf h ht hf
   fix-bin room p k false t s far zt zf h ht hf = fix-node p k far s t room zf zt h hf ht
 
 -- `fix_intervals_up` from p, the parent of the place
-pub hulls-upward : (height : ℕ) (W : List ℕ) (n r : ℕ) (c : List Frame) (p k : ℕ) (t : Tree) → n ≤ 65535 → n * 8 ≤ length W → length c ≤ height
+pub hulls-upward : (height : ℕ) (W : List ℕ) (n r : ℕ) (c : List Frame) (p k : ℕ) (t : Tree) → n ≤ 65535 → Holds W n → length c ≤ height
     → ((s : ℕ) → occs s c + occ s t ≤ 1) → Above W n r c p k → Shape W n p k t → Hulls W t → HullsBy W c
     → Hulls (fixUp n height W p) (plug c t) × Shape (fixUp n height W p) n U r (plug c t)
 unfolding fixUp
@@ -130,7 +130,7 @@ module _ (n : ℕ) where
   fixUp-stops (suc height) W k h = rw (on-none n k h)
 
 -- the rotation of the fourth case, after which the hulls of S and then of Q are worked out: X are the rotated words
-pub by-four : (W X : List ℕ) (n p k : ℕ) (b : Bool) (P Q S : ℕ) (A B D : Tree) (i c : List Frame) → n ≤ 65535 → n * 8 ≤ length X
+pub by-four : (W X : List ℕ) (n p k : ℕ) (b : Bool) (P Q S : ℕ) (A B D : Tree) (i c : List Frame) → n ≤ 65535 → Holds X n
     → ((a : ℕ) → Kept W X a)
     → ((a : ℕ) → occs a i + (occ a A + hit a Q + (occ a B + hit a S + occ a D)) + occs a c ≤ 1)
     → Shape X n p k (bin b A Q (bin b B S D))

@@ -2,13 +2,12 @@
 use mathlib.Core.Path.{_≡_, refl, sym, ap, _∙_}
 use mathlib.Core.Bool.{Bool, true, false, cond, not}
 use mathlib.Core.List.{List, []}
-use Prim.Native.Nat.{ℕ, _+_, _*_, _<_, _≤_}
+use Prim.Native.Nat.{ℕ, _+_, _<_, _≤_}
 use native.Mathlib.Omega.{arith}
-use lib.ListN.{length}
 use lib.Dec.{eqb}
 use borrow.Author.Tests.{eq-eqb, ne-eqb}
 use Rattle.words.specs.Ix.{linkOf}
-use Rattle.words.specs.Nodes.{kid, par, fix}
+use Rattle.words.specs.Nodes.{kid, par, fix, HasBit, HoldsBits}
 use Rattle.words.specs.declared.ix.Link.{Link}
 use Rattle.words.specs.declared.ix.Link.the-variants.{Slot, Nil}
 use Rattle.bitvec.specs.Colours.{red, redAt, paint}
@@ -78,7 +77,7 @@ module _ {A : Type 0} (v w x : ℕ) (r y z : A) (e : w ≡ v) where
 
 -- the uncle u, of which v says that it is black or not there
 module _ (n : ℕ) (C : List ℕ) (u : ℕ) (v : Bool) (f : v ≡ not (redAt n C u)) where
-  pub uncle-fits : n ≤ length C * 8 → v ≡ false → u < length C * 8
+  pub uncle-fits : HoldsBits C n → v ≡ false → HasBit C u
   uncle-fits h q = red-fits n C u v h f (ap not q)
 
   module _ (W : List ℕ) (r x P G : ℕ) (b : Bool) (e : u ≡ kid W (not b) G) where

@@ -5,14 +5,13 @@ use words::ix::U;
 use words::node::child_of;
 use words::node::interval_of;
 ghost use mathlib.Core.Path.{_≡_};
-ghost use Prim.Native.Nat.{_+_, _*_, _<_, _≤_};
-ghost use lib.ListN.{length};
-ghost use Rattle.words.specs.Nodes.{kid};
+ghost use Prim.Native.Nat.{_<_};
+ghost use Rattle.words.specs.Nodes.{kid, Has, Holds};
 ghost use Rattle.tree_in_laws.specs.Descent.{goesLeft, descend, under};
 
 // The new interval is less than that of slot k. An equal one goes right.
 pub(crate) fn goes_left(nodes: &[u64], interval: Interval, k: u64) -> bool
-    requires { ⌜ k * 8 + 8 ≤ length (now nodes) ⌝ }
+    requires { ⌜ Has (now nodes) k ⌝ }
     ensures { λ r. ⌜ r ≡ goesLeft (now (nodes .entry)) interval k ⌝ }
 {
     !interval_of(nodes, k).le(interval)
@@ -20,7 +19,7 @@ pub(crate) fn goes_left(nodes: &[u64], interval: Interval, k: u64) -> bool
 
 // The link word of slot k on the side that the new interval goes to.
 fn next_down(nodes: &[u64], interval: Interval, k: u64) -> u64
-    requires { ⌜ k * 8 + 8 ≤ length (now nodes) ⌝ }
+    requires { ⌜ Has (now nodes) k ⌝ }
     ensures { λ r. ⌜ r ≡ kid (now (nodes .entry)) (goesLeft (now (nodes .entry)) interval k) k ⌝ }
 {
     child_of(nodes, k, goes_left(nodes, interval, k))
@@ -28,7 +27,7 @@ fn next_down(nodes: &[u64], interval: Interval, k: u64) -> u64
 
 // The slot from `top` down under which there is nothing on the side to go to.
 fn last_down(nodes: &[u64], count: u64, top: u64, interval: Interval) -> u64
-    requires { ⌜ (count * 8 ≤ length (now nodes)) × (top < count) ⌝ }
+    requires { ⌜ Holds (now nodes) count × (top < count) ⌝ }
     ensures { λ r. ⌜ r ≡ descend count 32 (now (nodes .entry)) interval top ⌝ }
 {
     let mut current = top;
@@ -45,7 +44,7 @@ fn last_down(nodes: &[u64], count: u64, top: u64, interval: Interval) -> u64
 
 // The way down: the slot that the new node hangs under, U if the map is empty.
 pub(crate) fn insert_inner(nodes: &[u64], count: u64, root: u64, interval: Interval) -> u64
-    requires { ⌜ count * 8 ≤ length (now nodes) ⌝ }
+    requires { ⌜ Holds (now nodes) count ⌝ }
     ensures { λ r. ⌜ r ≡ under count (now (nodes .entry)) root interval ⌝ }
 {
     let Link::Slot(top) = Link::new(root, count) else {

@@ -16,12 +16,12 @@ use words::node::Entry;
 use words::node::put_child;
 use words::node::put_node;
 ghost use mathlib.Core.Path.{_≡_};
-ghost use Prim.Native.Nat.{_+_, _*_, _<_, _≤_};
-ghost use lib.ListN.{length};
+ghost use Prim.Native.Nat.{_+_};
 ghost use Rattle.tree_edit.specs.Store.{store};
 ghost use Rattle.tree_edit.specs.Reach.{changes};
 ghost use Rattle.tree_in_laws.specs.Insert.{own, hungNode, hungWords, hungRoot, hung, insertAt, insertRule};
 ghost use Rattle.tree_in_laws.specs.Reach.{insertAtHulls, insertHulls};
+ghost use Rattle.words.specs.Nodes.{Has, HasBit};
 
 // The interval of an entry.
 fn interval_in(entry: Entry) -> Interval
@@ -35,7 +35,7 @@ fn interval_in(entry: Entry) -> Interval
 
 // Slot `index` holds a new node below the link word `parent`. It starts with its own interval as hull.
 fn new_node(nodes: &mut [u64], index: u64, entry: Entry, parent: u64)
-    requires { ⌜ index * 8 + 8 ≤ length (now nodes) ⌝ }
+    requires { ⌜ Has (now nodes) index ⌝ }
     ensures { λ _. ⌜ now (nodes .exit) ≡ hungNode (now (nodes .entry)) index entry parent ⌝ }
 {
     let interval = interval_in(entry);
@@ -44,7 +44,7 @@ fn new_node(nodes: &mut [u64], index: u64, entry: Entry, parent: u64)
 
 // The new node in slot `count`, with a link from its parent where there is one; the answer is the root.
 fn hang_node(nodes: &mut [u64], count: u64, root: u64, entry: Entry, parent: u64) -> u64
-    requires { ⌜ count * 8 + 8 ≤ length (now nodes) ⌝ }
+    requires { ⌜ Has (now nodes) count ⌝ }
     ensures { λ r. ⌜ (r ≡ hungRoot count root parent) × (now (nodes .exit) ≡ hungWords (now (nodes .entry)) count entry parent) ⌝ }
 {
     let Link::Slot(above) = Link::new(parent, count) else {
@@ -66,7 +66,7 @@ fn hang_red(
     entry: Entry,
     parent: u64,
 ) -> u64
-    requires { ⌜ (count * 8 + 8 ≤ length (now nodes)) × (count < length (now colours) * 8) ⌝ }
+    requires { ⌜ Has (now nodes) count × HasBit (now colours) count ⌝ }
     ensures { λ r. ⌜ store (now (nodes .exit)) (now (colours .exit)) r ≡ hung (now (nodes .entry)) (now (colours .entry)) count root entry parent ⌝ }
 {
     set_red(colours, count);
@@ -83,7 +83,7 @@ fn insert_at(
     entry: Entry,
     parent: u64,
 ) -> Repaired
-    requires { ⌜ (count * 8 + 8 ≤ length (now nodes)) × (count < length (now colours) * 8) ⌝ }
+    requires { ⌜ Has (now nodes) count × HasBit (now colours) count ⌝ }
     ensures { λ r. ⌜ (store (now (nodes .exit)) (now (colours .exit)) (r .root) ≡ insertAt (now (nodes .entry)) (now (colours .entry)) count root entry parent)
         × (r .reach ≡ changes (count + 1) (insertAtHulls (now (nodes .entry)) (now (colours .entry)) count root entry parent)) ⌝ }
 {
@@ -105,7 +105,7 @@ pub fn force_insert(
     root: u64,
     entry: Entry,
 ) -> Repaired
-    requires { ⌜ (count * 8 + 8 ≤ length (now nodes)) × (count < length (now colours) * 8) ⌝ }
+    requires { ⌜ Has (now nodes) count × HasBit (now colours) count ⌝ }
     ensures { λ r. ⌜ (store (now (nodes .exit)) (now (colours .exit)) (r .root) ≡ insertRule (now (nodes .entry)) (now (colours .entry)) count root entry)
         × (r .reach ≡ changes (count + 1) (insertHulls (now (nodes .entry)) (now (colours .entry)) count root entry)) ⌝ }
 {

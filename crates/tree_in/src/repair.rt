@@ -12,10 +12,9 @@ use words::node::child_of;
 use words::node::parent_of;
 ghost use mathlib.Core.Path.{_≡_};
 ghost use mathlib.Core.Bool.{true, false, cond, not};
-ghost use Prim.Native.Nat.{_+_, _*_, _<_, _≤_};
-ghost use lib.ListN.{length};
+ghost use Prim.Native.Nat.{_+_, _<_, _≤_};
 ghost use lib.Dec.{eqb};
-ghost use Rattle.words.specs.Nodes.{kid};
+ghost use Rattle.words.specs.Nodes.{kid, HasBit, Holds, HoldsBits};
 ghost use Rattle.bitvec.specs.Colours.{paint};
 ghost use Rattle.tree_edit.specs.Links.{rootAfter};
 ghost use Rattle.tree_edit.specs.Store.{store};
@@ -35,7 +34,7 @@ fn rotate(
     index: u64,
     up: u64,
 ) -> Repaired
-    requires { ⌜ (count * 8 ≤ length (now nodes)) × (index < count) × (up < count) ⌝ }
+    requires { ⌜ Holds (now nodes) count × (index < count) × (up < count) ⌝ }
     ensures { λ r. ⌜ (r .root ≡ rootAfter count (now (nodes .entry)) root index up) × (now (nodes .exit) ≡ rotated count (now (nodes .entry)) «left_side» index up)
         × (r .reach ≡ changes count (rotatedHulls count (now (nodes .entry)) «left_side» index up)) ⌝ }
 {
@@ -59,7 +58,7 @@ fn rotate_outer(
     grandparent: u64,
     before: u64,
 ) -> Next
-    requires { ⌜ (count * 8 ≤ length (now nodes)) × (count ≤ length (now colours) * 8) × (parent < count) × (grandparent < count) × (before ≤ 2) ⌝ }
+    requires { ⌜ Holds (now nodes) count × HoldsBits (now colours) count × (parent < count) × (grandparent < count) × (before ≤ 2) ⌝ }
     ensures { λ r. ⌜ (next r (now (nodes .exit)) (now (colours .exit)) ≡ outer count (now (nodes .entry)) (now (colours .entry)) root «left_side» parent grandparent)
         × (reach r ≡ before + changes count (outerHulls count (now (nodes .entry)) «left_side» parent grandparent)) ⌝ }
 {
@@ -84,7 +83,7 @@ fn rotate_inner(
     parent: u64,
     grandparent: u64,
 ) -> Next
-    requires { ⌜ (count * 8 ≤ length (now nodes)) × (count ≤ length (now colours) * 8) × (index < count) × (parent < count) × (grandparent < count) ⌝ }
+    requires { ⌜ Holds (now nodes) count × HoldsBits (now colours) count × (index < count) × (parent < count) × (grandparent < count) ⌝ }
     ensures { λ r. ⌜ (next r (now (nodes .exit)) (now (colours .exit)) ≡ inner count (now (nodes .entry)) (now (colours .entry)) root index «left_side» parent grandparent)
         × (reach r ≡ changes count (innerHulls count (now (nodes .entry)) index «left_side» parent grandparent)) ⌝ }
 {
@@ -103,7 +102,7 @@ fn rotate_inner(
 
 // Parent and uncle become black, the grandparent red.
 fn recolour(colours: &mut [u8], parent: u64, uncle: u64, grandparent: u64)
-    requires { ⌜ (parent < length (now colours) * 8) × (uncle < length (now colours) * 8) × (grandparent < length (now colours) * 8) ⌝ }
+    requires { ⌜ HasBit (now colours) parent × HasBit (now colours) uncle × HasBit (now colours) grandparent ⌝ }
     ensures { λ _. ⌜ now (colours .exit) ≡ paint (paint (paint (now (colours .entry)) parent false) uncle false) grandparent true ⌝ }
 {
     set_black(colours, parent);
@@ -122,7 +121,7 @@ fn round_rotated(
     parent: u64,
     grandparent: u64,
 ) -> Next
-    requires { ⌜ (count * 8 ≤ length (now nodes)) × (count ≤ length (now colours) * 8) × (index < count) × (parent < count) × (grandparent < count) ⌝ }
+    requires { ⌜ Holds (now nodes) count × HoldsBits (now colours) count × (index < count) × (parent < count) × (grandparent < count) ⌝ }
     ensures { λ r. ⌜ (next r (now (nodes .exit)) (now (colours .exit))
         ≡ cond (eqb (kid (now (nodes .entry)) (not «left_side») parent) index)
         (inner count (now (nodes .entry)) (now (colours .entry)) root index «left_side» parent grandparent)
@@ -166,7 +165,7 @@ fn round_at(
     grandparent: u64,
     left_side: bool,
 ) -> Next
-    requires { ⌜ (count * 8 ≤ length (now nodes)) × (count ≤ length (now colours) * 8) × (index < count) × (parent < count) × (grandparent < count) ⌝ }
+    requires { ⌜ Holds (now nodes) count × HoldsBits (now colours) count × (index < count) × (parent < count) × (grandparent < count) ⌝ }
     ensures { λ r. ⌜ (next r (now (nodes .exit)) (now (colours .exit)) ≡ insertRoundAt count (now (nodes .entry)) (now (colours .entry)) root index parent grandparent «left_side»)
         × (reach r ≡ changes count (insertRoundAtHulls count (now (nodes .entry)) (now (colours .entry)) index parent grandparent «left_side»)) ⌝ }
 {
@@ -200,7 +199,7 @@ fn round_below(
     index: u64,
     parent: u64,
 ) -> Next
-    requires { ⌜ (count * 8 ≤ length (now nodes)) × (count ≤ length (now colours) * 8) × (index < count) × (parent < count) ⌝ }
+    requires { ⌜ Holds (now nodes) count × HoldsBits (now colours) count × (index < count) × (parent < count) ⌝ }
     ensures { λ r. ⌜ (next r (now (nodes .exit)) (now (colours .exit)) ≡ insertRoundBelow count (now (nodes .entry)) (now (colours .entry)) root index parent)
         × (reach r ≡ changes count (insertRoundBelowHulls count (now (nodes .entry)) (now (colours .entry)) index parent)) ⌝ }
 {
@@ -222,7 +221,7 @@ fn round_below(
 
 // One round of the loop, at the red slot `index`.
 fn one_round(nodes: &mut [u64], colours: &mut [u8], count: u64, root: u64, index: u64) -> Next
-    requires { ⌜ (count * 8 ≤ length (now nodes)) × (count ≤ length (now colours) * 8) × (index < count) ⌝ }
+    requires { ⌜ Holds (now nodes) count × HoldsBits (now colours) count × (index < count) ⌝ }
     ensures { λ r. ⌜ (next r (now (nodes .exit)) (now (colours .exit)) ≡ insertRound count (now (nodes .entry)) (now (colours .entry)) root index)
         × (reach r ≡ changes count (insertRoundHulls count (now (nodes .entry)) (now (colours .entry)) index)) ⌝ }
 {
@@ -245,7 +244,7 @@ pub(crate) fn insert_repair(
     root: u64,
     index: u64,
 ) -> Repaired
-    requires { ⌜ (count * 8 ≤ length (now nodes)) × (count ≤ length (now colours) * 8) × (index < count) ⌝ }
+    requires { ⌜ Holds (now nodes) count × HoldsBits (now colours) count × (index < count) ⌝ }
     ensures { λ r. ⌜ (store (now (nodes .exit)) (now (colours .exit)) (r .root) ≡ ending (insertRepair count 32 (now (nodes .entry)) (now (colours .entry)) root index))
         × (r .reach ≡ changes count (insertRepairHulls count 32 (now (nodes .entry)) (now (colours .entry)) root index)) ⌝ }
 {

@@ -3,12 +3,11 @@
 use mathlib.Core.Path.{_≡_, refl, sym, ap, _∙_}
 use mathlib.Core.Bool.{Bool, true, false, cond, not}
 use mathlib.Core.List.{List, []}
-use Prim.Native.Nat.{ℕ, zero, suc, _+_, _*_, _<_, _≤_}
+use Prim.Native.Nat.{ℕ, zero, suc, _+_, _<_}
 use native.Mathlib.Omega.{arith}
-use lib.ListN.{length}
 use lib.Dec.{eqb}
 use Rattle.words.specs.Ix.{U}
-use Rattle.words.specs.Nodes.{word, kid, par, putKid, putNode}
+use Rattle.words.specs.Nodes.{word, kid, par, putKid, putNode, Has, Holds, HoldsBits}
 use Rattle.words.specs.declared.interval.Interval.{Interval}
 use Rattle.words.specs.declared.node.Entry.{Entry}
 use Rattle.words.specs.declared.node.Field.{Field}
@@ -165,7 +164,7 @@ module _ (n : ℕ) where
         link-same n {A = ℕ} (λ i j. i ≡ j) r (λ s. descend n 32 W x s) (λ s. descend n 32 X x s) U U (λ h. same-descend 32 r h) refl
 
 -- the eight words of one slot are written in both
-same-node : (W X : List ℕ) (s : ℕ) (e : Entry) (h : Interval) (left right up : ℕ) → s * 8 + 8 ≤ length W → s * 8 + 8 ≤ length X
+same-node : (W X : List ℕ) (s : ℕ) (e : Entry) (h : Interval) (left right up : ℕ) → Has W s → Has X s
     → (f : Field) → word (putNode W s e h left right up) f s ≡ word (putNode X s e h left right up) f s
 same-node W X s e h left right up m k Start =
     ap (λ (e : Entry). e .start) (entry-putNode W s e h left right up m ∙ sym (entry-putNode X s e h left right up k))
@@ -180,7 +179,7 @@ same-node W X s e h left right up m k HullEnd =
 same-node W X s e h left right up m k (Child b) = kid-putNode W s e h left right up b m ∙ sym (kid-putNode X s e h left right up b k)
 same-node W X s e h left right up m k Parent = par-putNode W s e h left right up m ∙ sym (par-putNode X s e h left right up k)
 
-module _ (W X C D : List ℕ) (n r : ℕ) (e : Entry) (room : (n + 1) * 8 ≤ length W) (bits : n + 1 ≤ length C * 8) (A : Agree n W X) (H : SameColours n C D) where
+module _ (W X C D : List ℕ) (n r : ℕ) (e : Entry) (room : Holds W (n + 1)) (bits : HoldsBits C (n + 1)) (A : Agree n W X) (H : SameColours n C D) where
   -- one slot more, where that is written too
   agree-hungNode : (p : ℕ) → Agree (n + 1) (hungNode W n e p) (hungNode X n e p)
   unfolding hungNode

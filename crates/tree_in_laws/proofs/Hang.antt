@@ -3,11 +3,10 @@ use mathlib.Core.Path.{_≡_, refl, sym}
 use mathlib.Core.Logic.{_≢_}
 use mathlib.Core.Bool.{Bool, true, false, not}
 use mathlib.Core.List.{List, [], _∷_}
-use Prim.Native.Nat.{ℕ, _+_, _*_, _<_, _≤_}
+use Prim.Native.Nat.{ℕ, _+_, _<_, _≤_}
 use native.Mathlib.Omega.{arith}
-use lib.ListN.{length}
 use Rattle.words.specs.Ix.{U, onLink}
-use Rattle.words.specs.Nodes.{kid, par}
+use Rattle.words.specs.Nodes.{kid, par, Holds}
 use Rattle.words.specs.declared.interval.Interval.{Interval}
 use Rattle.words.specs.declared.node.Entry.{Entry}
 use Rattle.tree.specs.Tree.{Tree, leaf, node, slots, hit, occ, height, Shape}
@@ -44,7 +43,7 @@ pub record Hung (W : List ℕ) (n : ℕ) (x : Interval) (t : Tree) (X : List ℕ
   pub parted : Parted W x c
   pub stand : Stand X (n + 1) q n p c (node leaf n leaf)
 
-module _ (W : List ℕ) (n r : ℕ) (e : Entry) (small : n + 1 ≤ 65535) (fit : (n + 1) * 8 ≤ length W) where
+module _ (W : List ℕ) (n r : ℕ) (e : Entry) (small : n + 1 ≤ 65535) (fit : Holds W (n + 1)) where
   new-shape : (p : ℕ) → Shape (hungWords W n e p) (n + 1) p n (node leaf n leaf)
   new-shape p =
       record {

@@ -3,11 +3,11 @@ use mathlib.Core.Path.{_≡_, refl, _∙_}
 use mathlib.Core.Logic.{_≢_}
 use mathlib.Core.Bool.{Bool, true, false, cond, not}
 use mathlib.Core.List.{List}
-use Prim.Native.Nat.{ℕ, _+_, _*_, _<_, _≤_}
+use Prim.Native.Nat.{ℕ, _<_}
 use native.Mathlib.Omega.{arith}
 use lib.ListN.{length}
 use Rattle.words.specs.Ix.{U}
-use Rattle.words.specs.Nodes.{word, kid, par, entry, putKid}
+use Rattle.words.specs.Nodes.{word, kid, par, entry, putKid, Has}
 use Rattle.words.proofs.Nodes.{length-put, word-put, word-put-slot, word-put-field, inLinks, par-putKid, kid-putKid-not, length-putNode, word-putNode-slot, entry-putNode, kid-putNode, par-putNode}
 use Rattle.words.specs.declared.node.Entry.{Entry}
 use Rattle.words.specs.declared.node.Field.{Field}
@@ -56,7 +56,7 @@ module _ (W : List ℕ) (n : ℕ) (e : Entry) (p : ℕ) where
   pub same-hung : (a : ℕ) → a ≢ n → a ≢ p → Same W X a
   same-hung a d i = (λ b. word-hung (Child b) a d i, word-hung Parent a d i)
 
-  module _ (fit : n * 8 + 8 ≤ length W) where
+  module _ (fit : Has W n) where
     pub entry-hung : entry X n ≡ e
     unfolding hungNode
     entry-hung =
@@ -80,7 +80,7 @@ module _ (W : List ℕ) (n : ℕ) (e : Entry) (p : ℕ) where
         both false = refl
 
   -- the slot p itself
-  module _ (h : p < n) (fit : n * 8 + 8 ≤ length W) where
+  module _ (h : p < n) (fit : Has W n) where
     hung-is : X ≡ putKid Z g p n
     unfolding hungWords
     hung-is = on-slot n p h _ _

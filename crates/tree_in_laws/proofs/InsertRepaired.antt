@@ -2,12 +2,12 @@
 use mathlib.Core.Path.{_≡_, refl, sym, _∙_}
 use mathlib.Core.Bool.{Bool, true, false, not}
 use mathlib.Core.List.{List, [], _∷_}
-use Prim.Native.Nat.{ℕ, zero, suc, _+_, _*_, _<_, _≤_}
+use Prim.Native.Nat.{ℕ, zero, suc, _+_, _<_, _≤_}
 use native.Mathlib.Omega.{arith}
 use lib.ListN.{length}
 use lib.Dec.{eqb}
 use borrow.Author.Tests.{eq-eqb, ne-eqb}
-use Rattle.words.specs.Nodes.{kid, par}
+use Rattle.words.specs.Nodes.{kid, par, HoldsBits}
 use Rattle.bitvec.specs.Colours.{red, paint, redAt}
 use Rattle.tree.specs.Tree.{Tree, leaf, node, occ}
 use Rattle.tree.specs.Zipper.{bin, Frame, frame}
@@ -67,8 +67,8 @@ pub record Loop (n z : ℕ) (base : List ℕ) (d : ℕ) (W : List ℕ) (K : ℕ 
 
 -- after a round: the end, or a place higher up
 abbrev pub Good : ℕ → ℕ → List ℕ → ℕ → Next → Type 0
-Good n z base d (done W C r) = Settled n z base W (red C) r × (n ≤ length C * 8)
-Good n z base d (again W C r x) = Loop n z base d W (red C) r x × (n ≤ length C * 8)
+Good n z base d (done W C r) = Settled n z base W (red C) r × HoldsBits C n
+Good n z base d (again W C r x) = Loop n z base d W (red C) r x × HoldsBits C n
 
 -- the one side, or the other
 sides : {A : Type 0} (d b : Bool) → (d ≡ b → A) → (d ≡ not b → A) → A
@@ -77,7 +77,7 @@ sides true false f g = g refl
 sides false true f g = g refl
 sides false false f g = f refl
 
-module _ (n z : ℕ) (base W C : List ℕ) (r x p : ℕ) (t : Tree) (m : ℕ) (bits : n ≤ length C * 8) where
+module _ (n z : ℕ) (base W C : List ℕ) (r x p : ℕ) (t : Tree) (m : ℕ) (bits : HoldsBits C n) where
   -- the slot x, as the root of the tree that stands there
   module _ (c : List Frame) (h : LoopInvariant n z base W (red C) r x p c t m) where
     abbrev stand : Stand W n r x p c t
@@ -193,17 +193,17 @@ module _ (n z : ℕ) (base W C : List ℕ) (r x p : ℕ) (t : Tree) (m : ℕ) (b
 
 -- the loop ends, and leaves an even tree with a black root
 abbrev pub Finished : ℕ → ℕ → List ℕ → Next → Type 0
-Finished n z base (done W C r) = Settled n z base W (red C) r × (n ≤ length C * 8)
+Finished n z base (done W C r) = Settled n z base W (red C) r × HoldsBits C n
 Finished n z base (again W C r x) = ⊥
 
-pub insertRepaired : (rounds n z : ℕ) (base W C : List ℕ) (r x : ℕ) → n ≤ length C * 8 → Loop n z base rounds W (red C) r x
+pub insertRepaired : (rounds n z : ℕ) (base W C : List ℕ) (r x : ℕ) → HoldsBits C n → Loop n z base rounds W (red C) r x
     → Finished n z base (insertRepair n rounds W C r x)
 unfolding loop
 insertRepaired zero n z base W C r x bits l = absurd (omega (arith, l .short))
 insertRepaired (suc rounds) n z base W C r x bits l =
     go (insertRepaired rounds n z base) (insertRound n W C r x) (round-good n z base W C r x (l .p) (l .t) (l .m) bits (l .c) (l .invariant))
   where
-    go : ((W C : List ℕ) (r x : ℕ) → n ≤ length C * 8 → Loop n z base rounds W (red C) r x → Finished n z base (insertRepair n rounds W C r x))
+    go : ((W C : List ℕ) (r x : ℕ) → HoldsBits C n → Loop n z base rounds W (red C) r x → Finished n z base (insertRepair n rounds W C r x))
         → (s : Next) → Good n z base (length (l .c)) s → Finished n z base (goOn s (λ X D q i. insertRepair n rounds X D q i))
     go rec (done W C r) g = g
     go rec (again W C r x) g =

@@ -5,11 +5,11 @@ use mathlib.Core.Path.{_≡_, refl, ap, _∙_}
 use mathlib.Core.Logic.{_≢_}
 use mathlib.Core.Bool.{Bool, true, false}
 use mathlib.Core.List.{List, [], _∷_, _++_, map, map-append}
-use Prim.Native.Nat.{ℕ, _+_, _*_, _<_, _≤_}
+use Prim.Native.Nat.{ℕ, _+_, _<_, _≤_}
 use native.Mathlib.Omega.{arith}
 use lib.ListN.{length}
 use Rattle.words.specs.Ix.{U}
-use Rattle.words.specs.Nodes.{start, stop, interval, entry}
+use Rattle.words.specs.Nodes.{start, stop, interval, entry, Holds, HoldsBits}
 use Rattle.words.specs.declared.interval.Interval.{Interval}
 use Rattle.words.specs.declared.node.Entry.{Entry}
 use Rattle.bitvec.specs.Colours.{red, paint}
@@ -114,7 +114,7 @@ module _ (n z : ℕ) (base W : List ℕ) (K : ℕ → Bool) (r : ℕ) (small : n
       let c : List Frame = frame true z (y .k) ∷ y .q in
       fixUp-more c 32 m W n r z (y .link) small (short c (y .l) (y .is)) i (y .above)
 
-module _ (W C : List ℕ) (n r : ℕ) (e : Entry) (small : n + 1 ≤ 65535) (fit : (n + 1) * 8 ≤ length W) (bits : n + 1 ≤ length C * 8)
+module _ (W C : List ℕ) (n r : ℕ) (e : Entry) (small : n + 1 ≤ 65535) (fit : Holds W (n + 1)) (bits : HoldsBits C (n + 1))
     (proper : e .start < e .end) (h : Passes W C n r) where
   abbrev t : Tree
   t = h .tree

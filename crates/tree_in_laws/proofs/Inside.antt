@@ -3,12 +3,11 @@ use mathlib.Core.Path.{_≡_, refl, _∙_}
 use mathlib.Core.Logic.{_≢_}
 use mathlib.Core.Bool.{Bool, true, false, cond, not}
 use mathlib.Core.List.{List}
-use Prim.Native.Nat.{ℕ, _+_, _*_, _<_, _≤_}
+use Prim.Native.Nat.{ℕ, _+_, _<_}
 use native.Mathlib.Omega.{arith}
-use lib.ListN.{length}
 use lib.Dec.{eqb}
 use Rattle.words.specs.Ix.{U}
-use Rattle.words.specs.Nodes.{kid, par, entry, fix}
+use Rattle.words.specs.Nodes.{kid, par, entry, fix, Holds}
 use Rattle.words.specs.declared.node.Entry.{Entry}
 use Rattle.words.specs.declared.node.Field.the-variants.{Child}
 use Rattle.bitvec.specs.Colours.{red, paint, redAt}
@@ -133,5 +132,5 @@ module _ (W C : List ℕ) (n r : ℕ) (e : Entry) where
   pub entry-stays : (a : ℕ) → a ≢ n → entry (insertRule W C n r e .words) a ≡ entry W a
   entry-stays a d = entries-are a ∙ kept-entry W X a (kept-hung W n e p a d)
 
-  pub entry-comes : (n + 1) * 8 ≤ length W → entry (insertRule W C n r e .words) n ≡ e
+  pub entry-comes : Holds W (n + 1) → entry (insertRule W C n r e .words) n ≡ e
   entry-comes fit = entries-are n ∙ entry-hung W n e p (omega arith)

@@ -3,12 +3,11 @@ use mathlib.Core.Path.{_≡_, refl, sym, _∙_}
 use mathlib.Core.Logic.{_≢_}
 use mathlib.Core.Bool.{Bool, true, false, not, false≢true, true≢false}
 use mathlib.Core.List.{List, [], _∷_}
-use Prim.Native.Nat.{ℕ, _+_, _*_, _<_, _≤_}
+use Prim.Native.Nat.{ℕ, _+_, _<_, _≤_}
 use native.Mathlib.Omega.{arith}
 use native.Mathlib.Nat.{zero-add}
-use lib.ListN.{length}
 use Rattle.words.specs.Ix.{U}
-use Rattle.words.specs.Nodes.{par}
+use Rattle.words.specs.Nodes.{par, Holds}
 use Rattle.tree.specs.Tree.{Tree, node, slots, hit, occ, Shape}
 use Rattle.tree.specs.Zipper.{bin, Frame, frame, plug, occs}
 use Rattle.tree.specs.RedBlack.{rootRed, RedBlack}
@@ -47,7 +46,7 @@ pub record Settled (n z : ℕ) (base W : List ℕ) (K : ℕ → Bool) (r : ℕ) 
   pub tree : Tree
   pub shape : Shape W n U r tree
   pub once : (s : ℕ) → occ s tree ≤ 1
-  pub room : n * 8 ≤ length W
+  pub room : Holds W n
   pub order : slots tree ≡ base
   pub partly : Partly W z tree
   pub redBlack : RedBlack K tree

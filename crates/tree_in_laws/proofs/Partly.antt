@@ -2,10 +2,9 @@
 use mathlib.Core.Path.{_≡_}
 use mathlib.Core.Bool.{Bool, true, false}
 use mathlib.Core.List.{List, [], _∷_}
-use Prim.Native.Nat.{ℕ, _+_, _*_, _<_, _≤_}
+use Prim.Native.Nat.{ℕ, _+_, _<_, _≤_}
 use native.Mathlib.Omega.{arith}
-use lib.ListN.{length}
-use Rattle.words.specs.Nodes.{kid, fix}
+use Rattle.words.specs.Nodes.{kid, fix, Holds}
 use Rattle.words.proofs.Nodes.{length-fix, word-fix-slot}
 use Rattle.tree.specs.Tree.{Tree, leaf, node, hit, occ, Shape}
 use Rattle.tree.specs.Zipper.{bin, Frame, frame, plug, occs}
@@ -69,7 +68,7 @@ pub partly-fix : (n : ℕ) (W : List ℕ) (z s : ℕ) (t : Tree) → occ s t ≡
 partly-fix n W z s t o = partly-same W (fix n W s) z t (λ a i g q. word-fix-slot n W s g a (apart a s t o i))
 
 -- S came up over P by a rotation, and the hulls of P and then of S are worked out: X are the rotated words
-module _ (X : List ℕ) (n z p k : ℕ) (b : Bool) (P S : ℕ) (t C D : Tree) (small : n ≤ 65535) (room : n * 8 ≤ length X)
+module _ (X : List ℕ) (n z p k : ℕ) (b : Bool) (P S : ℕ) (t C D : Tree) (small : n ≤ 65535) (room : Holds X n)
     (one : (a : ℕ) → occ a t + hit a P + occ a C + hit a S + occ a D ≤ 1) (sh : Shape X n p k (bin b (bin b t P C) S D)) where
   abbrev Y : List ℕ
   Y = fix n X P

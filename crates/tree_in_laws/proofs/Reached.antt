@@ -8,7 +8,7 @@ use native.Mathlib.Omega.{arith}
 use lib.ListN.{length}
 use lib.Dec.{eqb, leb}
 use Rattle.words.specs.Ix.{U, onLink}
-use Rattle.words.specs.Nodes.{kid, par, hull, putKid}
+use Rattle.words.specs.Nodes.{kid, par, hull, putKid, Has}
 use Rattle.words.specs.declared.node.Field.the-variants.{Child}
 use Rattle.words.proofs.Nodes.{word-put-field, inLinks, hull-putNode}
 use Rattle.words.specs.declared.node.Entry.{Entry}
@@ -67,7 +67,7 @@ pub hung-stays : (W : List ℕ) (n : ℕ) (e : Entry) (p a : ℕ) → a ≢ n �
 hung-stays W n e p a d = kept-hull W (hungWords W n e p) a (kept-hung W n e p a d)
 
 -- and "The new node starts with its own interval as hull": it is set and not worked out
-pub hung-own : (W : List ℕ) (n : ℕ) (e : Entry) (p : ℕ) → n * 8 + 8 ≤ length W → hull (hungWords W n e p) n ≡ own e
+pub hung-own : (W : List ℕ) (n : ℕ) (e : Entry) (p : ℕ) → Has W n → hull (hungWords W n e p) n ≡ own e
 unfolding hungNode
 hung-own W n e p fit =
     let Z : List ℕ = hungNode W n e p in

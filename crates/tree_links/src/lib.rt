@@ -8,10 +8,9 @@ use words::node::put_child;
 use words::node::put_parent;
 use words::node::update_subtree_interval;
 ghost use mathlib.Core.Path.{_≡_};
-ghost use Prim.Native.Nat.{_+_, _*_, _<_, _≤_};
-ghost use lib.ListN.{length};
+ghost use Prim.Native.Nat.{_+_, _<_};
 ghost use Rattle.words.specs.Ix.{onLink};
-ghost use Rattle.words.specs.Nodes.{fix};
+ghost use Rattle.words.specs.Nodes.{fix, Has, Holds};
 ghost use Rattle.tree_edit.specs.Links.{adopt, setChild, redirected, removeChild, redirect, replaced, rootAfter, fixUp, leftmost};
 ghost use Rattle.tree_edit.specs.Rotations.{rotate};
 ghost use Rattle.tree_edit.specs.Reach.{differs, changes, bothHulls, upHulls};
@@ -32,7 +31,7 @@ pub struct Repaired {
 
 // A child that is there gets `parent` for its parent.
 pub fn adopt_child(nodes: &mut [u64], count: u64, child: u64, parent: u64)
-    requires { ⌜ count * 8 ≤ length (now nodes) ⌝ }
+    requires { ⌜ Holds (now nodes) count ⌝ }
     ensures { λ _. ⌜ now (nodes .exit) ≡ adopt count (now (nodes .entry)) child parent ⌝ }
 {
     let Link::Slot(s) = Link::new(child, count) else {
@@ -43,7 +42,7 @@ pub fn adopt_child(nodes: &mut [u64], count: u64, child: u64, parent: u64)
 
 // The link of slot `parent` that leads to `old` leads to `new`: the left one if that is it, else the right one.
 fn replace_child(nodes: &mut [u64], parent: u64, old: u64, new: u64)
-    requires { ⌜ parent * 8 + 8 ≤ length (now nodes) ⌝ }
+    requires { ⌜ Has (now nodes) parent ⌝ }
     ensures { λ _. ⌜ now (nodes .exit) ≡ redirected (now (nodes .entry)) parent old new ⌝ }
 {
     let is_left = child_of(nodes, parent, true) == old;
@@ -52,7 +51,7 @@ fn replace_child(nodes: &mut [u64], parent: u64, old: u64, new: u64)
 
 // The same for a parent that is there.
 pub fn replace_child_at(nodes: &mut [u64], count: u64, parent: u64, old: u64, new: u64)
-    requires { ⌜ count * 8 ≤ length (now nodes) ⌝ }
+    requires { ⌜ Holds (now nodes) count ⌝ }
     ensures { λ _. ⌜ now (nodes .exit) ≡ redirect count (now (nodes .entry)) parent old new ⌝ }
 {
     let Link::Slot(s) = Link::new(parent, count) else {
@@ -62,14 +61,14 @@ pub fn replace_child_at(nodes: &mut [u64], count: u64, parent: u64, old: u64, ne
 }
 
 pub fn remove_child(nodes: &mut [u64], parent: u64, child: u64)
-    requires { ⌜ parent * 8 + 8 ≤ length (now nodes) ⌝ }
+    requires { ⌜ Has (now nodes) parent ⌝ }
     ensures { λ _. ⌜ now (nodes .exit) ≡ removeChild (now (nodes .entry)) parent child ⌝ }
 {
     replace_child(nodes, parent, child, U);
 }
 
 pub fn set_child(nodes: &mut [u64], count: u64, parent: u64, child: u64, left_side: bool)
-    requires { ⌜ (count * 8 ≤ length (now nodes)) × (parent < count) ⌝ }
+    requires { ⌜ Holds (now nodes) count × (parent < count) ⌝ }
     ensures { λ _. ⌜ now (nodes .exit) ≡ setChild count (now (nodes .entry)) parent child «left_side» ⌝ }
 {
     adopt_child(nodes, count, child, parent);
@@ -78,7 +77,7 @@ pub fn set_child(nodes: &mut [u64], count: u64, parent: u64, child: u64, left_si
 
 // The leftmost slot from slot k down, `height` links at the most.
 pub fn leftmost_from(nodes: &[u64], count: u64, k: u64, height: u64) -> u64
-    requires { ⌜ (count * 8 ≤ length (now nodes)) × (k < count) ⌝ }
+    requires { ⌜ Holds (now nodes) count × (k < count) ⌝ }
     ensures { λ r. ⌜ (r ≡ leftmost count height (now (nodes .entry)) k) × (r < count) ⌝ }
 {
     if height == 0 {
@@ -103,7 +102,7 @@ fn root_below(count: u64, root: u64, parent: u64, new: u64) -> u64
 // What led to `old` leads to `new`; the answer is the root. A parent link that leads to no slot is handed on as it is: in a
 // store that passes the check it is U.
 pub fn replace_children(nodes: &mut [u64], count: u64, root: u64, old: u64, new: u64) -> u64
-    requires { ⌜ (count * 8 ≤ length (now nodes)) × (old < count) × (new < count) ⌝ }
+    requires { ⌜ Holds (now nodes) count × (old < count) × (new < count) ⌝ }
     ensures { λ r. ⌜ (r ≡ rootAfter count (now (nodes .entry)) root old new) × (now (nodes .exit) ≡ replaced count (now (nodes .entry)) old new) ⌝ }
 {
     let parent = parent_of(nodes, old);
@@ -122,7 +121,7 @@ pub fn rotate_up(
     parent: u64,
     sibling: u64,
 ) -> u64
-    requires { ⌜ (count * 8 ≤ length (now nodes)) × (parent < count) × (sibling < count) ⌝ }
+    requires { ⌜ Holds (now nodes) count × (parent < count) × (sibling < count) ⌝ }
     ensures { λ r. ⌜ (r ≡ rootAfter count (now (nodes .entry)) root parent sibling) × (now (nodes .exit) ≡ rotate count (now (nodes .entry)) «node_is_left» parent sibling) ⌝ }
 {
     let close = child_of(nodes, sibling, node_is_left);
@@ -134,7 +133,7 @@ pub fn rotate_up(
 
 // Works the hull of slot ix out: 1 where either end changed, else 0.
 pub fn rework_hull(nodes: &mut [u64], count: u64, ix: u64) -> u64
-    requires { ⌜ (count * 8 ≤ length (now nodes)) × (ix < count) ⌝ }
+    requires { ⌜ Holds (now nodes) count × (ix < count) ⌝ }
     ensures { λ r. ⌜ (r ≡ differs count (now (nodes .entry)) ix) × (now (nodes .exit) ≡ fix count (now (nodes .entry)) ix) ⌝ }
 {
     update_subtree_interval(nodes, count, ix) as u64
@@ -142,7 +141,7 @@ pub fn rework_hull(nodes: &mut [u64], count: u64, ix: u64) -> u64
 
 // Works the hull of slot `first` out, then that of slot `second`; the answer is how many of the two changed.
 pub fn rework_both(nodes: &mut [u64], count: u64, first: u64, second: u64) -> u64
-    requires { ⌜ (count * 8 ≤ length (now nodes)) × (first < count) × (second < count) ⌝ }
+    requires { ⌜ Holds (now nodes) count × (first < count) × (second < count) ⌝ }
     ensures { λ r. ⌜ (r ≡ changes count (bothHulls count (now (nodes .entry)) first second)) × (now (nodes .exit) ≡ fix count (fix count (now (nodes .entry)) first) second) ⌝ }
 {
     let changed = rework_hull(nodes, count, first);
@@ -153,7 +152,7 @@ pub fn rework_both(nodes: &mut [u64], count: u64, first: u64, second: u64) -> u6
 // The hulls from the link word `from` up to the root; the answer is how many changed. No way up is longer than 32 in a store
 // that passes the check.
 pub fn fix_intervals_up(nodes: &mut [u64], count: u64, from: u64) -> u64
-    requires { ⌜ count * 8 ≤ length (now nodes) ⌝ }
+    requires { ⌜ Holds (now nodes) count ⌝ }
     ensures { λ r. ⌜ (r ≡ changes count (upHulls count 32 (now (nodes .entry)) from)) × (now (nodes .exit) ≡ fixUp count 32 (now (nodes .entry)) from) ⌝ }
 {
     let mut at = from;

@@ -23,9 +23,8 @@ use words::node::value_of;
 use words::pair::Pairs;
 ghost use mathlib.Core.Path.{_≡_};
 ghost use mathlib.Core.Bool.{true, false};
-ghost use Prim.Native.Nat.{_+_, _-_, _*_, _<_, _≤_};
-ghost use lib.ListN.{length};
-ghost use Rattle.words.specs.Nodes.{par, value, swap};
+ghost use Prim.Native.Nat.{_+_, _-_, _<_, _≤_};
+ghost use Rattle.words.specs.Nodes.{par, value, swap, Has, Holds, HoldsBits};
 ghost use Rattle.tree_rm_laws.specs.Pairs.{emptied};
 ghost use Rattle.tree_rm_laws.specs.Remove.{vacated, exchanged, child, restructure, handed, above, cutWords, cutRoot, copied, relinked, cleared, swapRemove, finish, removeFrom, removeRule};
 ghost use Rattle.tree_edit.specs.Store.{store};
@@ -35,7 +34,7 @@ ghost use Rattle.tree_rm.specs.Answers.{removal};
 
 // Swap values and intervals for `i`-th and `j`-th nodes.
 fn swap_nodes(nodes: &mut [u64], i: u64, j: u64)
-    requires { ⌜ (i * 8 + 8 ≤ length (now nodes)) × (j * 8 + 8 ≤ length (now nodes)) ⌝ }
+    requires { ⌜ Has (now nodes) i × Has (now nodes) j ⌝ }
     ensures { λ _. ⌜ now (nodes .exit) ≡ swap (now (nodes .entry)) i j ⌝ }
 {
     swap_with(nodes, i, j);
@@ -43,7 +42,7 @@ fn swap_nodes(nodes: &mut [u64], i: u64, j: u64)
 
 // All eight words of slot `from` go to slot `to` too.
 fn copy_node(nodes: &mut [u64], from: u64, to: u64)
-    requires { ⌜ (from * 8 + 8 ≤ length (now nodes)) × (to * 8 + 8 ≤ length (now nodes)) ⌝ }
+    requires { ⌜ Has (now nodes) from × Has (now nodes) to ⌝ }
     ensures { λ _. ⌜ now (nodes .exit) ≡ copied (now (nodes .entry)) from to ⌝ }
 {
     let left = child_of(nodes, from, true);
@@ -62,7 +61,7 @@ fn copy_node(nodes: &mut [u64], from: u64, to: u64)
 
 // A slot without an entry points at nobody: 0 would be a slot.
 fn clear_node(nodes: &mut [u64], ix: u64)
-    requires { ⌜ ix * 8 + 8 ≤ length (now nodes) ⌝ }
+    requires { ⌜ Has (now nodes) ix ⌝ }
     ensures { λ _. ⌜ now (nodes .exit) ≡ cleared (now (nodes .entry)) ix ⌝ }
 {
     let nothing = Entry {
@@ -75,7 +74,7 @@ fn clear_node(nodes: &mut [u64], ix: u64)
 
 // The node of slot `from` goes to slot `to`: its children and its parent lead there.
 fn move_node(nodes: &mut [u64], count: u64, from: u64, to: u64)
-    requires { ⌜ (count * 8 ≤ length (now nodes)) × (from < count) × (to < count) ⌝ }
+    requires { ⌜ Holds (now nodes) count × (from < count) × (to < count) ⌝ }
     ensures { λ _. ⌜ now (nodes .exit) ≡ relinked count (now (nodes .entry)) from to ⌝ }
 {
     let left = child_of(nodes, from, true);
@@ -90,7 +89,7 @@ fn move_node(nodes: &mut [u64], count: u64, from: u64, to: u64)
 // Removes slot ix by moving the last slot into it, and updates all links that lead to the node that was the last one;
 // the answer is the root. The last slot's links become U and its other words 0; its colour bit stays.
 fn swap_remove(nodes: &mut [u64], colours: &mut [u8], count: u64, root: u64, ix: u64) -> u64
-    requires { ⌜ (count * 8 ≤ length (now nodes)) × (count ≤ length (now colours) * 8) × (ix < count) ⌝ }
+    requires { ⌜ Holds (now nodes) count × HoldsBits (now colours) count × (ix < count) ⌝ }
     ensures { λ r. ⌜ store (now (nodes .exit)) (now (colours .exit)) r ≡ swapRemove count (now (nodes .entry)) (now (colours .entry)) root (count - 1) ix ⌝ }
 {
     let last = count - 1;
@@ -107,7 +106,7 @@ fn swap_remove(nodes: &mut [u64], colours: &mut [u8], count: u64, root: u64, ix:
 // The slot to vacate for slot ix: the minimal node in the right subtree, where there is one. Document 01 keeps the file's
 // doubled test of the right link; that a test of both links gives the same store is `harmless` of tree_rm_laws.
 fn slot_to_vacate(nodes: &[u64], count: u64, ix: u64) -> u64
-    requires { ⌜ (count * 8 ≤ length (now nodes)) × (ix < count) ⌝ }
+    requires { ⌜ Holds (now nodes) count × (ix < count) ⌝ }
     ensures { λ r. ⌜ (r ≡ vacated count (now (nodes .entry)) ix) × (r < count) ⌝ }
 {
     let right = child_of(nodes, ix, false);
@@ -120,7 +119,7 @@ fn slot_to_vacate(nodes: &[u64], count: u64, ix: u64) -> u64
 
 // The two slots exchange interval and value, unless they are one.
 fn exchange(nodes: &mut [u64], ix: u64, rm: u64)
-    requires { ⌜ (ix * 8 + 8 ≤ length (now nodes)) × (rm * 8 + 8 ≤ length (now nodes)) ⌝ }
+    requires { ⌜ Has (now nodes) ix × Has (now nodes) rm ⌝ }
     ensures { λ _. ⌜ now (nodes .exit) ≡ exchanged (now (nodes .entry)) ix rm ⌝ }
 {
     if rm != ix {
@@ -130,7 +129,7 @@ fn exchange(nodes: &mut [u64], ix: u64, rm: u64)
 
 // The least of the two links.
 fn least_child(nodes: &[u64], rm: u64) -> u64
-    requires { ⌜ rm * 8 + 8 ≤ length (now nodes) ⌝ }
+    requires { ⌜ Has (now nodes) rm ⌝ }
     ensures { λ r. ⌜ r ≡ child (now (nodes .entry)) rm ⌝ }
 {
     smaller(child_of(nodes, rm, true), child_of(nodes, rm, false))
@@ -145,7 +144,7 @@ struct Cut {
 
 // Removed node has no child, just cut off the node.
 fn cut_leaf(nodes: &mut [u64], count: u64, root: u64, rm: u64) -> Cut
-    requires { ⌜ (count * 8 ≤ length (now nodes)) × (rm < count) ⌝ }
+    requires { ⌜ Holds (now nodes) count × (rm < count) ⌝ }
     ensures { λ r. ⌜ (r .slot ≡ rm) × (r .root ≡ cutRoot count root (par (now (nodes .entry)) rm)) × (now (nodes .exit) ≡ cutWords count (now (nodes .entry)) (par (now (nodes .entry)) rm) rm)
         × (r .reach ≡ changes count (cutHulls count (now (nodes .entry)) (par (now (nodes .entry)) rm) rm)) ⌝ }
 {
@@ -167,7 +166,7 @@ fn cut_leaf(nodes: &mut [u64], count: u64, root: u64, rm: u64) -> Cut
 
 // Slot rm is vacated. A child that is there gives its interval and value to rm and is cut off instead.
 fn cut_off(nodes: &mut [u64], count: u64, root: u64, rm: u64, child: u64) -> Cut
-    requires { ⌜ (count * 8 ≤ length (now nodes)) × (rm < count) ⌝ }
+    requires { ⌜ Holds (now nodes) count × (rm < count) ⌝ }
     ensures { λ r. ⌜ (r .slot ≡ emptied count rm child) × (r .slot < count) × (r .root ≡ cutRoot count root (above count (now (nodes .entry)) rm child)) × (now (nodes .exit) ≡ cutWords count (handed count (now (nodes .entry)) rm child) (above count (now (nodes .entry)) rm child) (emptied count rm child))
         × (r .reach ≡ changes count (cutHulls count (handed count (now (nodes .entry)) rm child) (above count (now (nodes .entry)) rm child) (emptied count rm child))) ⌝ }
 {
@@ -203,7 +202,7 @@ fn finish_rm(
     child: u64,
     before: u64,
 ) -> Removed
-    requires { ⌜ (count * 8 ≤ length (now nodes)) × (count ≤ length (now colours) * 8) × (rm < count) × (before ≤ 144) ⌝ }
+    requires { ⌜ Holds (now nodes) count × HoldsBits (now colours) count × (rm < count) × (before ≤ 144) ⌝ }
     ensures { λ r. ⌜ (removal r (now (nodes .exit)) (now (colours .exit)) ≡ finish (store (now (nodes .entry)) (now (colours .entry)) root) count ix rm child)
         × (r .reach ≡ before + changes count (cutHulls count (handed count (now (nodes .entry)) rm child) (above count (now (nodes .entry)) rm child) (emptied count rm child))) ⌝ }
 {
@@ -229,7 +228,7 @@ fn vacate(
     rm: u64,
     child: u64,
 ) -> Removed
-    requires { ⌜ (count * 8 ≤ length (now nodes)) × (count ≤ length (now colours) * 8) × (rm < count) ⌝ }
+    requires { ⌜ Holds (now nodes) count × HoldsBits (now colours) count × (rm < count) ⌝ }
     ensures { λ r. ⌜ (removal r (now (nodes .exit)) (now (colours .exit)) ≡ finish (restructure count (now (nodes .entry)) (now (colours .entry)) root rm child) count ix rm child)
         × (r .reach ≡ changes count (vacateHulls count (now (nodes .entry)) (now (colours .entry)) root rm child)) ⌝ }
 {
@@ -255,7 +254,7 @@ fn remove_from(
     ix: u64,
     rm: u64,
 ) -> Removed
-    requires { ⌜ (count * 8 ≤ length (now nodes)) × (count ≤ length (now colours) * 8) × (ix < count) × (rm < count) ⌝ }
+    requires { ⌜ Holds (now nodes) count × HoldsBits (now colours) count × (ix < count) × (rm < count) ⌝ }
     ensures { λ r. ⌜ (removal r (now (nodes .exit)) (now (colours .exit)) ≡ removeFrom (now (nodes .entry)) (now (colours .entry)) count root ix rm)
         × (r .reach ≡ changes count (removeHullsFrom (now (nodes .entry)) (now (colours .entry)) count root ix rm)) ⌝ }
 {
@@ -266,7 +265,7 @@ fn remove_from(
 
 // The entry of slot ix is removed; the count is one less.
 pub fn remove_at(nodes: &mut [u64], colours: &mut [u8], count: u64, root: u64, ix: u64) -> Removed
-    requires { ⌜ (count * 8 ≤ length (now nodes)) × (count ≤ length (now colours) * 8) × (ix < count) ⌝ }
+    requires { ⌜ Holds (now nodes) count × HoldsBits (now colours) count × (ix < count) ⌝ }
     ensures { λ r. ⌜ (removal r (now (nodes .exit)) (now (colours .exit)) ≡ removeRule (now (nodes .entry)) (now (colours .entry)) count root ix)
         × (r .reach ≡ changes count (removeHulls (now (nodes .entry)) (now (colours .entry)) count root ix)) ⌝ }
 {

@@ -3,13 +3,12 @@
 use mathlib.Core.Path.{_≡_, refl}
 use mathlib.Core.Bool.{Bool, true, false, cond, not}
 use mathlib.Core.List.{List, []}
-use Prim.Native.Nat.{ℕ, zero, suc, _-_, _*_, _<_, _≤_}
+use Prim.Native.Nat.{ℕ, zero, suc, _-_, _<_}
 use native.Mathlib.Omega.{arith}
-use lib.ListN.{length}
 use lib.Dec.{eqb, leb}
 use borrow.Author.Tests.{leb-false}
 use Rattle.words.specs.Ix.{U}
-use Rattle.words.specs.Nodes.{value, kid, par, hull, entry, putEntry, swap}
+use Rattle.words.specs.Nodes.{value, kid, par, hull, entry, putEntry, swap, HoldsBits}
 use Rattle.words.specs.declared.node.Field.the-variants.{Start, End, Value, HullStart, HullEnd, Child, Parent}
 use Rattle.bitvec.specs.Colours.{red, redAt, paint, paintAt}
 use Rattle.tree_edit.specs.Links.{redirected, removeChild, fixUp, leftmost}
@@ -254,7 +253,7 @@ pub record SameRemoved (n : ℕ) (R Q : Removed) : Type 0 where
   pub values : R .value ≡ Q .value
   pub pairs : R .pairs ≡ Q .pairs
 
-module _ (W X C D : List ℕ) (n r s : ℕ) (bits : n ≤ length C * 8) (ls : s < n) (A : Agree n W X) (H : SameColours n C D) where
+module _ (W X C D : List ℕ) (n r s : ℕ) (bits : HoldsBits C n) (ls : s < n) (A : Agree n W X) (H : SameColours n C D) where
   same-finish : (S T : Store) (x y : ℕ) → AlikeIn n S T → x < n → SameRemoved n (finish S n s x y) (finish T n s x y)
   unfolding finishWith
   same-finish S T x y h l =

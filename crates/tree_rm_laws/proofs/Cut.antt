@@ -2,11 +2,11 @@
 use mathlib.Core.Path.{_≡_, refl, sym, ap, _∙_}
 use mathlib.Core.Bool.{Bool, false}
 use mathlib.Core.List.{List, _∷_, _++_}
-use Prim.Native.Nat.{ℕ, _+_, _*_, _<_, _≤_}
+use Prim.Native.Nat.{ℕ, _+_, _<_, _≤_}
 use native.Mathlib.Omega.{arith}
 use lib.ListN.{length}
 use Rattle.words.specs.Ix.{U, onLink}
-use Rattle.words.specs.Nodes.{par, entry}
+use Rattle.words.specs.Nodes.{par, entry, Holds}
 use Rattle.tree.specs.Tree.{Tree, slots, without, hit, occ, size, Shape, leaf, times}
 use Rattle.tree.specs.Zipper.{Frame, plug, occs, Above}
 use Rattle.tree.specs.Hulls.{Hulls}
@@ -48,7 +48,7 @@ pub record Cut (n v : ℕ) (base W X : List ℕ) (K : ℕ → Bool) (r : ℕ) : 
   pub redBlack : RedBlack K tree
   pub top : rootRed K tree ≡ false
   pub entries : (a : ℕ) → entry X a ≡ entry W a
-  pub room : n * 8 ≤ length X
+  pub room : Holds X n
 
 module _ (n v : ℕ) (base W : List ℕ) (K : ℕ → Bool) (r : ℕ) (small : n ≤ 65535) (lv : v < n) (count : (s : ℕ) → s < n → times s base ≡ 1)
     (h : Fixed n v base W K r) where

@@ -5,13 +5,12 @@ use mathlib.Core.Path.{_≡_, refl, sym, _∙_}
 use mathlib.Core.Logic.{_≢_}
 use mathlib.Core.Bool.{Bool, true, false, cond, _||_}
 use mathlib.Core.List.{List, [], _∷_}
-use Prim.Native.Nat.{ℕ, _-_, _*_, _<_, _≤_}
+use Prim.Native.Nat.{ℕ, _-_, _<_, _≤_}
 use native.Mathlib.Omega.{arith}
-use lib.ListN.{length}
 use lib.Dec.{eqb}
 use borrow.Author.Tests.{eq-eqb, ne-eqb, lt-leb, le-leb}
 use Rattle.words.specs.Ix.{U, gone}
-use Rattle.words.specs.Nodes.{value, kid, par, swap}
+use Rattle.words.specs.Nodes.{value, kid, par, swap, Holds, HoldsBits}
 use Rattle.words.proofs.Nodes.{word-swap}
 use Rattle.words.specs.declared.node.Field.the-variants.{Child, Parent}
 use Rattle.bitvec.specs.Colours.{red, paint}
@@ -164,7 +163,7 @@ or-right : (i j : Bool) → j ≡ true → i || j ≡ true
 or-right true j e = refl
 or-right false j e = e
 
-module _ (W C : List ℕ) (n r s : ℕ) (small : n ≤ 65535) (fit : n * 8 ≤ length W) (bits : n ≤ length C * 8) (ls : s < n) (h : Passes W C n r) where
+module _ (W C : List ℕ) (n r s : ℕ) (small : n ≤ 65535) (fit : Holds W n) (bits : HoldsBits C n) (ls : s < n) (h : Passes W C n r) where
   abbrev t : Tree
   t = h .tree
 

@@ -3,12 +3,11 @@
 use mathlib.Core.Path.{_≡_, refl, sym, _∙_}
 use mathlib.Core.Bool.{Bool, true, false}
 use mathlib.Core.List.{List, [], _∷_}
-use Prim.Native.Nat.{ℕ, _+_, _*_, _<_, _≤_}
+use Prim.Native.Nat.{ℕ, _+_, _<_, _≤_}
 use native.Mathlib.Omega.{arith}
-use lib.ListN.{length}
 use borrow.Author.Tests.{le-leb}
 use Rattle.words.specs.Ix.{U}
-use Rattle.words.specs.Nodes.{kid, par}
+use Rattle.words.specs.Nodes.{kid, par, Holds, HoldsBits}
 use Rattle.bitvec.specs.Colours.{red, paint}
 use Rattle.tree.specs.Tree.{Tree, slots, occ, hit, height, Shape, leaf, node, times}
 use Rattle.tree.specs.Zipper.{bin, Frame, plug, occs, Above}
@@ -99,7 +98,7 @@ module _ (X C : List ℕ) (n r x : ℕ) (b : Bool) (c : List Frame) (near : Tree
           let k : y < n = live-y X C n r x b c near h l y l′ e in
           rw (child-y X C n r x b c near h l y l′ e, restructure-child n X C r x y f k g) (child-with rounds n X C r x y f k g)
 
-module _ (W C : List ℕ) (n r s : ℕ) (small : n ≤ 65535) (fit : n * 8 ≤ length W) (bits : n ≤ length C * 8) (ls : s < n) (h : Passes W C n r) where
+module _ (W C : List ℕ) (n r s : ℕ) (small : n ≤ 65535) (fit : Holds W n) (bits : HoldsBits C n) (ls : s < n) (h : Passes W C n r) where
   abbrev t : Tree
   t = h .tree
 

@@ -2,13 +2,12 @@
 use mathlib.Core.Path.{_≡_, refl, sym, ap, _∙_}
 use mathlib.Core.Bool.{Bool, true, false, cond}
 use mathlib.Core.List.{List}
-use Prim.Native.Nat.{ℕ, zero, suc, _+_, _-_, _*_, _<_, _≤_}
+use Prim.Native.Nat.{ℕ, zero, suc, _-_, _<_}
 use native.Mathlib.Omega.{arith}
-use lib.ListN.{length}
 use lib.Dec.{eqb, leb}
 use borrow.Author.Tests.{leb-false}
 use Rattle.words.specs.Ix.{U}
-use Rattle.words.specs.Nodes.{word, value, kid, putKid, swap}
+use Rattle.words.specs.Nodes.{word, value, kid, putKid, swap, Has, Holds}
 use Rattle.words.proofs.Nodes.{length-putNode, word-putNode-slot, entry-putNode, hull-putNode, kid-putNode, par-putNode}
 use Rattle.words.specs.declared.interval.Interval.{Interval}
 use Rattle.words.specs.declared.node.Entry.{Entry}
@@ -88,7 +87,7 @@ module _ (n : ℕ) where
       go false e = leftmost-live 32 W (kid W false s) (leb-false n (kid W false s) e)
 
 -- a slot without an entry
-word-blank : (k : ℕ) (W : List ℕ) (z : ℕ) → z * 8 + 8 ≤ length W → (f : Field) → word (blank k W z) f z ≡ blankWord k f
+word-blank : (k : ℕ) (W : List ℕ) (z : ℕ) → Has W z → (f : Field) → word (blank k W z) f z ≡ blankWord k f
 word-blank k W z m Start = ap (λ (e : Entry). e .start) (entry-putNode W z _ _ _ _ _ m)
 word-blank k W z m End = ap (λ (e : Entry). e .end) (entry-putNode W z _ _ _ _ _ m)
 word-blank k W z m Value = ap (λ (e : Entry). e .value) (entry-putNode W z _ _ _ _ _ m)
@@ -99,12 +98,12 @@ word-blank k W z m (Child false) = kid-putNode W z _ _ _ _ _ false m
 word-blank k W z m Parent = par-putNode W z _ _ _ _ _ m
 
 -- the move of the last slot, for a removal with a value and pairs
-corrected-move : (n : ℕ) (W C : List ℕ) (r z v x : ℕ) (p : Pairs) → z ≡ n - 1 → v < n → z * 8 + 8 ≤ length W
+corrected-move : (n : ℕ) (W C : List ℕ) (r z v x : ℕ) (p : Pairs) → z ≡ n - 1 → v < n → Has W z
     → Corrected n (record { store = swapRemove-01 n W C r z v; value = x; pairs = p }) (record { store = swapRemove n W C r z v; value = x; pairs = p })
 unfolding swapRemove swapRemove-01 cleared
 corrected-move n W C r z v x p last lv m = go (eqb v z)
   where
-    both : (Y D : List ℕ) (q : ℕ) → z * 8 + 8 ≤ length Y
+    both : (Y D : List ℕ) (q : ℕ) → Has Y z
         → Corrected n (record { store = store (blank 0 Y z) D q; value = x; pairs = p }) (record { store = store (blank U Y z) D q; value = x; pairs = p })
     both Y D q u = record {
       value-same = refl;
@@ -170,8 +169,8 @@ module _ (W C : List ℕ) (n r s : ℕ) (ls : s < n) where
       }
 
   -- document 02's item 2 changes the three links of the old last slot, and nothing else
-  pub corrected : n * 8 ≤ length W → Corrected n (removeRule-01 W C n r s) (removeRule W C n r s)
+  pub corrected : Holds W n → Corrected n (removeRule-01 W C n r s) (removeRule W C n r s)
   unfolding removeWith removeFromWith finishWith removeRule-01 removeFrom-01 finish-01
   corrected fit =
-      let m : n * 8 ≤ length Z = rw (low-Z .0) fit in
+      let m : Holds Z n = rw (low-Z .0) fit in
       corrected-move n Z (S .colours) (cutRoot n (S .root) g) (n - 1) v (value Z v) (moved n (n - 1) s x y) refl live-v (omega arith)

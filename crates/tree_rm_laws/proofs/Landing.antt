@@ -9,7 +9,7 @@ use lib.ListN.{length}
 use lib.Dec.{eqb}
 use borrow.Author.Tests.{eqb-true, eqb-false}
 use Rattle.words.specs.Ix.{U}
-use Rattle.words.specs.Nodes.{kid, par}
+use Rattle.words.specs.Nodes.{kid, par, Has, Holds, HoldsBits}
 use Rattle.words.specs.declared.node.Field.the-variants.{Child, Parent}
 use Rattle.bitvec.specs.Colours.{red, paint}
 use Rattle.bitvec.proofs.Bytes.{bitAt-same, bitAt-other}
@@ -54,7 +54,7 @@ root-moves W n r (frame b s far ∷ c) z v m o h =
     movedTo-other z v r d ∙ sym (on-slot n (par W z) (omega (arith, h .live, h .at)) (λ s. r) v)
 
 module _ (n z v : ℕ) (W C : List ℕ) (r : ℕ) (t : Tree) (small : n ≤ 65535) (last : suc z ≡ n) (lv : v < n)
-    (fit : n * 8 ≤ length W) (bits : n ≤ length C * 8) (shape : Shape W n U r t) (once : (s : ℕ) → s < n → occ s t + hit s v ≡ 1) where
+    (fit : Holds W n) (bits : HoldsBits C n) (shape : Shape W n U r t) (once : (s : ℕ) → s < n → occ s t + hit s v ≡ 1) where
   live : (s : ℕ) → 0 < occ s t → s < n
   live s = shape-live W n U r t s shape
 
@@ -108,7 +108,7 @@ module _ (n z v : ℕ) (W C : List ℕ) (r : ℕ) (t : Tree) (small : n ≤ 6553
         let vg : v ≢ par W z = off-parent W n r c (par W z) z v small a lv (omega arith) in
         let fk : (d : Bool) → kid W d z < n → kid W d z * 8 + 8 ≤ length W = λ d u. omega arith in
         let fg : par W z < n → par W z * 8 + 8 ≤ length W = λ u. omega arith in
-        let fv : v * 8 + 8 ≤ length W = omega arith in
+        let fv : Has W v = omega arith in
         let sh : Shape X n U (rootAfter n W r z v) (plug c (node l v r′)) =
         move-to W X n r c l r′ z v small lv all zv a s (is-moved n W z v fv vk vg fk fg) in
         let same : rename (movedTo z v) t ≡ plug c (node l v r′) =

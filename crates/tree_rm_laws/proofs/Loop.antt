@@ -3,12 +3,12 @@ use mathlib.Core.Path.{_≡_, refl, sym, _∙_}
 use mathlib.Core.Logic.{_≢_}
 use mathlib.Core.Bool.{Bool, true, false, not, false≢true}
 use mathlib.Core.List.{List, [], _∷_, _++_, append-assoc}
-use Prim.Native.Nat.{ℕ, suc, _+_, _*_, _<_, _≤_}
+use Prim.Native.Nat.{ℕ, suc, _+_, _<_, _≤_}
 use native.Mathlib.Omega.{arith}
 use native.Mathlib.Numerals.{one-add}
 use lib.ListN.{length}
 use Rattle.words.specs.Ix.{U}
-use Rattle.words.specs.Nodes.{kid, par, fix}
+use Rattle.words.specs.Nodes.{kid, par, fix, Holds}
 use Rattle.tree.specs.Tree.{Tree, slots, hit, occ, Node, Shape, leaf, node}
 use Rattle.tree.specs.Zipper.{bin, Frame, plug, occs, frame}
 use Rattle.tree.specs.RedBlack.{rootRed, blacks, RedBlack}
@@ -62,7 +62,7 @@ pub record Fixed (n x : ℕ) (base W : List ℕ) (K : ℕ → Bool) (r : ℕ) : 
   pub shape : Shape W n U r (plug q (Bare x))
   pub once : (s : ℕ) → occ s (plug q (Bare x)) ≤ 1
   pub fits : Fits K q 0 false
-  pub room : n * 8 ≤ length W
+  pub room : Holds W n
   pub order : slots (plug q (Bare x)) ≡ base
   pub hulls : HullsBy W q
 

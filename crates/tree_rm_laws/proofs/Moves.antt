@@ -8,7 +8,7 @@ use native.Mathlib.Omega.{arith}
 use lib.ListN.{length}
 use lib.Dec.{eqb}
 use Rattle.words.specs.Ix.{U}
-use Rattle.words.specs.Nodes.{word, kid, par}
+use Rattle.words.specs.Nodes.{word, kid, par, Has, Holds}
 use Rattle.words.proofs.Nodes.{length-putNode, word-putNode-slot, entry-putNode, hull-putNode, kid-putNode, par-putNode}
 use Rattle.words.specs.declared.node.Field.{Field}
 use Rattle.words.specs.declared.node.Field.the-variants.{Child, Parent}
@@ -23,7 +23,7 @@ use Rattle.tree_edit.proofs.Links.{by-side, length-adopt, kept-adopt, kid-adopt
 use Rattle.tree_edit.proofs.Rotations.{swing, off-parent}
 
 -- what led to x is undefined
-pub cut-way : (W : List ℕ) (n r : ℕ) (c : List Frame) (x : ℕ) → n ≤ 65535 → n * 8 ≤ length W → x < n
+pub cut-way : (W : List ℕ) (n r : ℕ) (c : List Frame) (x : ℕ) → n ≤ 65535 → Holds W n → x < n
     → occs x c ≡ 0 → ((s : ℕ) → occs s c ≤ 1) → Above W n r c (par W x) x
     → Above (redirect n W (par W x) x U) n (rootAfter n W r x U) c (par W x) U
 cut-way W n r c x m fit q z one h =
@@ -107,7 +107,7 @@ module _ (W X : List ℕ) (n r : ℕ) (c : List Frame) (l r′ : Tree) (z x : �
       })
 
 -- `swap_remove`: what its words say, where slot v is none of those next to z
-module _ (n : ℕ) (W : List ℕ) (z v : ℕ) (fit : v * 8 + 8 ≤ length W)
+module _ (n : ℕ) (W : List ℕ) (z v : ℕ) (fit : Has W v)
     (vk : (d : Bool) → v ≢ kid W d z) (vg : v ≢ par W z)
     (fit-k : (d : Bool) → kid W d z < n → kid W d z * 8 + 8 ≤ length W)
     (fit-g : par W z < n → par W z * 8 + 8 ≤ length W) where

@@ -3,11 +3,10 @@ use mathlib.Core.Path.{_≡_, refl, sym, ap, fun-ext, _∙_}
 use mathlib.Core.Logic.{_≢_}
 use mathlib.Core.Bool.{Bool, true, false, not, false≢true}
 use mathlib.Core.List.{List, [], _∷_, _++_, map}
-use Prim.Native.Nat.{ℕ, _+_, _*_, _<_, _≤_}
+use Prim.Native.Nat.{ℕ, _+_, _<_, _≤_}
 use native.Mathlib.Omega.{arith}
-use lib.ListN.{length}
 use Rattle.words.specs.Ix.{U}
-use Rattle.words.specs.Nodes.{kid, par, entry, swap}
+use Rattle.words.specs.Nodes.{kid, par, entry, swap, HoldsBits}
 use Rattle.words.proofs.Nodes.{length-swap, word-swap, word-swap-slot, entry-swap-second, entry-swap-first}
 use Rattle.words.specs.declared.node.Field.the-variants.{Child, Parent}
 use Rattle.bitvec.specs.Colours.{red}
@@ -39,7 +38,7 @@ use Rattle.tree_rm_laws.proofs.RepairInPlace.{repair-in-place}
 pub record Ready (n x y v g : ℕ) (base X Y D : List ℕ) (q : ℕ) : Type 0 where
   pub live : v < n
   pub fixed : Fixed n v base Y (red D) q
-  pub bits : n ≤ length D * 8
+  pub bits : HoldsBits D n
   pub above-is : g ≡ par Y v
   pub entries : map (entry Y) (without v base) ≡ map (entry X) (without x base)
   pub slots-are : without v base ≡ map (movedTo y x) (without x base)
@@ -83,7 +82,7 @@ module _ (X C : List ℕ) (n r x : ℕ) (b : Bool) (c : List Frame) (near : Tree
     ReadyAt S = Ready n x U x (par (S .words) x) base X (S .words) (S .colours) (S .root)
 
     -- where the words Y have the entries of X
-    ready : (Y D : List ℕ) (q : ℕ) → Fixed n x base Y (red D) q → n ≤ length D * 8 → ((a : ℕ) → entry Y a ≡ entry X a) → ReadyAt (store Y D q)
+    ready : (Y D : List ℕ) (q : ℕ) → Fixed n x base Y (red D) q → HoldsBits D n → ((a : ℕ) → entry Y a ≡ entry X a) → ReadyAt (store Y D q)
     ready Y D q f o e =
         record {
           live = live-x;

@@ -7,12 +7,11 @@ use mathlib.Core.Path.{_≡_, refl, ap, _∙_}
 use mathlib.Core.Logic.{_≢_}
 use mathlib.Core.Bool.{Bool, true, false, cond}
 use mathlib.Core.List.{List, _∷_, _++_, map, map-map}
-use Prim.Native.Nat.{ℕ, _+_, _-_, _*_, _<_, _≤_}
+use Prim.Native.Nat.{ℕ, _+_, _-_, _<_, _≤_}
 use native.Mathlib.Omega.{arith}
-use lib.ListN.{length}
 use lib.Dec.{eqb}
 use Rattle.words.specs.Ix.{U}
-use Rattle.words.specs.Nodes.{entry, swap}
+use Rattle.words.specs.Nodes.{entry, swap, Holds, HoldsBits}
 use Rattle.words.specs.declared.node.Entry.{Entry}
 use Rattle.bitvec.specs.Colours.{red}
 use Rattle.tree.specs.Tree.{Tree, slots, without, hit, occ, height, Shape, leaf, times}
@@ -47,7 +46,7 @@ same-exchanged W s x a = go (eqb x s)
     go true = (λ d. refl, refl)
     go false = same-swap W s x a
 
-module _ (W C : List ℕ) (n r s : ℕ) (small : n ≤ 65535) (fit : n * 8 ≤ length W) (bits : n ≤ length C * 8) (ls : s < n) (h : Passes W C n r) where
+module _ (W C : List ℕ) (n r s : ℕ) (small : n ≤ 65535) (fit : Holds W n) (bits : HoldsBits C n) (ls : s < n) (h : Passes W C n r) where
   abbrev t : Tree
   t = h .tree
 

@@ -2,11 +2,11 @@
 use mathlib.Core.Path.{_≡_, refl, sym, _∙_}
 use mathlib.Core.Bool.{Bool, true, false, not, false≢true}
 use mathlib.Core.List.{List, [], _∷_}
-use Prim.Native.Nat.{ℕ, zero, suc, _+_, _*_, _<_, _≤_}
+use Prim.Native.Nat.{ℕ, zero, suc, _+_, _<_, _≤_}
 use native.Mathlib.Omega.{arith}
 use lib.ListN.{length}
 use lib.Dec.{eqb}
-use Rattle.words.specs.Nodes.{kid, par}
+use Rattle.words.specs.Nodes.{kid, par, HoldsBits}
 use Rattle.bitvec.specs.Colours.{red, paintAt}
 use Rattle.tree.specs.Tree.{Tree, Node, Shape, leaf, node}
 use Rattle.tree.specs.Zipper.{bin, Frame, plug, frame}
@@ -25,8 +25,8 @@ use Rattle.tree_rm_laws.proofs.Loop.{Bare, LoopInvariant, Loop, Lighter
 
 -- after a round: the end, or a lighter place
 abbrev Good : ℕ → ℕ → List ℕ → ℕ → Next → Type 0
-Good n x base w (done W C r) = Fixed n x base W (red C) r × (n ≤ length C * 8)
-Good n x base w (again W C r ix) = Lighter n x base w W (red C) r ix × (n ≤ length C * 8)
+Good n x base w (done W C r) = Fixed n x base W (red C) r × HoldsBits C n
+Good n x base w (again W C r ix) = Lighter n x base w W (red C) r ix × HoldsBits C n
 
 red-live : (W : List ℕ) (K : ℕ → Bool) (n p k : ℕ) (t : Tree) → Shape W n p k t → rootRed K t ≡ true → k < n
 red-live W K n p k leaf h e = absurd (false≢true e)
@@ -34,7 +34,7 @@ red-live W K n p k (node l s r) h e = rw (h .here) (h .live)
 
 -- one round, below P with the sibling S
 module _ (n x : ℕ) (base W Y : List ℕ) (r ix : ℕ) (b : Bool) (P S : ℕ) (c : List Frame) (C D : Tree) (i : List Frame) (m : ℕ)
-    (bits : n ≤ length Y * 8) (invariant : LoopInvariant n x base W (red Y) r ix P (frame b P (bin b C S D) ∷ c) i m) where
+    (bits : HoldsBits Y n) (invariant : LoopInvariant n x base W (red Y) r ix P (frame b P (bin b C S D) ∷ c) i m) where
   abbrev h : Stand W n r ix P (frame b P (bin b C S D) ∷ c) (plug i (Bare x))
   h = invariant .stand
 
@@ -128,7 +128,7 @@ step-end : (n : ℕ) (W C : List ℕ) (r ix : ℕ) → n ≤ par W ix → round 
 unfolding round
 step-end n W C r ix h = on-none n (par W ix) h _ (done W C r)
 
-module _ (n x : ℕ) (base W C : List ℕ) (r ix : ℕ) (bits : n ≤ length C * 8) where
+module _ (n x : ℕ) (base W C : List ℕ) (r ix : ℕ) (bits : HoldsBits C n) where
   step-good : (l : Loop n x base W (red C) r ix) → Good n x base (weight (red C) (l .c)) (round n W C r ix)
   step-good l = go (l .c) (l .invariant)
     where
@@ -163,17 +163,17 @@ module _ (n x : ℕ) (base W C : List ℕ) (r ix : ℕ) (bits : n ≤ length C *
       go (frame false P (node y S z) ∷ c) g = up false P S c z y g
 
 abbrev pub Finished : ℕ → ℕ → List ℕ → Next → Type 0
-Finished n x base (done W C r) = Fixed n x base W (red C) r × (n ≤ length C * 8)
+Finished n x base (done W C r) = Fixed n x base W (red C) r × HoldsBits C n
 Finished n x base (again W C r ix) = ⊥
 
 -- the loop ends, and leaves a tree that is even once x is cut off
-pub repaired : (rounds n x : ℕ) (base W C : List ℕ) (r ix : ℕ) → n ≤ length C * 8 → (l : Loop n x base W (red C) r ix) → weight (red C) (l .c) < rounds
+pub repaired : (rounds n x : ℕ) (base W C : List ℕ) (r ix : ℕ) → HoldsBits C n → (l : Loop n x base W (red C) r ix) → weight (red C) (l .c) < rounds
     → Finished n x base (repair n rounds W C r ix)
 unfolding loop
 repaired zero n x base W C r ix bits l h = absurd (omega arith)
 repaired (suc rounds) n x base W C r ix bits l h = go (repaired rounds n x base) (round n W C r ix) (step-good n x base W C r ix bits l)
   where
-    go : ((W C : List ℕ) (r ix : ℕ) → n ≤ length C * 8 → (l : Loop n x base W (red C) r ix) → weight (red C) (l .c) < rounds → Finished n x base (repair n rounds W C r ix))
+    go : ((W C : List ℕ) (r ix : ℕ) → HoldsBits C n → (l : Loop n x base W (red C) r ix) → weight (red C) (l .c) < rounds → Finished n x base (repair n rounds W C r ix))
         → (s : Next) → Good n x base (weight (red C) (l .c)) s → Finished n x base (goOn s (λ X D q i. repair n rounds X D q i))
     go rec (done W C r) g = g
     go rec (again W C r ix) g = rec W C r ix (g .1) (g .0 .0) (omega (arith, g .0 .1))

@@ -1,7 +1,7 @@
 -- Removals one after the other: the store passes after each, and what lies from the first count up stays.
 use mathlib.Core.Path.{_≡_, refl}
 use mathlib.Core.List.{List, [], _∷_}
-use Prim.Native.Nat.{ℕ, suc, _-_, _*_, _≤_}
+use Prim.Native.Nat.{ℕ, suc, _-_, _≤_}
 use native.Mathlib.Omega.{arith}
 use lib.ListN.{length}
 use Rattle.tree.specs.Passes.{Passes}
@@ -12,6 +12,7 @@ use Rattle.tree_rm_laws.specs.Sequence.{after, Within}
 use Rattle.tree_rm_laws.proofs.Inside.{removed-inside}
 use Rattle.tree_rm_laws.proofs.Removal.{removed}
 use Rattle.tree_edit.proofs.Inside.{inside-trans}
+use Rattle.words.specs.Nodes.{Holds, HoldsBits}
 
 pub after-inside : (l : List ℕ) (S : Store) (n : ℕ) → Within n l → Inside n (S .words) (S .colours) (after S n l)
 after-inside [] S n w = record { words-length = refl; colours-length = refl; words-kept = λ f a u. refl; colours-kept = λ a u. refl }
@@ -20,7 +21,7 @@ after-inside (s ∷ l) S n w =
     inside-trans n (n - 1) S T (after T (n - 1) l) (omega arith)
     (removed-inside (S .words) (S .colours) n (S .root) s (w .0)) (after-inside l T (n - 1) (w .1))
 
-pub after-passes : (l : List ℕ) (S : Store) (n : ℕ) → n ≤ 65535 → n * 8 ≤ length (S .words) → n ≤ length (S .colours) * 8
+pub after-passes : (l : List ℕ) (S : Store) (n : ℕ) → n ≤ 65535 → Holds (S .words) n → HoldsBits (S .colours) n
     → Passes (S .words) (S .colours) n (S .root) → Within n l
     → Passes (after S n l .words) (after S n l .colours) (n - length l) (after S n l .root)
 after-passes [] S n small fit bits h w = let e : n - 0 ≡ n = omega arith in rw e h

@@ -3,11 +3,10 @@ use mathlib.Core.Path.{_≡_, refl, sym, _∙_}
 use mathlib.Core.Logic.{_≢_}
 use mathlib.Core.Bool.{Bool, true, false, not, false≢true}
 use mathlib.Core.List.{List}
-use Prim.Native.Nat.{ℕ, _+_, _*_, _<_, _≤_}
+use Prim.Native.Nat.{ℕ, _+_, _<_, _≤_}
 use native.Mathlib.Omega.{arith}
-use lib.ListN.{length}
 use Rattle.words.specs.Ix.{U}
-use Rattle.words.specs.Nodes.{kid, par}
+use Rattle.words.specs.Nodes.{kid, par, Holds, HoldsBits}
 use Rattle.bitvec.specs.Colours.{red}
 use Rattle.tree.specs.Tree.{Tree, hit, occ, height, Node, Shape, leaf, node}
 use Rattle.tree.specs.Zipper.{bin, Frame, plug, occs, Above}
@@ -22,8 +21,8 @@ use Rattle.tree_rm_laws.proofs.Loop.{Bare}
 -- The slot x of a store that passes but for the entries on the way from x up; `near` is its subtree on the side b, and there is none on the other.
 pub record Spot (X C : List ℕ) (n r x : ℕ) (b : Bool) (c : List Frame) (near : Tree) : Type 0 where
   pub small : n ≤ 65535
-  pub fit : n * 8 ≤ length X
-  pub bits : n ≤ length C * 8
+  pub fit : Holds X n
+  pub bits : HoldsBits C n
   pub shape : Shape X n U r (plug c (bin b near x leaf))
   pub once : (a : ℕ) → occ a (plug c (bin b near x leaf)) ≤ 1
   pub tall : height (plug c (bin b near x leaf)) ≤ 32

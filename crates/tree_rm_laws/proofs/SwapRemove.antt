@@ -3,15 +3,16 @@
 use mathlib.Core.Path.{_≡_, refl}
 use mathlib.Core.Bool.{Bool, true, false}
 use mathlib.Core.List.{List}
-use Prim.Native.Nat.{ℕ, _+_, _-_, _*_, _<_, _≤_}
+use Prim.Native.Nat.{ℕ, _+_, _-_, _*_, _<_}
 use native.Mathlib.Omega.{arith}
 use lib.ListN.{length}
 use lib.Dec.{eqb}
 use borrow.Author.Tests.{le-leb, lt-ltb, eqb-true, eqb-false, eq-eqb, ne-eqb}
 use Rattle.bitvec.specs.Calls.{allowed, gapClosed, swapRemoveBytes}
 use Rattle.tree_rm_laws.specs.Remove.{swapRemove}
+use Rattle.words.specs.Nodes.{HoldsBits}
 
-pub colours-swapped : (n : ℕ) (W C : List ℕ) (r v : ℕ) → n ≤ length C * 8 → v < n → swapRemove n W C r (n - 1) v .colours ≡ swapRemoveBytes C n v
+pub colours-swapped : (n : ℕ) (W C : List ℕ) (r v : ℕ) → HoldsBits C n → v < n → swapRemove n W C r (n - 1) v .colours ≡ swapRemoveBytes C n v
 unfolding swapRemove swapRemoveBytes gapClosed allowed
 colours-swapped n W C r v h l = rw (le-leb n (length C * 8) h, lt-ltb v n l) (go (eqb v (n - 1)) refl)
   where

@@ -3,12 +3,11 @@ use mathlib.Core.Path.{_≡_, refl, sym, ap, _∙_}
 use mathlib.Core.Logic.{_≢_}
 use mathlib.Core.Bool.{Bool, true, false}
 use mathlib.Core.List.{List, [], _∷_, _++_, append-assoc, map}
-use Prim.Native.Nat.{ℕ, zero, suc, _+_, _*_, _<_, _≤_}
+use Prim.Native.Nat.{ℕ, zero, suc, _+_, _<_, _≤_}
 use native.Mathlib.Omega.{arith}
-use lib.ListN.{length}
 use borrow.Author.Tests.{eq-eqb, ne-eqb, lt-leb, le-leb}
 use Rattle.words.specs.Ix.{U}
-use Rattle.words.specs.Nodes.{kid, entry, swap}
+use Rattle.words.specs.Nodes.{kid, entry, swap, Holds}
 use Rattle.words.proofs.Nodes.{word-swap-slot, entry-swap-second, entry-swap-first}
 use Rattle.tree.specs.Tree.{Tree, slots, without, hit, occ, height, Shape, leaf, node, times}
 use Rattle.tree.specs.Zipper.{bin, Frame, plug, occs, frame}
@@ -52,7 +51,7 @@ pub record Chosen (s x : ℕ) (t : Tree) (W X : List ℕ) : Type 0 where
   pub entry-is : entry X x ≡ entry W s
   pub hulls : HullsBy X c
 
-module _ (W : List ℕ) (n r s : ℕ) (t : Tree) (small : n ≤ 65535) (fit : n * 8 ≤ length W) (shape : Shape W n U r t)
+module _ (W : List ℕ) (n r s : ℕ) (t : Tree) (small : n ≤ 65535) (fit : Holds W n) (shape : Shape W n U r t)
     (most : (a : ℕ) → occ a t ≤ 1) (hulls : Hulls W t) where
   -- the slot itself
   self : (b : Bool) (c : List Frame) (near : Tree) → t ≡ plug c (bin b near s leaf) → Chosen s s t W W

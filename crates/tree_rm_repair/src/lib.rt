@@ -17,8 +17,7 @@ use words::node::child_of;
 use words::node::parent_of;
 ghost use mathlib.Core.Path.{_≡_};
 ghost use mathlib.Core.Bool.{true, not};
-ghost use Prim.Native.Nat.{_+_, _*_, _<_, _≤_};
-ghost use lib.ListN.{length};
+ghost use Prim.Native.Nat.{_+_, _<_};
 ghost use Rattle.bitvec.specs.Colours.{red, redAt};
 ghost use Rattle.tree_edit.specs.Links.{rootAfter};
 ghost use Rattle.tree_edit.specs.Rotations.{rotate-2, rotate-4};
@@ -30,6 +29,7 @@ ghost use Rattle.tree_rm_repair.specs.Answers.{caseOf};
 ghost use Rattle.tree_links.specs.Answers.{next, reach};
 ghost use Rattle.tree_edit.specs.Reach.{changes};
 ghost use Rattle.tree_rm_laws.specs.Reach.{actHulls, roundOfHulls, roundAtHulls, roundHulls, repairHulls, restructureHulls};
+ghost use Rattle.words.specs.Nodes.{Holds, HoldsBits};
 
 pub enum Case {
     // Node has black parent and black sibling, both nephews are black.
@@ -61,7 +61,7 @@ fn case_of(parent: bool, sibling: bool, close: bool, distant: bool) -> Case
 
 // The case of a parent, a sibling and the link words of its children.
 fn case_at(colours: &[u8], count: u64, parent: u64, sibling: u64, close: u64, distant: u64) -> Case
-    requires { ⌜ (count ≤ length (now colours) * 8) × (parent < count) × (sibling < count) ⌝ }
+    requires { ⌜ HoldsBits (now colours) count × (parent < count) × (sibling < count) ⌝ }
     ensures { λ r. ⌜ caseOf r ≡ choose (red (now (colours .entry)) parent) (red (now (colours .entry)) sibling) (redAt count (now (colours .entry)) close) (redAt count (now (colours .entry)) distant) ⌝ }
 {
     let parent_black = is_black(colours, parent);
@@ -85,7 +85,7 @@ fn rotate_two(
     parent: u64,
     sibling: u64,
 ) -> u64
-    requires { ⌜ (count * 8 ≤ length (now nodes)) × (parent < count) × (sibling < count) ⌝ }
+    requires { ⌜ Holds (now nodes) count × (parent < count) × (sibling < count) ⌝ }
     ensures { λ r. ⌜ (r ≡ rootAfter count (now (nodes .entry)) root parent sibling) × (now (nodes .exit) ≡ rotate-2 count (now (nodes .entry)) «node_is_left» parent sibling) ⌝ }
 {
     let close = child_of(nodes, sibling, node_is_left);
@@ -104,7 +104,7 @@ fn rotate_four(
     sibling: u64,
     close: u64,
 )
-    requires { ⌜ (count * 8 ≤ length (now nodes)) × (parent < count) × (sibling < count) × (close < count) ⌝ }
+    requires { ⌜ Holds (now nodes) count × (parent < count) × (sibling < count) × (close < count) ⌝ }
     ensures { λ _. ⌜ now (nodes .exit) ≡ rotate-4 count (now (nodes .entry)) «node_is_left» parent sibling close ⌝ }
 {
     let child = child_of(nodes, close, !node_is_left);
@@ -123,7 +123,7 @@ fn case_two(
     parent: u64,
     sibling: u64,
 ) -> Next
-    requires { ⌜ (count * 8 ≤ length (now nodes)) × (count ≤ length (now colours) * 8) × (parent < count) × (sibling < count) ⌝ }
+    requires { ⌜ Holds (now nodes) count × HoldsBits (now colours) count × (parent < count) × (sibling < count) ⌝ }
     ensures { λ r. ⌜ (next r (now (nodes .exit)) (now (colours .exit)) ≡ act count two (now (nodes .entry)) (now (colours .entry)) root ix «node_is_left» parent sibling 0 0) × (reach r ≡ 0) ⌝ }
 {
     set_red(colours, parent);
@@ -147,7 +147,7 @@ fn case_four(
     sibling: u64,
     close: u64,
 ) -> Next
-    requires { ⌜ (count * 8 ≤ length (now nodes)) × (count ≤ length (now colours) * 8) × (parent < count) × (sibling < count) × (close < count) ⌝ }
+    requires { ⌜ Holds (now nodes) count × HoldsBits (now colours) count × (parent < count) × (sibling < count) × (close < count) ⌝ }
     ensures { λ r. ⌜ (next r (now (nodes .exit)) (now (colours .exit)) ≡ act count four (now (nodes .entry)) (now (colours .entry)) root ix «node_is_left» parent sibling close 0) × (reach r ≡ changes count (actHulls count four (now (nodes .entry)) «node_is_left» parent sibling close)) ⌝ }
 {
     set_black(colours, close);
@@ -171,7 +171,7 @@ fn case_five(
     sibling: u64,
     distant: u64,
 ) -> Next
-    requires { ⌜ (count * 8 ≤ length (now nodes)) × (count ≤ length (now colours) * 8) × (parent < count) × (sibling < count) ⌝ }
+    requires { ⌜ Holds (now nodes) count × HoldsBits (now colours) count × (parent < count) × (sibling < count) ⌝ }
     ensures { λ r. ⌜ (next r (now (nodes .exit)) (now (colours .exit)) ≡ act count five (now (nodes .entry)) (now (colours .entry)) root 0 «node_is_left» parent sibling 0 distant) × (reach r ≡ 0) ⌝ }
 {
     copy_colour(colours, parent, sibling);
@@ -198,7 +198,7 @@ fn act_on(
     distant: u64,
     case: Case,
 ) -> Next
-    requires { ⌜ (count * 8 ≤ length (now nodes)) × (count ≤ length (now colours) * 8) × (parent < count) × (sibling < count) × (caseOf case ≡ four → close < count) ⌝ }
+    requires { ⌜ Holds (now nodes) count × HoldsBits (now colours) count × (parent < count) × (sibling < count) × (caseOf case ≡ four → close < count) ⌝ }
     ensures { λ r. ⌜ (next r (now (nodes .exit)) (now (colours .exit)) ≡ act count (caseOf case) (now (nodes .entry)) (now (colours .entry)) root ix «node_is_left» parent sibling close distant)
         × (reach r ≡ changes count (actHulls count (caseOf case) (now (nodes .entry)) «node_is_left» parent sibling close)) ⌝ }
 {
@@ -261,7 +261,7 @@ fn round_of(
     node_is_left: bool,
     sibling: u64,
 ) -> Next
-    requires { ⌜ (count * 8 ≤ length (now nodes)) × (count ≤ length (now colours) * 8) × (parent < count) × (sibling < count) ⌝ }
+    requires { ⌜ Holds (now nodes) count × HoldsBits (now colours) count × (parent < count) × (sibling < count) ⌝ }
     ensures { λ r. ⌜ (next r (now (nodes .exit)) (now (colours .exit)) ≡ roundOf count (now (nodes .entry)) (now (colours .entry)) root ix parent «node_is_left» sibling)
         × (reach r ≡ changes count (roundOfHulls count (now (nodes .entry)) (now (colours .entry)) parent «node_is_left» sibling)) ⌝ }
 {
@@ -293,7 +293,7 @@ fn round_at(
     parent: u64,
     node_is_left: bool,
 ) -> Next
-    requires { ⌜ (count * 8 ≤ length (now nodes)) × (count ≤ length (now colours) * 8) × (parent < count) ⌝ }
+    requires { ⌜ Holds (now nodes) count × HoldsBits (now colours) count × (parent < count) ⌝ }
     ensures { λ r. ⌜ (next r (now (nodes .exit)) (now (colours .exit)) ≡ roundAt count (now (nodes .entry)) (now (colours .entry)) root ix parent «node_is_left»)
         × (reach r ≡ changes count (roundAtHulls count (now (nodes .entry)) (now (colours .entry)) parent «node_is_left»)) ⌝ }
 {
@@ -313,7 +313,7 @@ fn round_at(
 }
 
 fn one_round(nodes: &mut [u64], colours: &mut [u8], count: u64, root: u64, ix: u64) -> Next
-    requires { ⌜ (count * 8 ≤ length (now nodes)) × (count ≤ length (now colours) * 8) × (ix < count) ⌝ }
+    requires { ⌜ Holds (now nodes) count × HoldsBits (now colours) count × (ix < count) ⌝ }
     ensures { λ r. ⌜ (next r (now (nodes .exit)) (now (colours .exit)) ≡ round count (now (nodes .entry)) (now (colours .entry)) root ix)
         × (reach r ≡ changes count (roundHulls count (now (nodes .entry)) (now (colours .entry)) ix)) ⌝ }
 {
@@ -333,7 +333,7 @@ fn restructure_rm_complex_cases(
     root: u64,
     ix: u64,
 ) -> Repaired
-    requires { ⌜ (count * 8 ≤ length (now nodes)) × (count ≤ length (now colours) * 8) × (ix < count) ⌝ }
+    requires { ⌜ Holds (now nodes) count × HoldsBits (now colours) count × (ix < count) ⌝ }
     ensures { λ r. ⌜ (store (now (nodes .exit)) (now (colours .exit)) (r .root) ≡ ending (repair count 36 (now (nodes .entry)) (now (colours .entry)) root ix))
         × (r .reach ≡ changes count (repairHulls count 36 (now (nodes .entry)) (now (colours .entry)) root ix)) ⌝ }
 {
@@ -373,7 +373,7 @@ pub fn restructure_rm(
     ix: u64,
     child: u64,
 ) -> Repaired
-    requires { ⌜ (count * 8 ≤ length (now nodes)) × (count ≤ length (now colours) * 8) × (ix < count) ⌝ }
+    requires { ⌜ Holds (now nodes) count × HoldsBits (now colours) count × (ix < count) ⌝ }
     ensures { λ r. ⌜ (store (now (nodes .exit)) (now (colours .exit)) (r .root) ≡ restructure count (now (nodes .entry)) (now (colours .entry)) root ix child)
         × (r .reach ≡ changes count (restructureHulls count (now (nodes .entry)) (now (colours .entry)) root ix child)) ⌝ }
 {

@@ -3,13 +3,13 @@ use mathlib.Core.Path.{_≡_, refl, sym, ap, _∙_}
 use mathlib.Core.Logic.{_≢_}
 use mathlib.Core.Bool.{Bool, true, false, not, cond, true≢false}
 use mathlib.Core.List.{List}
-use Prim.Native.Nat.{ℕ, zero, suc, _+_, _*_, _<_, _≤_}
+use Prim.Native.Nat.{ℕ, zero, suc, _+_, _*_, _<_}
 use native.Mathlib.Omega.{arith}
 use lib.Dec.{eqb}
 use lib.ListN.{length, length-set}
 use lib.Seq.{getD-set-same, getD-set-other}
 use borrow.Author.Tests.{eqb-true, eqb-false}
-use Rattle.words.specs.Nodes.{place, word, put, kid, par, hull, entry, putKid, putPar, putEntry, putHull, putNode, swap, hullOf, fix}
+use Rattle.words.specs.Nodes.{place, word, put, kid, par, hull, entry, putKid, putPar, putEntry, putHull, putNode, swap, hullOf, fix, Has}
 use Rattle.words.specs.declared.interval.Interval.{Interval}
 use Rattle.words.specs.declared.node.Entry.{Entry}
 use Rattle.words.specs.declared.node.Field.{Field}
@@ -55,7 +55,7 @@ module _ (W : List ℕ) (f : Field) (s v : ℕ) where
   unfolding put
   length-put = length-set W (s * 8 + place f) v
 
-  pub word-put : s * 8 + 8 ≤ length W → word (put W f s v) f s ≡ v
+  pub word-put : Has W s → word (put W f s v) f s ≡ v
   unfolding word put
   word-put h = getD-set-same W (s * 8 + place f) v 0 (omega (arith, place-low f))
 
@@ -155,7 +155,7 @@ module _ (W : List ℕ) (s : ℕ) (e : Entry) where
   unfolding putEntry
   word-putEntry-slot g a d = simp word-put-slot
 
-  pub entry-putEntry : s * 8 + 8 ≤ length W → entry (putEntry W s e) s ≡ e
+  pub entry-putEntry : Has W s → entry (putEntry W s e) s ≡ e
   unfolding putEntry
   entry-putEntry h =
       let A : List ℕ = put W Start s (e .start) in
@@ -185,7 +185,7 @@ module _ (W : List ℕ) (s : ℕ) (h : Interval) where
   unfolding putHull
   word-putHull-slot g a d = simp word-put-slot
 
-  pub hull-putHull : s * 8 + 8 ≤ length W → hull (putHull W s h) s ≡ h
+  pub hull-putHull : Has W s → hull (putHull W s h) s ≡ h
   unfolding putHull
   hull-putHull m =
       let A : List ℕ = put W HullStart s (h .start) in
@@ -208,7 +208,7 @@ module _ (n : ℕ) (W : List ℕ) (s : ℕ) where
   unfolding fix
   word-fix-slot g a d = word-putHull-slot W s (hullOf n W s) g a d
 
-  pub hull-fix : s * 8 + 8 ≤ length W → hull (fix n W s) s ≡ hullOf n W s
+  pub hull-fix : Has W s → hull (fix n W s) s ≡ hullOf n W s
   unfolding fix
   hull-fix m = hull-putHull W s (hullOf n W s) m
 
@@ -226,11 +226,11 @@ module _ (W : List ℕ) (i j : ℕ) where
   unfolding swap
   word-swap-slot g a d e = word-putEntry-slot _ j (entry W i) g a e ∙ word-putEntry-slot W i (entry W j) g a d
 
-  pub entry-swap-second : j * 8 + 8 ≤ length W → entry (swap W i j) j ≡ entry W i
+  pub entry-swap-second : Has W j → entry (swap W i j) j ≡ entry W i
   unfolding swap
   entry-swap-second m = entry-putEntry _ j (entry W i) (rw length-putEntry m)
 
-  pub entry-swap-first : i * 8 + 8 ≤ length W → entry (swap W i j) i ≡ entry W j
+  pub entry-swap-first : Has W i → entry (swap W i j) i ≡ entry W j
   unfolding swap
   entry-swap-first m = go (eqb i j) refl
     where
@@ -250,12 +250,12 @@ module _ (X : List ℕ) (s left right up : ℕ) where
       word-put-field _ Parent s up inLinks g s refl q ∙ word-put-field _ (Child false) s right inLinks g s refl q
       ∙ word-put-field X (Child true) s left inLinks g s refl q
 
-  kid-links : (b : Bool) → s * 8 + 8 ≤ length X → kid links b s ≡ cond b left right
+  kid-links : (b : Bool) → Has X s → kid links b s ≡ cond b left right
   kid-links true m =
       kid-putPar _ s up true s ∙ kid-putKid-not (putKid X true s left) s right true s ∙ word-put X (Child true) s left m
   kid-links false m = kid-putPar _ s up false s ∙ word-put (putKid X true s left) (Child false) s right (rw length-put m)
 
-  par-links : s * 8 + 8 ≤ length X → par links s ≡ up
+  par-links : Has X s → par links s ≡ up
   par-links m = word-put (putKid (putKid X true s left) false s right) Parent s up (simp length-put m)
 
 -- all eight words are written
@@ -268,7 +268,7 @@ module _ (W : List ℕ) (s : ℕ) (e : Entry) (h : Interval) (left right up : �
   unfolding putNode
   word-putNode-slot g a d = simp (word-put-slot, word-putHull-slot, word-putEntry-slot)
 
-  pub entry-putNode : s * 8 + 8 ≤ length W → entry (putNode W s e h left right up) s ≡ e
+  pub entry-putNode : Has W s → entry (putNode W s e h left right up) s ≡ e
   unfolding putNode
   entry-putNode m =
       let X : List ℕ = putEntry W s e in
@@ -276,7 +276,7 @@ module _ (W : List ℕ) (s : ℕ) (e : Entry) (h : Interval) (left right up : �
       same-entry Y (links Y s left right up) s (λ g q. word-links Y s left right up g (entry-no-link g q))
       ∙ same-entry X Y s (λ g q. word-putHull X s h g s (entry-no-hull g q)) ∙ entry-putEntry W s e m
 
-  pub hull-putNode : s * 8 + 8 ≤ length W → hull (putNode W s e h left right up) s ≡ h
+  pub hull-putNode : Has W s → hull (putNode W s e h left right up) s ≡ h
   unfolding putNode
   hull-putNode m =
       let X : List ℕ = putEntry W s e in
@@ -285,10 +285,10 @@ module _ (W : List ℕ) (s : ℕ) (e : Entry) (h : Interval) (left right up : �
       λ t. record { start = word-links Y s left right up HullStart refl t; end = word-links Y s left right up HullEnd refl t } in
       p ∙ hull-putHull X s h (rw length-putEntry m)
 
-  pub kid-putNode : (b : Bool) → s * 8 + 8 ≤ length W → kid (putNode W s e h left right up) b s ≡ cond b left right
+  pub kid-putNode : (b : Bool) → Has W s → kid (putNode W s e h left right up) b s ≡ cond b left right
   unfolding putNode
   kid-putNode b m = kid-links (putHull (putEntry W s e) s h) s left right up b (simp (length-putHull, length-putEntry) m)
 
-  pub par-putNode : s * 8 + 8 ≤ length W → par (putNode W s e h left right up) s ≡ up
+  pub par-putNode : Has W s → par (putNode W s e h left right up) s ≡ up
   unfolding putNode
   par-putNode m = par-links (putHull (putEntry W s e) s h) s left right up (simp (length-putHull, length-putEntry) m)

@@ -3,9 +3,8 @@ use crate::interval::Interval;
 use crate::interval::smaller;
 use crate::ix::Link;
 ghost use mathlib.Core.Path.{_≡_};
-ghost use Prim.Native.Nat.{_+_, _*_, _<_, _≤_};
-ghost use lib.ListN.{length};
-ghost use Rattle.words.specs.Nodes.{place, word, put, start, stop, value, lo, hi, kid, par, interval, hull, entry, putKid, putPar, putEntry, putHull, putNode, swap, joined, hullOf, altered, fix, slotsIn, capacity};
+ghost use Prim.Native.Nat.{_+_, _*_, _<_};
+ghost use Rattle.words.specs.Nodes.{place, word, put, start, stop, value, lo, hi, kid, par, interval, hull, entry, putKid, putPar, putEntry, putHull, putNode, swap, joined, hullOf, altered, fix, slotsIn, capacity, Has, Holds};
 
 // How many words a node has: where the words of a store can be cut between two slots.
 pub const NODE_WORDS: usize = 8;
@@ -64,49 +63,49 @@ impl Field {
 }
 
 fn word_of(nodes: &[u64], s: u64, f: Field) -> u64
-    requires { ⌜ s * 8 + 8 ≤ length (now nodes) ⌝ }
+    requires { ⌜ Has (now nodes) s ⌝ }
     ensures { λ r. ⌜ r ≡ word (now (nodes .entry)) f s ⌝ }
 {
     nodes[(s * 8 + f.place()) as usize]
 }
 
 fn put_word(nodes: &mut [u64], s: u64, f: Field, v: u64)
-    requires { ⌜ s * 8 + 8 ≤ length (now nodes) ⌝ }
+    requires { ⌜ Has (now nodes) s ⌝ }
     ensures { λ _. ⌜ now (nodes .exit) ≡ put (now (nodes .entry)) f s v ⌝ }
 {
     nodes[(s * 8 + f.place()) as usize] = v;
 }
 
 pub fn start_of(nodes: &[u64], s: u64) -> u64
-    requires { ⌜ s * 8 + 8 ≤ length (now nodes) ⌝ }
+    requires { ⌜ Has (now nodes) s ⌝ }
     ensures { λ r. ⌜ r ≡ start (now (nodes .entry)) s ⌝ }
 {
     word_of(nodes, s, Field::Start)
 }
 
 pub fn end_of(nodes: &[u64], s: u64) -> u64
-    requires { ⌜ s * 8 + 8 ≤ length (now nodes) ⌝ }
+    requires { ⌜ Has (now nodes) s ⌝ }
     ensures { λ r. ⌜ r ≡ stop (now (nodes .entry)) s ⌝ }
 {
     word_of(nodes, s, Field::End)
 }
 
 pub fn value_of(nodes: &[u64], s: u64) -> u64
-    requires { ⌜ s * 8 + 8 ≤ length (now nodes) ⌝ }
+    requires { ⌜ Has (now nodes) s ⌝ }
     ensures { λ r. ⌜ r ≡ value (now (nodes .entry)) s ⌝ }
 {
     word_of(nodes, s, Field::Value)
 }
 
 pub fn hull_start_of(nodes: &[u64], s: u64) -> u64
-    requires { ⌜ s * 8 + 8 ≤ length (now nodes) ⌝ }
+    requires { ⌜ Has (now nodes) s ⌝ }
     ensures { λ r. ⌜ r ≡ lo (now (nodes .entry)) s ⌝ }
 {
     word_of(nodes, s, Field::HullStart)
 }
 
 pub fn hull_end_of(nodes: &[u64], s: u64) -> u64
-    requires { ⌜ s * 8 + 8 ≤ length (now nodes) ⌝ }
+    requires { ⌜ Has (now nodes) s ⌝ }
     ensures { λ r. ⌜ r ≡ hi (now (nodes .entry)) s ⌝ }
 {
     word_of(nodes, s, Field::HullEnd)
@@ -114,21 +113,21 @@ pub fn hull_end_of(nodes: &[u64], s: u64) -> u64
 
 // The child link of slot s: the left one where `left_side` holds.
 pub fn child_of(nodes: &[u64], s: u64, left_side: bool) -> u64
-    requires { ⌜ s * 8 + 8 ≤ length (now nodes) ⌝ }
+    requires { ⌜ Has (now nodes) s ⌝ }
     ensures { λ r. ⌜ r ≡ kid (now (nodes .entry)) «left_side» s ⌝ }
 {
     word_of(nodes, s, Field::Child(left_side))
 }
 
 pub fn parent_of(nodes: &[u64], s: u64) -> u64
-    requires { ⌜ s * 8 + 8 ≤ length (now nodes) ⌝ }
+    requires { ⌜ Has (now nodes) s ⌝ }
     ensures { λ r. ⌜ r ≡ par (now (nodes .entry)) s ⌝ }
 {
     word_of(nodes, s, Field::Parent)
 }
 
 pub fn interval_of(nodes: &[u64], s: u64) -> Interval
-    requires { ⌜ s * 8 + 8 ≤ length (now nodes) ⌝ }
+    requires { ⌜ Has (now nodes) s ⌝ }
     ensures { λ r. ⌜ r ≡ interval (now (nodes .entry)) s ⌝ }
 {
     Interval {
@@ -139,7 +138,7 @@ pub fn interval_of(nodes: &[u64], s: u64) -> Interval
 
 // The hull of slot s: the least interval that contains those of its subtree.
 pub fn hull_at(nodes: &[u64], s: u64) -> Interval
-    requires { ⌜ s * 8 + 8 ≤ length (now nodes) ⌝ }
+    requires { ⌜ Has (now nodes) s ⌝ }
     ensures { λ r. ⌜ r ≡ hull (now (nodes .entry)) s ⌝ }
 {
     Interval {
@@ -149,7 +148,7 @@ pub fn hull_at(nodes: &[u64], s: u64) -> Interval
 }
 
 pub fn entry_of(nodes: &[u64], s: u64) -> Entry
-    requires { ⌜ s * 8 + 8 ≤ length (now nodes) ⌝ }
+    requires { ⌜ Has (now nodes) s ⌝ }
     ensures { λ r. ⌜ r ≡ entry (now (nodes .entry)) s ⌝ }
 {
     Entry {
@@ -160,7 +159,7 @@ pub fn entry_of(nodes: &[u64], s: u64) -> Entry
 }
 
 pub fn put_entry(nodes: &mut [u64], s: u64, e: Entry)
-    requires { ⌜ s * 8 + 8 ≤ length (now nodes) ⌝ }
+    requires { ⌜ Has (now nodes) s ⌝ }
     ensures { λ _. ⌜ now (nodes .exit) ≡ putEntry (now (nodes .entry)) s e ⌝ }
 {
     put_word(nodes, s, Field::Start, e.start);
@@ -169,7 +168,7 @@ pub fn put_entry(nodes: &mut [u64], s: u64, e: Entry)
 }
 
 pub fn put_hull(nodes: &mut [u64], s: u64, h: Interval)
-    requires { ⌜ s * 8 + 8 ≤ length (now nodes) ⌝ }
+    requires { ⌜ Has (now nodes) s ⌝ }
     ensures { λ _. ⌜ now (nodes .exit) ≡ putHull (now (nodes .entry)) s h ⌝ }
 {
     put_word(nodes, s, Field::HullStart, h.start);
@@ -177,14 +176,14 @@ pub fn put_hull(nodes: &mut [u64], s: u64, h: Interval)
 }
 
 pub fn put_child(nodes: &mut [u64], s: u64, left_side: bool, v: u64)
-    requires { ⌜ s * 8 + 8 ≤ length (now nodes) ⌝ }
+    requires { ⌜ Has (now nodes) s ⌝ }
     ensures { λ _. ⌜ now (nodes .exit) ≡ putKid (now (nodes .entry)) «left_side» s v ⌝ }
 {
     put_word(nodes, s, Field::Child(left_side), v);
 }
 
 pub fn put_parent(nodes: &mut [u64], s: u64, v: u64)
-    requires { ⌜ s * 8 + 8 ≤ length (now nodes) ⌝ }
+    requires { ⌜ Has (now nodes) s ⌝ }
     ensures { λ _. ⌜ now (nodes .exit) ≡ putPar (now (nodes .entry)) s v ⌝ }
 {
     put_word(nodes, s, Field::Parent, v);
@@ -192,7 +191,7 @@ pub fn put_parent(nodes: &mut [u64], s: u64, v: u64)
 
 // All eight words of slot s.
 pub fn put_node(nodes: &mut [u64], s: u64, e: Entry, h: Interval, left: u64, right: u64, up: u64)
-    requires { ⌜ s * 8 + 8 ≤ length (now nodes) ⌝ }
+    requires { ⌜ Has (now nodes) s ⌝ }
     ensures { λ _. ⌜ now (nodes .exit) ≡ putNode (now (nodes .entry)) s e h left right up ⌝ }
 {
     put_entry(nodes, s, e);
@@ -204,7 +203,7 @@ pub fn put_node(nodes: &mut [u64], s: u64, e: Entry, h: Interval, left: u64, rig
 
 // Swaps values and intervals between two nodes: six words. The hulls belong to the places in the tree and stay.
 pub fn swap_with(nodes: &mut [u64], i: u64, j: u64)
-    requires { ⌜ (i * 8 + 8 ≤ length (now nodes)) × (j * 8 + 8 ≤ length (now nodes)) ⌝ }
+    requires { ⌜ Has (now nodes) i × Has (now nodes) j ⌝ }
     ensures { λ _. ⌜ now (nodes .exit) ≡ swap (now (nodes .entry)) i j ⌝ }
 {
     let a = entry_of(nodes, i);
@@ -215,7 +214,7 @@ pub fn swap_with(nodes: &mut [u64], i: u64, j: u64)
 
 // The interval d, extended by the hull behind a link if that leads to a slot.
 fn extend_by(nodes: &[u64], count: u64, word: u64, d: Interval) -> Interval
-    requires { ⌜ count * 8 ≤ length (now nodes) ⌝ }
+    requires { ⌜ Holds (now nodes) count ⌝ }
     ensures { λ r. ⌜ r ≡ joined count (now (nodes .entry)) word d ⌝ }
 {
     let Link::Slot(k) = Link::new(word, count) else {
@@ -226,7 +225,7 @@ fn extend_by(nodes: &[u64], count: u64, word: u64, d: Interval) -> Interval
 
 // The hull from the node's own interval and its children's hulls.
 pub fn subtree_interval(nodes: &[u64], count: u64, index: u64) -> Interval
-    requires { ⌜ (count * 8 ≤ length (now nodes)) × (index < count) ⌝ }
+    requires { ⌜ Holds (now nodes) count × (index < count) ⌝ }
     ensures { λ r. ⌜ r ≡ hullOf count (now (nodes .entry)) index ⌝ }
 {
     let own = interval_of(nodes, index);
@@ -236,7 +235,7 @@ pub fn subtree_interval(nodes: &[u64], count: u64, index: u64) -> Interval
 
 // Works the hull of slot `index` out afresh, and says whether either end changed.
 pub fn update_subtree_interval(nodes: &mut [u64], count: u64, index: u64) -> bool
-    requires { ⌜ (count * 8 ≤ length (now nodes)) × (index < count) ⌝ }
+    requires { ⌜ Holds (now nodes) count × (index < count) ⌝ }
     ensures { λ r. ⌜ (r ≡ altered count (now (nodes .entry)) index) × (now (nodes .exit) ≡ fix count (now (nodes .entry)) index) ⌝ }
 {
     let old = hull_at(nodes, index);
