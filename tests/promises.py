@@ -13,7 +13,7 @@ import sys
 TOP = pathlib.Path(__file__).resolve().parent.parent
 
 # Here every public function is a public call.
-CALLS = {'iset', 'capi', 'capi_open', 'slots', 'lines'}
+CALLS = {'iset', 'capi', 'iset_c_open', 'slots', 'lines'}
 # But these modules hold what one face of the exports lends to the other: inner functions.
 INNER = {('capi', 'answer'), ('capi', 'range')}
 # Here the public calls are those that answer one of these types, and `new`; the others are inner functions, as in all other crates.

@@ -2,8 +2,8 @@
 """The program `slotlist` by document 01's words and tests/model.py, and not by its code.
 
     slotlist.py print            what slotlist prints for standard input
-    slotlist.py cases stdin      the input of the program `slotcases`: crates/slotcases/stdin is this
-    slotlist.py cases stdout     what it should print: crates/slotcases/stdout is this
+    slotlist.py cases stdin      the input of the program `test_slotcases`: crates/test_slotcases/stdin is this
+    slotlist.py cases stdout     what it should print: crates/test_slotcases/stdout is this
     slotlist.py files FOLDER     each case as NAME.in and NAME.out, with the large ones, for tests/slotlist.sh
 """
 import os
@@ -167,7 +167,7 @@ def large_cases():
 
 
 def cases():
-    """The input of `slotcases`: each small case whole, byte by byte and in pieces of seven."""
+    """The input of `test_slotcases`: each small case whole, byte by byte and in pieces of seven."""
     for name, text in small_cases():
         for piece in (1, 7, 65536) if len(text) < 200 else (7, 65536):
             yield piece, text

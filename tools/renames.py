@@ -16,7 +16,23 @@ import sys
 # Crates: old name, new name.
 CRATES = [
     ("tree_rm_links", "tree_links"),
+    ("tree_rm_laws", "tree_rm_rule"),
+    ("tree_in_laws", "tree_in_rule"),
+    ("plain_laws", "plain_rule"),
+    ("capi_open", "iset_c_open"),
+    ("capi", "iset_c"),
+    ("driver", "drive_core"),
+    ("slotcases", "test_slotcases"),
+    ("slots", "slotlist_core"),
+    ("examples", "test_document"),
+    ("bits", "test_bits"),
+    ("limits", "test_limits"),
+    ("vectors", "test_vectors"),
 ]
+
+# Crates whose old name is a word of its own too: their names are replaced in paths, in crates.txt
+# and in front of `::` in an edit or in another crate's code alone.
+WORDS = {"slots", "examples", "bits", "limits", "vectors"}
 
 # Modules: crate (its new name), specs or proofs, old name, new name.
 MODULES = [
@@ -24,11 +40,11 @@ MODULES = [
     ("tree_edit", "proofs", "Turns", "Rotations"),
     ("tree_edit", "proofs", "Walk", "Upward"),
     ("tree_edit", "proofs", "Paint", "Colours"),
-    ("tree_rm_laws", "specs", "Removed", "RemovalGuarantee"),
-    ("tree_rm_laws", "proofs", "Mended", "RepairInPlace"),
-    ("tree_in_laws", "specs", "Inserted", "InsertionGuarantee"),
-    ("tree_in_laws", "specs", "Mend", "InsertRepair"),
-    ("tree_in_laws", "proofs", "Mends", "InsertRepaired"),
+    ("tree_rm_rule", "specs", "Removed", "RemovalGuarantee"),
+    ("tree_rm_rule", "proofs", "Mended", "RepairInPlace"),
+    ("tree_in_rule", "specs", "Inserted", "InsertionGuarantee"),
+    ("tree_in_rule", "specs", "Mend", "InsertRepair"),
+    ("tree_in_rule", "proofs", "Mends", "InsertRepaired"),
     ("tree_in", "proofs", "Mends", "InsertRounds"),
     ("tree_rm_repair", "proofs", "Turns", "Rounds"),
 ]
@@ -49,12 +65,12 @@ FUNCTIONS = [
 
 # Paths, as regular expressions over the path below ROOT. The papers are always in scope.
 EDITS = r"crates/(tree_edit|tree_links|tree_rm\w*|tree_in\w*|tree_changes)/"
-LAWS = r"crates/(tree_edit|tree_rm_laws|tree_in_laws)/"
-BOTH = EDITS + r"|crates/examples/"
-COLOURS = EDITS + r"|crates/(bitvec|builder|builder_laws|examples)/"
-TREES = EDITS + r"|crates/(tree|audit|builder_laws|iter_laws|iset|examples)/"
-ROUND = r"crates/(tree_rm_laws|tree_rm_repair|tree_links)/"
-INSERT = r"crates/(tree_in|tree_in_laws|examples)/"
+LAWS = r"crates/(tree_edit|tree_rm_rule|tree_in_rule)/"
+BOTH = EDITS + r"|crates/test_document/"
+COLOURS = EDITS + r"|crates/(bitvec|builder|builder_laws|test_document)/"
+TREES = EDITS + r"|crates/(tree|audit|builder_laws|iter_laws|iset|test_document)/"
+ROUND = r"crates/(tree_rm_rule|tree_rm_repair|tree_links)/"
+INSERT = r"crates/(tree_in|tree_in_rule|test_document)/"
 DEMANDS = EDITS + r"|crates/iset/\w+/Demands"
 
 # A row that hands its old name on to another row holds only while ROOT has the old names: while
@@ -109,14 +125,14 @@ NAMES = [
     ("even", "equalBlacks", TREES),
     ("dark", "blackOf", TREES),
     ("dark-le", "blackOf-le", TREES),
-    ("Even", "BlackHeight", r"crates/tree_in_laws/"),
-    ("Dark", "BlackRoot", r"crates/tree_in_laws/"),
-    ("keep-even", "keep-blackHeight", r"crates/tree_in_laws/"),
-    ("keep-dark", "keep-blackRoot", r"crates/tree_in_laws/"),
-    ("dark-P", "black-P", r"crates/tree_in_laws/"),
-    ("dark-Q", "black-Q", r"crates/tree_in_laws/"),
+    ("Even", "BlackHeight", r"crates/tree_in_rule/"),
+    ("Dark", "BlackRoot", r"crates/tree_in_rule/"),
+    ("keep-even", "keep-blackHeight", r"crates/tree_in_rule/"),
+    ("keep-dark", "keep-blackRoot", r"crates/tree_in_rule/"),
+    ("dark-P", "black-P", r"crates/tree_in_rule/"),
+    ("dark-Q", "black-Q", r"crates/tree_in_rule/"),
     # rotations
-    ("rotate", "placed-rotated", r"crates/tree_in_laws/(proofs/(Rotate|Loop)\.antt|must-fail/hull_below\.edit)", FIRST),
+    ("rotate", "placed-rotated", r"crates/tree_in_rule/(proofs/(Rotate|Loop)\.antt|must-fail/hull_below\.edit)", FIRST),
     *((f"{a}turn{b}", f"{a}rotate{b}", BOTH) for a in ("", "agree-", "kept-", "length-", "low-", "is-", "stand-") for b in ("", "-2", "-4")),
     ("by-turn", "by-rotate", BOTH),
     ("turn-4-is", "rotate-4-is", BOTH),
@@ -124,7 +140,7 @@ NAMES = [
     ("Turned", "Rotated", BOTH),
     ("turned", "rotated-way", r"crates/tree_edit/"),
     ("turned", "made", r"crates/tree_links/"),
-    ("turned", "after-rotation", r"crates/tree_in_laws/"),
+    ("turned", "after-rotation", r"crates/tree_in_rule/"),
     ("turned", "rotated", r"crates/tree_in/src/"),
     ("turned-below", "rotated-below", BOTH),
     ("stand-turned", "stand-rotated", BOTH),
@@ -151,7 +167,7 @@ NAMES = [
     ("follows-step", "follows-round", BOTH),
     ("step-two", "round-two", BOTH),
     ("step-stays", "round-stays", BOTH),
-    ("step-good", "round-good", r"crates/tree_in_laws/"),
+    ("step-good", "round-good", r"crates/tree_in_rule/"),
     ("step-root", "round-root", BOTH),
     ("step-black", "round-black", BOTH),
     ("step-red", "round-red", BOTH),
@@ -170,7 +186,7 @@ NAMES = [
     ("mended-turn", "roundAt-in-place", LAWS),
     ("mended-step", "round-in-place", LAWS),
     ("mended-restructure", "restructure-in-place", LAWS),
-    ("mended", "repair-in-place", r"crates/tree_rm_laws/"),
+    ("mended", "repair-in-place", r"crates/tree_rm_rule/"),
     ("mended", "repaired", r"crates/tree_rm/"),
     ("mended-most", "repaired-most", r"crates/tree_rm/"),
     # insertion's repair
@@ -187,26 +203,26 @@ NAMES = [
     ("mend-hulls", "insert-hulls", INSERT),
     ("mend-stays", "insert-stays", INSERT),
     ("mends", "insert-rounds", r"crates/tree_in/"),
-    ("mends", "insertRepaired", r"crates/tree_in_laws/"),
+    ("mends", "insertRepaired", r"crates/tree_in_rule/"),
     # removal
-    ("instead", "movedTo", r"crates/(tree_rm\w*|examples)/"),
+    ("instead", "movedTo", r"crates/(tree_rm\w*|test_document)/"),
     ("instead-here", "movedTo-here", LAWS),
     ("instead-other", "movedTo-other", LAWS),
     ("instead-self", "movedTo-self", LAWS),
-    ("sorted", "byOldSlot", r"crates/(tree_rm_laws|tree_rm_pairs)/"),
-    ("sorted-none", "byOldSlot-none", r"crates/tree_rm_laws/"),
-    ("Removed", "RemovalGuarantee", r"crates/tree_rm_laws/|crates/iset/(specs/Demands|proofs/(Removals|Answers|After))\.antt", FIRST),
-    ("Removal", "Removed", r"crates/tree_rm_laws/|crates/tree_rm/proofs/Removes\.antt|crates/iset/(specs/Demands|proofs/(Sequence|Demands|After))\.antt", FIRST),
-    ("SameRemoval", "SameRemoved", r"crates/(tree_rm_laws|iset)/"),
-    ("Inserted", "InsertionGuarantee", r"crates/tree_in_laws/|crates/iset/(specs|proofs)/", FIRST),
+    ("sorted", "byOldSlot", r"crates/(tree_rm_rule|tree_rm_pairs)/"),
+    ("sorted-none", "byOldSlot-none", r"crates/tree_rm_rule/"),
+    ("Removed", "RemovalGuarantee", r"crates/tree_rm_rule/|crates/iset/(specs/Demands|proofs/(Removals|Answers|After))\.antt", FIRST),
+    ("Removal", "Removed", r"crates/tree_rm_rule/|crates/tree_rm/proofs/Removes\.antt|crates/iset/(specs/Demands|proofs/(Sequence|Demands|After))\.antt", FIRST),
+    ("SameRemoval", "SameRemoved", r"crates/(tree_rm_rule|iset)/"),
+    ("Inserted", "InsertionGuarantee", r"crates/tree_in_rule/|crates/iset/(specs|proofs)/", FIRST),
 ]
 
 # Places that take more than a name: path, old text, new text. They go first.
 TEXTS = [
-    ("crates/examples/proofs/Examples.antt", "turnAt, step, repair}", "turnAt, round, repair}"),
-    ("crates/examples/proofs/Examples.antt", "turnOf turnAt step repair", "turnOf turnAt round repair"),
-    ("crates/examples/proofs/Examples.antt", "lower, upper, sorted, moved}", "lower, upper, byOldSlot, moved}"),
-    ("crates/examples/proofs/Examples.antt", "lower upper sorted moved", "lower upper byOldSlot moved"),
+    ("crates/test_document/proofs/Examples.antt", "turnAt, step, repair}", "turnAt, round, repair}"),
+    ("crates/test_document/proofs/Examples.antt", "turnOf turnAt step repair", "turnOf turnAt round repair"),
+    ("crates/test_document/proofs/Examples.antt", "lower, upper, sorted, moved}", "lower, upper, byOldSlot, moved}"),
+    ("crates/test_document/proofs/Examples.antt", "lower upper sorted moved", "lower upper byOldSlot moved"),
     ("crates/iset/specs/Remove.antt", "rule.Removal", "rule.Removed"),
     ("crates/iset/proofs/Laws.antt", "specs.Remove.{Removal}", "specs.Remove as rule"),
     ("crates/iset/proofs/Laws.antt", "(R : Removal)", "(R : rule.Removed)"),
@@ -303,9 +319,11 @@ class Names:
 def with_crates(path, line):
     for old, new in CRATES:
         line = re.sub(rf"Rattle.{old}(?=[·.])", f"Rattle.{new}", line)
-        line = re.sub(rf"(?<![\w:]){old}::", f"{new}::", line)
+        if old not in WORDS or re.match(rf"(refused:|use) {old}::", line):
+            line = re.sub(rf"(?<![\w:]){old}::", f"{new}::", line)
         line = re.sub(rf"crates/{old}(?!\w)", f"crates/{new}", line)
-        line = line.replace(f"`{old}`", f"`{new}`")
+        if old not in WORDS:
+            line = line.replace(f"`{old}`", f"`{new}`")
         if path == "crates.txt" or "_" in old:
             line = re.sub(rf"(?<!\w){old}(?!\w)", new, line)
     return line
@@ -371,6 +389,9 @@ def in_scope(path):
 
 
 def run(root):
+    for old, new in CRATES:
+        if os.path.isdir(os.path.join(root, "crates", old)):
+            os.rename(os.path.join(root, "crates", old), os.path.join(root, "crates", new))
     once = os.path.join(root, ONCE[0])
     guarded = not (os.path.exists(once) and ONCE[1] in open(once).read())
     for folder, _, files in os.walk(root):

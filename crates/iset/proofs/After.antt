@@ -12,13 +12,13 @@ use Rattle.words.specs.Nodes.{entry}
 use Rattle.tree.specs.Tree.{hit, slots, without, times}
 use Rattle.tree.proofs.Slots.{hit-same, hit-ne, hit-cases, hit-zero, times-slots}
 use Rattle.tree.proofs.Checked.{slot-live}
-use Rattle.tree_rm_laws.specs.Names.{changed, same, tally}
-use Rattle.tree_rm_laws.specs.Remove.{Removed, removeRule}
-use Rattle.tree_rm_laws.specs.RemovalGuarantee.{RemovalGuarantee}
+use Rattle.tree_rm_rule.specs.Names.{changed, same, tally}
+use Rattle.tree_rm_rule.specs.Remove.{Removed, removeRule}
+use Rattle.tree_rm_rule.specs.RemovalGuarantee.{RemovalGuarantee}
 use Rattle.words.specs.declared.pair.Pair.{Pair}
 use Rattle.words.specs.declared.pair.Pairs.{Pairs}
-use Rattle.tree_rm_laws.proofs.PairLaws.{same-else, same-here}
-use Rattle.tree_rm_laws.proofs.Rows.{times-without}
+use Rattle.tree_rm_rule.proofs.PairLaws.{same-else, same-here}
+use Rattle.tree_rm_rule.proofs.Rows.{times-without}
 use Rattle.iset.specs.Remove.{removeNumber, removeCall, moved, slotAfter}
 use Rattle.iset.specs.declared.Map.{Map}
 use Rattle.iset.proofs.Removals.{accepts, tree-before, by-rule}

@@ -20,10 +20,10 @@ use Rattle.words.specs.declared.node.Entry.{Entry}
 use Rattle.tree.specs.Tree.{slots}
 use Rattle.tree.specs.Passes.{Passes}
 use Rattle.builder_laws.specs.Built.{Built}
-use Rattle.tree_rm_laws.specs.RemovalGuarantee.{RemovalGuarantee}
-use Rattle.tree_rm_laws.proofs.Removal.{removed}
-use Rattle.tree_in_laws.specs.InsertionGuarantee.{InsertionGuarantee}
-use Rattle.tree_in_laws.proofs.Insertion.{inserted}
+use Rattle.tree_rm_rule.specs.RemovalGuarantee.{RemovalGuarantee}
+use Rattle.tree_rm_rule.proofs.Removal.{removed}
+use Rattle.tree_in_rule.specs.InsertionGuarantee.{InsertionGuarantee}
+use Rattle.tree_in_rule.proofs.Insertion.{inserted}
 use Rattle.iter.specs.Exact.{equals}
 use Rattle.iter.specs.declared.Cursor.{Cursor}
 use Rattle.iter.specs.declared.drain.Drained.{Drained}

@@ -15,15 +15,15 @@ use Rattle.words.specs.declared.interval.Interval.{Interval}
 use Rattle.words.specs.declared.node.Entry.{Entry}
 use Rattle.words.specs.declared.node.Field.the-variants.{Start, End, HullStart, HullEnd, Child, Parent}
 use Rattle.audit.proofs.Unread.{whole-below}
-use Rattle.tree_rm_laws.specs.Remove.{removeRule}
+use Rattle.tree_rm_rule.specs.Remove.{removeRule}
 use Rattle.tree.specs.Below.{Agree}
 use Rattle.tree_edit.specs.Below.{Alike}
 use Rattle.tree_edit.proofs.Below.{link-same}
-use Rattle.tree_rm_laws.proofs.Below.{SameRemoved, removed-below}
-use Rattle.tree_rm_laws.proofs.Below as removal
-use Rattle.tree_in_laws.specs.Insert.{insertRule}
-use Rattle.tree_in_laws.proofs.Below.{inserted-below}
-use Rattle.tree_in_laws.proofs.Below as insertion
+use Rattle.tree_rm_rule.proofs.Below.{SameRemoved, removed-below}
+use Rattle.tree_rm_rule.proofs.Below as removal
+use Rattle.tree_in_rule.specs.Insert.{insertRule}
+use Rattle.tree_in_rule.proofs.Below.{inserted-below}
+use Rattle.tree_in_rule.proofs.Below as insertion
 use Rattle.stack.specs.States.{top, stateAt}
 use Rattle.iter.specs.Cursors.{stackOf}
 use Rattle.iter.specs.Walk.{Rules, deeper, down, move, hits, ending, hitting, counts, seek, fuel, step}

@@ -8,15 +8,15 @@ use borrow.Author.Tests.{eq-eqb}
 use Rattle.words.specs.Nodes.{capacity}
 use Rattle.words.specs.declared.node.Entry.{Entry}
 use Rattle.tree_edit.specs.Reach.{Follows}
-use Rattle.tree_rm_laws.specs.Remove.{Removed, removeRule, removeWith}
-use Rattle.tree_rm_laws.proofs.Enough as removal-numbers
-use Rattle.tree_rm_laws.proofs.Reached as removal-hulls
-use Rattle.tree_in_laws.specs.Descent.{under}
-use Rattle.tree_in_laws.specs.Insert.{own, hungWords, insertRule}
-use Rattle.tree_in_laws.specs.Reach.{insertHulls}
-use Rattle.tree_in_laws.specs.InsertionGuarantee.{insertWith}
-use Rattle.tree_in_laws.proofs.Insertion as insertion-numbers
-use Rattle.tree_in_laws.proofs.Reached as insertion-hulls
+use Rattle.tree_rm_rule.specs.Remove.{Removed, removeRule, removeWith}
+use Rattle.tree_rm_rule.proofs.Enough as removal-numbers
+use Rattle.tree_rm_rule.proofs.Reached as removal-hulls
+use Rattle.tree_in_rule.specs.Descent.{under}
+use Rattle.tree_in_rule.specs.Insert.{own, hungWords, insertRule}
+use Rattle.tree_in_rule.specs.Reach.{insertHulls}
+use Rattle.tree_in_rule.specs.InsertionGuarantee.{insertWith}
+use Rattle.tree_in_rule.proofs.Insertion as insertion-numbers
+use Rattle.tree_in_rule.proofs.Reached as insertion-hulls
 use Rattle.iset.specs.Changes.{Change}
 use Rattle.iset.specs.Remove.{RemoveAnswer, removeNumber, removeReach, removeCall}
 use Rattle.iset.specs.Insert.{InsertAnswer, insertNumber, insertReach, insertCall}

@@ -11,9 +11,9 @@ use borrow.Author.Tests.{ltb-true, lt-ltb, le-ltb, ne-eqb}
 use Rattle.words.specs.Nodes.{capacity}
 use Rattle.words.specs.declared.node.Entry.{Entry}
 use Rattle.tree.specs.Passes.{Passes}
-use Rattle.tree_in_laws.specs.Insert.{insertRule}
-use Rattle.tree_in_laws.specs.InsertionGuarantee.{InsertionGuarantee}
-use Rattle.tree_in_laws.proofs.Insertion.{inserted}
+use Rattle.tree_in_rule.specs.Insert.{insertRule}
+use Rattle.tree_in_rule.specs.InsertionGuarantee.{InsertionGuarantee}
+use Rattle.tree_in_rule.proofs.Insertion.{inserted}
 use Rattle.iset.specs.Check.{first, checkRule}
 use Rattle.iset.specs.Insert.{fullNumber, openInsertNumber, roomThenCheck, insertNumber}
 use Rattle.iset.specs.declared.Map.{Map}

@@ -13,7 +13,7 @@ use Rattle.words.specs.declared.node.Entry.{Entry}
 use Rattle.words.specs.declared.refusal.Refusal.{Refusal}
 use Rattle.words.proofs.Refusals.{number-pos}
 use Rattle.builder.specs.Input.{allProper, sorted}
-use Rattle.tree_rm_laws.specs.Remove as rule
+use Rattle.tree_rm_rule.specs.Remove as rule
 use Rattle.tree_edit.specs.Store.{Store, store}
 use Rattle.tree_rm.specs.Answers.{removal}
 use Rattle.tree_rm.specs.declared.remove.Removed.{Removed}

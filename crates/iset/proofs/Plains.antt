@@ -20,8 +20,8 @@ use Rattle.iter.specs.Queries.{rules}
 use Rattle.iter.specs.declared.Cursor.{Cursor}
 use Rattle.iter.specs.declared.rules.Query.{Query}
 use Rattle.iter.specs.declared.rules.Query.the-variants.{Overlap, Exact}
-use Rattle.plain_laws.specs.Tour as tour
-use Rattle.plain_laws.proofs.Tours.{entries-are, entered-all}
+use Rattle.plain_rule.specs.Tour as tour
+use Rattle.plain_rule.proofs.Tours.{entries-are, entered-all}
 use Rattle.plain.specs.declared.Tally.{Tally}
 use Rattle.iset.specs.Changes.{Output, output}
 use Rattle.iset.specs.Check.{checkNumber}

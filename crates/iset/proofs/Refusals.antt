@@ -24,7 +24,7 @@ use Rattle.tree.specs.Tree.{leaf}
 use Rattle.tree.specs.Order.{NotAfter}
 use Rattle.tree.specs.Passes.{Passes}
 use Rattle.tree.proofs.Orders.{le-sound, le-complete}
-use Rattle.tree_rm_laws.specs.Pairs.{none}
+use Rattle.tree_rm_rule.specs.Pairs.{none}
 use Rattle.builder.specs.Input.{startOf, endOf, intervalOf, count, every, properAt, inOrder, allProper, sorted}
 use Rattle.builder_laws.proofs.Tests.{every-sound}
 use Rattle.iter.specs.Cursors.{ended}

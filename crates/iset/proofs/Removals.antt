@@ -10,9 +10,9 @@ use lib.Dec.{ltb}
 use borrow.Author.Tests.{ltb-true, lt-ltb, le-ltb, ne-eqb}
 use Rattle.words.specs.Nodes.{capacity}
 use Rattle.tree.specs.Passes.{Passes}
-use Rattle.tree_rm_laws.specs.Remove.{removeRule}
-use Rattle.tree_rm_laws.specs.RemovalGuarantee.{RemovalGuarantee}
-use Rattle.tree_rm_laws.proofs.Removal.{removed}
+use Rattle.tree_rm_rule.specs.Remove.{removeRule}
+use Rattle.tree_rm_rule.specs.RemovalGuarantee.{RemovalGuarantee}
+use Rattle.tree_rm_rule.proofs.Removal.{removed}
 use Rattle.iset.specs.Check.{countNumber, checkRule}
 use Rattle.iset.specs.Remove.{openRemoveNumber, removeNumber}
 use Rattle.iset.specs.declared.Map.{Map}

@@ -15,11 +15,11 @@ use Rattle.tree.specs.Passes.{Passes}
 use Rattle.builder.specs.Build.{buildWords, buildColours, buildRoot}
 use Rattle.tree_edit.specs.Store.{Store, store}
 use Rattle.tree_edit.specs.Inside.{Inside}
-use Rattle.tree_rm_laws.specs.Remove.{Removed, removeRule}
-use Rattle.tree_rm_laws.proofs.Inside.{removed-inside}
-use Rattle.tree_in_laws.specs.Insert.{insertRule}
+use Rattle.tree_rm_rule.specs.Remove.{Removed, removeRule}
+use Rattle.tree_rm_rule.proofs.Inside.{removed-inside}
+use Rattle.tree_in_rule.specs.Insert.{insertRule}
 use Rattle.tree_changes.specs.Sequence.{Change, run, total, TakesAll}
-use Rattle.tree_in_laws.proofs.Inside.{inserted-inside}
+use Rattle.tree_in_rule.proofs.Inside.{inserted-inside}
 use Rattle.tree_changes.proofs.Sequence.{ran}
 use Rattle.iset.specs.Changes.{change}
 use Rattle.iset.specs.Changes as calls

@@ -11,15 +11,15 @@ use Rattle.words.specs.declared.interval.Span.{Span}
 use Rattle.words.specs.declared.node.Entry.{Entry}
 use Rattle.tree.specs.Passes.{Passes}
 use Rattle.builder_laws.specs.Built.{Built}
-use Rattle.tree_rm_laws.specs.Remove.{vacated, Removed, removeWith}
+use Rattle.tree_rm_rule.specs.Remove.{vacated, Removed, removeWith}
 use Rattle.tree_edit.specs.Store.{Store, store}
 use Rattle.tree_edit.specs.Reach.{changes, Follows}
-use Rattle.tree_rm_laws.specs.Reach.{removeHulls, cutFrom, lastStep}
-use Rattle.tree_rm_laws.specs.RemovalGuarantee.{RemovalGuarantee}
-use Rattle.tree_in_laws.specs.Descent.{under}
-use Rattle.tree_in_laws.specs.Insert.{own, hungWords}
-use Rattle.tree_in_laws.specs.InsertionGuarantee.{InsertionGuarantee, insertWith}
-use Rattle.tree_in_laws.specs.Reach.{insertHulls}
+use Rattle.tree_rm_rule.specs.Reach.{removeHulls, cutFrom, lastStep}
+use Rattle.tree_rm_rule.specs.RemovalGuarantee.{RemovalGuarantee}
+use Rattle.tree_in_rule.specs.Descent.{under}
+use Rattle.tree_in_rule.specs.Insert.{own, hungWords}
+use Rattle.tree_in_rule.specs.InsertionGuarantee.{InsertionGuarantee, insertWith}
+use Rattle.tree_in_rule.specs.Reach.{insertHulls}
 use Rattle.iter.specs.declared.Cursor.{Cursor}
 use Rattle.iter.specs.declared.rules.Query.{Query}
 use Rattle.iset.specs.Check.{checkRule}

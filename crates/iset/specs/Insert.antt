@@ -10,8 +10,8 @@ use Rattle.words.specs.Refusals.{refusalNumber}
 use Rattle.words.specs.declared.node.Entry.{Entry}
 use Rattle.tree_edit.specs.Store.{Store}
 use Rattle.tree_edit.specs.Reach.{changes}
-use Rattle.tree_in_laws.specs.Insert.{insertRule}
-use Rattle.tree_in_laws.specs.Reach.{insertHulls}
+use Rattle.tree_in_rule.specs.Insert.{insertRule}
+use Rattle.tree_in_rule.specs.Reach.{insertHulls}
 use Rattle.iset.specs.Changes.{Change, change}
 use Rattle.iset.specs.Check.{first, checkRule}
 use Rattle.iset.specs.Maps.{mapOf}

@@ -9,7 +9,7 @@ use Rattle.iter.specs.Drains.{filled}
 use Rattle.iter.specs.Queries.{rules}
 use Rattle.iter.specs.Walk.{Rules}
 use Rattle.iter.specs.declared.rules.Query.{Query}
-use Rattle.plain_laws.specs.Tour as tour
+use Rattle.plain_rule.specs.Tour as tour
 use Rattle.plain.specs.Answers.{tally}
 use Rattle.plain.specs.declared.Tally.{Tally}
 use Rattle.iset.specs.Changes.{Output, output}

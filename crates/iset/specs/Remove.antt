@@ -5,10 +5,10 @@ use Prim.Native.Nat.{ℕ, _-_}
 use lib.Dec.{eqb, ltb}
 use Rattle.words.specs.Ix.{U}
 use Rattle.words.specs.Refusals.{refusalNumber}
-use Rattle.tree_rm_laws.specs.Pairs.{none}
-use Rattle.tree_rm_laws.specs.Remove as rule
+use Rattle.tree_rm_rule.specs.Pairs.{none}
+use Rattle.tree_rm_rule.specs.Remove as rule
 use Rattle.tree_edit.specs.Reach.{changes}
-use Rattle.tree_rm_laws.specs.Reach.{removeHulls}
+use Rattle.tree_rm_rule.specs.Reach.{removeHulls}
 use Rattle.words.specs.declared.pair.Pair.{Pair}
 use Rattle.words.specs.declared.pair.Pairs.{Pairs}
 use Rattle.iset.specs.Changes.{Change, change}
@@ -55,7 +55,7 @@ removeReach m W C s = changes (m .count) (removeHulls W C (m .count) (m .root) s
 -- a slot that is there
 abbrev pub removeSlot : Map → List ℕ → List ℕ → ℕ → Change RemoveAnswer
 removeSlot m W C s =
-    let R : rule.Removal = rule.removeRule W C (m .count) (m .root) s in
+    let R : rule.Removed = rule.removeRule W C (m .count) (m .root) s in
     change (removeDone m R (removeReach m W C s)) (R .store .words) (R .store .colours)
 
 -- a call that is refused by the number k, or not

@@ -221,7 +221,13 @@ impl Map {
         let places = out.len() as u64;
         let Checked::Refused(why) = self.test_drain(nodes, colours, query, cursor, limit, places)
         else {
-            return Drain::Done(cursor.drain(nodes, self.count, query, limit_of(limit, places), out));
+            return Drain::Done(cursor.drain(
+                nodes,
+                self.count,
+                query,
+                limit_of(limit, places),
+                out,
+            ));
         };
         Drain::Refused(why)
     }

@@ -19,7 +19,7 @@ use Rattle.tree_links.proofs.LinkLaws.{read-linked, read-unlinked, slot-is}
 use Rattle.iter.specs.Drains.{filled}
 use Rattle.iter.specs.Walk.{Rules}
 use Rattle.iter.proofs.Fills.{drop-on}
-use Rattle.plain_laws.specs.Tour.{ascend, nextOf, firstOf, tour, entries, plain}
+use Rattle.plain_rule.specs.Tour.{ascend, nextOf, firstOf, tour, entries, plain}
 use Rattle.plain.specs.declared.Tally.{Tally}
 
 -- the way up

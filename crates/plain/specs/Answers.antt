@@ -3,7 +3,7 @@ use mathlib.Core.List.{List}
 use Prim.Native.Nat.{ℕ}
 use lib.ListN.{length}
 use Rattle.iter.specs.Walk.{Rules}
-use Rattle.plain_laws.specs.Tour.{entries, plain}
+use Rattle.plain_rule.specs.Tour.{entries, plain}
 use Rattle.plain.specs.declared.Tally.{Tally}
 
 -- how many hits there are, and how many entries the lookup went through

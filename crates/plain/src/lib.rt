@@ -14,7 +14,7 @@ ghost use Prim.Native.Nat.{_+_, _<_, _≤_};
 ghost use lib.ListN.{length, set};
 ghost use Rattle.iter.specs.Drains.{filled};
 ghost use Rattle.iter.specs.Queries.{rules};
-ghost use Rattle.plain_laws.specs.Tour.{ascend, nextOf, firstOf, plain};
+ghost use Rattle.plain_rule.specs.Tour.{ascend, nextOf, firstOf, plain};
 ghost use Rattle.plain.specs.Answers.{tally};
 ghost use Rattle.words.specs.Nodes.{Holds};
 

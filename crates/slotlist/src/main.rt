@@ -1,8 +1,8 @@
 // Prints the map of the entries and removals on standard input, slot by slot, or the first refusal (document 01, `slotlist`).
 use libc::STDIN_FILENO;
 use lines::output;
-use slots::State;
-use slots::memory;
+use slotlist_core::State;
+use slotlist_core::memory;
 
 // Reads to the end of the input. A proved loop has to end, so it counts its turns down from a number that no run uses up.
 fn feed_all(input: &mut [u8], nodes: &mut [u64], colours: &mut [u8], entries: &mut [u64]) -> State {

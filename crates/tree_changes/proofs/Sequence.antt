@@ -8,16 +8,16 @@ use Rattle.words.specs.Nodes.{entry, Holds, HoldsBits}
 use Rattle.words.specs.declared.node.Entry.{Entry}
 use Rattle.tree.specs.Passes.{Passes}
 use Rattle.tree_edit.specs.Store.{Store}
-use Rattle.tree_rm_laws.specs.Remove.{removeRule}
+use Rattle.tree_rm_rule.specs.Remove.{removeRule}
 use Rattle.tree_edit.specs.Inside.{Inside}
-use Rattle.tree_rm_laws.specs.Sequence.{after}
-use Rattle.tree_rm_laws.proofs.Inside.{removed-inside}
-use Rattle.tree_rm_laws.proofs.Removal.{removed}
+use Rattle.tree_rm_rule.specs.Sequence.{after}
+use Rattle.tree_rm_rule.proofs.Inside.{removed-inside}
+use Rattle.tree_rm_rule.proofs.Removal.{removed}
 use Rattle.tree_edit.proofs.Inside.{inside-trans, inside-more}
-use Rattle.tree_in_laws.specs.Insert.{insertRule}
+use Rattle.tree_in_rule.specs.Insert.{insertRule}
 use Rattle.tree_changes.specs.Sequence.{Change, remove, insert, changed, counted, run, total, Takes, TakesAll}
-use Rattle.tree_in_laws.proofs.Inside.{inserted-inside}
-use Rattle.tree_in_laws.proofs.Insertion.{inserted}
+use Rattle.tree_in_rule.proofs.Inside.{inserted-inside}
+use Rattle.tree_in_rule.proofs.Insertion.{inserted}
 
 -- a run of removals alone is that of the theory of removal
 pub run-after : (l : List ℕ) (S : Store) (n : ℕ) → run S n (map remove l) ≡ after S n l

@@ -3,8 +3,8 @@ use mathlib.Core.List.{List, [], _∷_}
 use Prim.Native.Nat.{ℕ, _+_, _-_, _<_}
 use Rattle.words.specs.declared.node.Entry.{Entry}
 use Rattle.tree_edit.specs.Store.{Store}
-use Rattle.tree_rm_laws.specs.Remove.{removeRule}
-use Rattle.tree_in_laws.specs.Insert.{insertRule}
+use Rattle.tree_rm_rule.specs.Remove.{removeRule}
+use Rattle.tree_in_rule.specs.Insert.{insertRule}
 
 pub data Change : Type 0 where
   remove : ℕ → Change

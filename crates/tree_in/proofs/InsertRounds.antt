@@ -19,8 +19,8 @@ use Rattle.tree_edit.proofs.Reached.{changes-append, changes-le}
 use Rattle.tree_links.proofs.LinkLaws.{read-linked, read-unlinked, hulls-linked, hulls-unlinked}
 use Rattle.tree_links.proofs.Loops.{link-stays, at-side, side-changes}
 use Rattle.tree_edit.proofs.Colours.{red-child, red-fits}
-use Rattle.tree_in_laws.specs.InsertRepair.{rotated, outer, inner, recoloured, insertRoundAt, insertRoundBelow, insertRound}
-use Rattle.tree_in_laws.specs.Reach.{rotatedHulls, outerHulls, innerHulls, insertRoundAtHulls, insertRoundBelowHulls, insertRoundHulls}
+use Rattle.tree_in_rule.specs.InsertRepair.{rotated, outer, inner, recoloured, insertRoundAt, insertRoundBelow, insertRound}
+use Rattle.tree_in_rule.specs.Reach.{rotatedHulls, outerHulls, innerHulls, insertRoundAtHulls, insertRoundBelowHulls, insertRoundHulls}
 
 -- the rotations
 module _ (n : ℕ) (W : List ℕ) (b : Bool) (P S : ℕ) (W₁ : List ℕ) (e : W₁ ≡ rotate n W b P S) where

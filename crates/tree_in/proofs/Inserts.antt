@@ -19,11 +19,11 @@ use Rattle.tree_edit.specs.Rounds.{ending}
 use Rattle.tree_edit.specs.Reach.{changes, upHulls}
 use Rattle.tree_edit.proofs.Reached.{changes-append, changes-le, up-most}
 use Rattle.tree_links.proofs.LinkLaws.{read-linked, read-unlinked}
-use Rattle.tree_in_laws.specs.Descent.{goesLeft, descend, under}
-use Rattle.tree_in_laws.specs.Insert.{own, hungNode, hungWords, hungRoot, hung, insertAt, insertRule}
-use Rattle.tree_in_laws.specs.InsertRepair.{insertRepair}
-use Rattle.tree_in_laws.specs.Reach.{insertRepairHulls, insertAtHulls, insertHulls}
-use Rattle.tree_in_laws.proofs.Reached.{insertRepair-most}
+use Rattle.tree_in_rule.specs.Descent.{goesLeft, descend, under}
+use Rattle.tree_in_rule.specs.Insert.{own, hungNode, hungWords, hungRoot, hung, insertAt, insertRule}
+use Rattle.tree_in_rule.specs.InsertRepair.{insertRepair}
+use Rattle.tree_in_rule.specs.Reach.{insertRepairHulls, insertAtHulls, insertHulls}
+use Rattle.tree_in_rule.proofs.Reached.{insertRepair-most}
 
 -- one step of the way down
 module _ (n : ℕ) (W : List ℕ) (x : Interval) (t k : ℕ) where

@@ -7,7 +7,7 @@ use words::node::interval_of;
 ghost use mathlib.Core.Path.{_≡_};
 ghost use Prim.Native.Nat.{_<_};
 ghost use Rattle.words.specs.Nodes.{kid, Has, Holds};
-ghost use Rattle.tree_in_laws.specs.Descent.{goesLeft, descend, under};
+ghost use Rattle.tree_in_rule.specs.Descent.{goesLeft, descend, under};
 
 // The new interval is less than that of slot k. An equal one goes right.
 pub(crate) fn goes_left(nodes: &[u64], interval: Interval, k: u64) -> bool

@@ -19,8 +19,8 @@ ghost use mathlib.Core.Path.{_≡_};
 ghost use Prim.Native.Nat.{_+_};
 ghost use Rattle.tree_edit.specs.Store.{store};
 ghost use Rattle.tree_edit.specs.Reach.{changes};
-ghost use Rattle.tree_in_laws.specs.Insert.{own, hungNode, hungWords, hungRoot, hung, insertAt, insertRule};
-ghost use Rattle.tree_in_laws.specs.Reach.{insertAtHulls, insertHulls};
+ghost use Rattle.tree_in_rule.specs.Insert.{own, hungNode, hungWords, hungRoot, hung, insertAt, insertRule};
+ghost use Rattle.tree_in_rule.specs.Reach.{insertAtHulls, insertHulls};
 ghost use Rattle.words.specs.Nodes.{Has, HasBit};
 
 // The interval of an entry.

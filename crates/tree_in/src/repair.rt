@@ -21,8 +21,8 @@ ghost use Rattle.tree_edit.specs.Store.{store};
 ghost use Rattle.tree_edit.specs.Rounds.{ending};
 ghost use Rattle.tree_edit.specs.Reach.{changes};
 ghost use Rattle.tree_links.specs.Answers.{next, reach};
-ghost use Rattle.tree_in_laws.specs.InsertRepair.{rotated, outer, inner, insertRoundAt, insertRoundBelow, insertRound, insertRepair};
-ghost use Rattle.tree_in_laws.specs.Reach.{rotatedHulls, outerHulls, innerHulls, insertRoundAtHulls, insertRoundBelowHulls, insertRoundHulls, insertRepairHulls};
+ghost use Rattle.tree_in_rule.specs.InsertRepair.{rotated, outer, inner, insertRoundAt, insertRoundBelow, insertRound, insertRepair};
+ghost use Rattle.tree_in_rule.specs.Reach.{rotatedHulls, outerHulls, innerHulls, insertRoundAtHulls, insertRoundBelowHulls, insertRoundHulls, insertRepairHulls};
 
 // Rotates left where `left_side`, else right: slot `up`, the child of `index` on the other side, comes up over it. The hull of
 // the one that went down is worked out first: the other's depends on it.

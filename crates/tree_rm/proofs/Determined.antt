@@ -6,7 +6,7 @@ use contract.Lifetimes.{Lfts}
 use borrow.Fn.Kinds as K
 use denote.Triple.Clauses.{AtExit}
 use denote.Ref.{now}
-use Rattle.tree_rm_laws.specs.Remove as rule
+use Rattle.tree_rm_rule.specs.Remove as rule
 use Rattle.tree_rm.specs.Answers.{removal}
 use Rattle.tree_rm.specs.declared.remove.Removed.{Removed}
 use Rattle.tree_rm.proofs.remove.remove_at.Reads as reads

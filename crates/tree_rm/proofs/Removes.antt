@@ -16,13 +16,13 @@ use Rattle.words.proofs.Laws.{unlinked, slot-live}
 use Rattle.bitvec.specs.Colours.{red, paint}
 use Rattle.words.specs.declared.pair.Pairs.{Pairs}
 use Rattle.tree_edit.specs.Links.{adopt, removeChild, redirect, fixUp, leftmost}
-use Rattle.tree_rm_laws.specs.Pairs.{movedTo, emptied, moved}
-use Rattle.tree_rm_laws.specs.Remove.{vacated, restructure, exchanged, child, handed, above, cutWords, cutRoot, copied, relinked, cleared, swapRemove, Removed, finish, removeFrom, removeRule, cutWordsWith, finishWith, removeFromWith, removeWith, vacatedWith}
+use Rattle.tree_rm_rule.specs.Pairs.{movedTo, emptied, moved}
+use Rattle.tree_rm_rule.specs.Remove.{vacated, restructure, exchanged, child, handed, above, cutWords, cutRoot, copied, relinked, cleared, swapRemove, Removed, finish, removeFrom, removeRule, cutWordsWith, finishWith, removeFromWith, removeWith, vacatedWith}
 use Rattle.tree_edit.specs.Store.{store}
 use Rattle.tree_edit.specs.Reach.{changes, upHulls}
-use Rattle.tree_rm_laws.specs.Reach.{cutHulls, restructureHulls, vacateHulls, removeHullsFrom, removeHulls}
+use Rattle.tree_rm_rule.specs.Reach.{cutHulls, restructureHulls, vacateHulls, removeHullsFrom, removeHulls}
 use Rattle.tree_edit.proofs.Reached.{changes-append}
-use Rattle.tree_rm_laws.proofs.Reached.{cut-most, restructure-most}
+use Rattle.tree_rm_rule.proofs.Reached.{cut-most, restructure-most}
 use Rattle.tree_links.proofs.LinkLaws.{slot-is, read-linked, hulls-linked}
 
 -- the test of the right link, which stands there twice

@@ -2,7 +2,7 @@
 use mathlib.Core.List.{List}
 use Prim.Native.Nat.{ℕ}
 use Rattle.tree_edit.specs.Store.{store}
-use Rattle.tree_rm_laws.specs.Remove as rule
+use Rattle.tree_rm_rule.specs.Remove as rule
 use Rattle.tree_rm.specs.declared.remove.Removed.{Removed}
 
 -- the whole answer of a removal, with the words and the colours that it leaves

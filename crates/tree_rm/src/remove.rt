@@ -25,11 +25,11 @@ ghost use mathlib.Core.Path.{_≡_};
 ghost use mathlib.Core.Bool.{true, false};
 ghost use Prim.Native.Nat.{_+_, _-_, _<_, _≤_};
 ghost use Rattle.words.specs.Nodes.{par, value, swap, Has, Holds, HoldsBits};
-ghost use Rattle.tree_rm_laws.specs.Pairs.{emptied};
-ghost use Rattle.tree_rm_laws.specs.Remove.{vacated, exchanged, child, restructure, handed, above, cutWords, cutRoot, copied, relinked, cleared, swapRemove, finish, removeFrom, removeRule};
+ghost use Rattle.tree_rm_rule.specs.Pairs.{emptied};
+ghost use Rattle.tree_rm_rule.specs.Remove.{vacated, exchanged, child, restructure, handed, above, cutWords, cutRoot, copied, relinked, cleared, swapRemove, finish, removeFrom, removeRule};
 ghost use Rattle.tree_edit.specs.Store.{store};
 ghost use Rattle.tree_edit.specs.Reach.{changes};
-ghost use Rattle.tree_rm_laws.specs.Reach.{cutHulls, vacateHulls, removeHullsFrom, removeHulls};
+ghost use Rattle.tree_rm_rule.specs.Reach.{cutHulls, vacateHulls, removeHullsFrom, removeHulls};
 ghost use Rattle.tree_rm.specs.Answers.{removal};
 
 // Swap values and intervals for `i`-th and `j`-th nodes.
@@ -104,7 +104,7 @@ fn swap_remove(nodes: &mut [u64], colours: &mut [u8], count: u64, root: u64, ix:
 }
 
 // The slot to vacate for slot ix: the minimal node in the right subtree, where there is one. Document 01 keeps the file's
-// doubled test of the right link; that a test of both links gives the same store is `harmless` of tree_rm_laws.
+// doubled test of the right link; that a test of both links gives the same store is `harmless` of tree_rm_rule.
 fn slot_to_vacate(nodes: &[u64], count: u64, ix: u64) -> u64
     requires { ⌜ Holds (now nodes) count × (ix < count) ⌝ }
     ensures { λ r. ⌜ (r ≡ vacated count (now (nodes .entry)) ix) × (r < count) ⌝ }

@@ -5,7 +5,7 @@ use Prim.Native.Nat.{ℕ}
 use lib.Dec.{eqb, leb}
 use Rattle.words.specs.declared.pair.Pair.{Pair}
 use Rattle.words.specs.declared.pair.Pairs.{Pairs}
-use Rattle.tree_rm_laws.specs.Pairs.{none, home, named, byOldSlot, moved}
+use Rattle.tree_rm_rule.specs.Pairs.{none, home, named, byOldSlot, moved}
 
 pub moved-is : (n z s x y a b c : ℕ) (p q o : Pair) (R : Pairs) → a ≡ home n z s x y x → b ≡ home n z s x y y → c ≡ home n z s x y z
     → p ≡ cond (eqb x s) none (named x a) → q ≡ cond (leb n y) none (named y b)

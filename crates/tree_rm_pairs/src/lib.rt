@@ -6,7 +6,7 @@ use words::pair::Pairs;
 ghost use mathlib.Core.Path.{_≡_};
 ghost use mathlib.Core.Bool.{cond};
 ghost use Prim.Native.Nat.{_<_};
-ghost use Rattle.tree_rm_laws.specs.Pairs.{none, movedTo, emptied, home, named, lower, upper, byOldSlot, moved};
+ghost use Rattle.tree_rm_rule.specs.Pairs.{none, movedTo, emptied, home, named, lower, upper, byOldSlot, moved};
 
 // Where what was in `slot` is after what was in `from` went to `to`.
 pub fn after_move(from: u64, to: u64, slot: u64) -> u64

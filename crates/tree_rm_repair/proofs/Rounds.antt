@@ -12,19 +12,19 @@ use Rattle.words.specs.declared.ix.Link.the-variants.{Slot}
 use Rattle.bitvec.specs.Colours.{red, redAt, paint, paintAt}
 use Rattle.tree_edit.specs.Links.{rootAfter}
 use Rattle.tree_edit.specs.Rotations.{rotate, rotate-4}
-use Rattle.tree_rm_laws.specs.Repair.{Case, one, two, three, four, five, choose, act, roundOf, roundAt, round, repair}
+use Rattle.tree_rm_rule.specs.Repair.{Case, one, two, three, four, five, choose, act, roundOf, roundAt, round, repair}
 use Rattle.tree_edit.specs.Rounds.{Next, done, again, ending}
 use Rattle.tree_edit.specs.Store.{Store, store}
-use Rattle.tree_rm_laws.specs.Remove.{restructure, restructureWith}
+use Rattle.tree_rm_rule.specs.Remove.{restructure, restructureWith}
 use Rattle.tree_rm_repair.specs.Answers.{caseOf}
 use Rattle.tree_rm_repair.specs.declared.Case as K
 use Rattle.tree_rm_repair.specs.declared.Case.the-variants as ks
 use Rattle.tree_edit.specs.Reach.{changes, bothHulls}
-use Rattle.tree_rm_laws.specs.Reach.{actHulls, roundOfHulls, roundAtHulls, roundHulls, repairHulls, restructureHulls}
-use Rattle.tree_rm_laws.proofs.Reached.{round-le}
+use Rattle.tree_rm_rule.specs.Reach.{actHulls, roundOfHulls, roundAtHulls, roundHulls, repairHulls, restructureHulls}
+use Rattle.tree_rm_rule.proofs.Reached.{round-le}
 use Rattle.tree_links.proofs.Loops.{link-stays, at-side, side-changes}
 use Rattle.tree_edit.proofs.Colours.{red-slot, red-child}
-use Rattle.tree_rm_laws.proofs.RepairInPlace.{four-close}
+use Rattle.tree_rm_rule.proofs.RepairInPlace.{four-close}
 
 -- the choice among the cases, by which of the four are black
 pub choose-black : (p s c d : Bool)

@@ -1,5 +1,5 @@
 -- What the code's cases stand for.
-use Rattle.tree_rm_laws.specs.Repair as rule
+use Rattle.tree_rm_rule.specs.Repair as rule
 use Rattle.tree_rm_repair.specs.declared.Case.{Case}
 use Rattle.tree_rm_repair.specs.declared.Case.the-variants.{One, Two, Three, Four, Five}
 

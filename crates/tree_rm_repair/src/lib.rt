@@ -21,14 +21,14 @@ ghost use Prim.Native.Nat.{_+_, _<_};
 ghost use Rattle.bitvec.specs.Colours.{red, redAt};
 ghost use Rattle.tree_edit.specs.Links.{rootAfter};
 ghost use Rattle.tree_edit.specs.Rotations.{rotate-2, rotate-4};
-ghost use Rattle.tree_rm_laws.specs.Repair.{two, four, five, choose, act, roundOf, roundAt, round, repair};
+ghost use Rattle.tree_rm_rule.specs.Repair.{two, four, five, choose, act, roundOf, roundAt, round, repair};
 ghost use Rattle.tree_edit.specs.Store.{store};
 ghost use Rattle.tree_edit.specs.Rounds.{ending};
-ghost use Rattle.tree_rm_laws.specs.Remove.{restructure};
+ghost use Rattle.tree_rm_rule.specs.Remove.{restructure};
 ghost use Rattle.tree_rm_repair.specs.Answers.{caseOf};
 ghost use Rattle.tree_links.specs.Answers.{next, reach};
 ghost use Rattle.tree_edit.specs.Reach.{changes};
-ghost use Rattle.tree_rm_laws.specs.Reach.{actHulls, roundOfHulls, roundAtHulls, roundHulls, repairHulls, restructureHulls};
+ghost use Rattle.tree_rm_rule.specs.Reach.{actHulls, roundOfHulls, roundAtHulls, roundHulls, repairHulls, restructureHulls};
 ghost use Rattle.words.specs.Nodes.{Holds, HoldsBits};
 
 pub enum Case {

@@ -1,5 +1,5 @@
 use Rattle.words.proofs.Laws.{linked, unlinked, slot-live}
-use Rattle.plain_laws.specs.Tour.{firstOf}
+use Rattle.plain_rule.specs.Tour.{firstOf}
 use borrow.Author.Needs.{needs}
 use native.Mathlib.Omega.{arith}
 use Rattle.plain.proofs.first_slot.Statement.{statement}

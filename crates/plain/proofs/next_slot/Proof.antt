@@ -1,6 +1,6 @@
 use Rattle.words.proofs.Laws.{slot-live}
 use Rattle.tree_links.proofs.LinkLaws.{read-linked, read-unlinked}
-use Rattle.plain_laws.specs.Tour.{nextOf}
+use Rattle.plain_rule.specs.Tour.{nextOf}
 use borrow.Author.Needs.{needs}
 use native.Mathlib.Omega.{arith}
 use Rattle.plain.proofs.next_slot.Statement.{statement}

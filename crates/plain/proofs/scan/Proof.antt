@@ -6,7 +6,7 @@ use lib.ListN.{length, take, drop}
 use Rattle.words.specs.Lists.{filter}
 use Rattle.words.proofs.Laws.{slot-live}
 use Rattle.iter.specs.Queries.{rules}
-use Rattle.plain_laws.specs.Tour.{tour, entries, plain}
+use Rattle.plain_rule.specs.Tour.{tour, entries, plain}
 use Rattle.plain.proofs.Scans.{scan-begin, count-begin, scan-on, none-filled, none-hits, full-hits, full-filled, count-on, count-none, count-full, tally-is, drop-noted, length-noted, few-noted}
 use borrow.Author.Needs.{needs}
 use Rattle.plain.proofs.scan.Statement.{statement}

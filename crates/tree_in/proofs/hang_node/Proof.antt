@@ -1,5 +1,5 @@
 use Rattle.tree_in.proofs.Inserts.{hung-words, room-above, room-then}
-use Rattle.tree_in_laws.specs.Insert.{hungRoot, hungWords}
+use Rattle.tree_in_rule.specs.Insert.{hungRoot, hungWords}
 use Rattle.words.proofs.Laws.{linked, unlinked}
 use borrow.Author.Needs.{needs}
 use Rattle.tree_in.proofs.hang_node.Statement.{statement}

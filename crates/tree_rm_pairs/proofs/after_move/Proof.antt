@@ -1,4 +1,4 @@
-use Rattle.tree_rm_laws.specs.Pairs.{movedTo}
+use Rattle.tree_rm_rule.specs.Pairs.{movedTo}
 use Rattle.words.proofs.Tests.{equal, unequal}
 use Rattle.tree_rm_pairs.proofs.after_move.Statement.{statement}
 use Rattle.tree_rm_pairs.proofs.after_move.Tie as tie

@@ -1,4 +1,4 @@
-use Rattle.tree_rm_laws.specs.Pairs.{emptied}
+use Rattle.tree_rm_rule.specs.Pairs.{emptied}
 use Rattle.words.proofs.Laws.{linked, unlinked}
 use borrow.Author.Needs.{needs}
 use Rattle.tree_rm_pairs.proofs.emptied_slot.Statement.{statement}

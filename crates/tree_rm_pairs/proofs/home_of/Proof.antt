@@ -1,4 +1,4 @@
-use Rattle.tree_rm_laws.specs.Pairs.{home}
+use Rattle.tree_rm_rule.specs.Pairs.{home}
 use borrow.Author.Needs.{needs}
 use Rattle.tree_rm_pairs.proofs.home_of.Statement.{statement}
 use Rattle.tree_rm_pairs.proofs.home_of.Tie as tie

@@ -1,4 +1,4 @@
-use Rattle.tree_rm_laws.specs.Pairs.{named}
+use Rattle.tree_rm_rule.specs.Pairs.{named}
 use Rattle.words.proofs.Tests.{equal, unequal}
 use Rattle.tree_rm_pairs.proofs.pair_of.Statement.{statement}
 use Rattle.tree_rm_pairs.proofs.pair_of.Tie as tie

@@ -1,4 +1,4 @@
-use Rattle.tree_rm_laws.specs.Pairs.{byOldSlot}
+use Rattle.tree_rm_rule.specs.Pairs.{byOldSlot}
 use borrow.Author.Needs.{needs}
 use Rattle.tree_rm_pairs.proofs.sorted_pairs.Statement.{statement}
 use Rattle.tree_rm_pairs.proofs.sorted_pairs.Tie as tie

@@ -1,4 +1,4 @@
-use Rattle.tree_rm_laws.specs.Pairs.{upper}
+use Rattle.tree_rm_rule.specs.Pairs.{upper}
 use Rattle.words.proofs.Tests.{less, not-less}
 use Rattle.tree_rm_pairs.proofs.upper_of.Statement.{statement}
 use Rattle.tree_rm_pairs.proofs.upper_of.Tie as tie

@@ -1,7 +1,7 @@
-use Rattle.tree_rm_laws.specs.Reach.{roundHulls}
+use Rattle.tree_rm_rule.specs.Reach.{roundHulls}
 use Rattle.tree_links.proofs.LinkLaws.{hulls-unlinked, read-unlinked}
 use Rattle.tree_rm_repair.proofs.Rounds.{at-parent, parent-changes}
-use Rattle.tree_rm_laws.specs.Repair.{round}
+use Rattle.tree_rm_rule.specs.Repair.{round}
 use Rattle.words.proofs.Laws.{slot-live, slot-room}
 use borrow.Author.Needs.{needs}
 use native.Mathlib.Omega.{arith}

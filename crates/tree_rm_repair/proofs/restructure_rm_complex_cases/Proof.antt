@@ -1,8 +1,8 @@
 use Rattle.tree_links.proofs.Loops.{loop-on, loop-done, loop-none, loop-stays, count-on, count-done, count-none, sum-fits, last-fits, sum-room}
 use Rattle.tree_rm_repair.proofs.Rounds.{round-stays, most}
-use Rattle.tree_rm_laws.specs.Repair.{round, repair}
+use Rattle.tree_rm_rule.specs.Repair.{round, repair}
 use Rattle.tree_edit.specs.Reach.{changes}
-use Rattle.tree_rm_laws.specs.Reach.{roundHulls, repairHulls}
+use Rattle.tree_rm_rule.specs.Reach.{roundHulls, repairHulls}
 use Rattle.tree_links.proofs.LinkLaws.{begin-sum}
 use mathlib.Core.Path.{_≡_, refl}
 use Prim.Native.Nat.{_+_, _*_, _<_, _≤_}

@@ -1,6 +1,6 @@
-use Rattle.tree_rm_laws.specs.Reach.{roundAtHulls}
+use Rattle.tree_rm_rule.specs.Reach.{roundAtHulls}
 use Rattle.tree_links.proofs.LinkLaws.{hulls-linked, hulls-unlinked, read-linked, read-unlinked}
-use Rattle.tree_rm_laws.specs.Repair.{roundAt}
+use Rattle.tree_rm_rule.specs.Repair.{roundAt}
 use Rattle.words.proofs.Laws.{slot-live}
 use borrow.Author.Needs.{needs}
 use native.Mathlib.Omega.{arith}

@@ -1,4 +1,4 @@
-use Rattle.tree_in_laws.specs.Descent.{goesLeft}
+use Rattle.tree_in_rule.specs.Descent.{goesLeft}
 use borrow.Author.Needs.{needs}
 use Rattle.tree_in.proofs.descent.goes_left.Statement.{statement}
 use Rattle.tree_in.proofs.descent.goes_left.Tie as tie

@@ -1,4 +1,4 @@
-use Rattle.tree_in_laws.specs.Descent.{under}
+use Rattle.tree_in_rule.specs.Descent.{under}
 use Rattle.words.proofs.Laws.{linked, slot-live, unlinked}
 use native.Mathlib.Omega.{arith}
 use borrow.Author.Needs.{needs}

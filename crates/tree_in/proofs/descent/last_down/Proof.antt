@@ -1,5 +1,5 @@
 use Rattle.tree_in.proofs.Inserts.{down-ends, down-none, down-on}
-use Rattle.tree_in_laws.specs.Descent.{descend}
+use Rattle.tree_in_rule.specs.Descent.{descend}
 use Rattle.words.proofs.Laws.{slot-live}
 use Prim.Native.Nat.{_<_}
 use mathlib.Core.Path.{_≡_, refl}

@@ -1,6 +1,6 @@
 use Rattle.tree_in.proofs.InsertRounds.{insert-stays}
-use Rattle.tree_in_laws.specs.InsertRepair.{insertRepair, insertRound}
-use Rattle.tree_in_laws.specs.Reach.{insertRepairHulls, insertRoundHulls}
+use Rattle.tree_in_rule.specs.InsertRepair.{insertRepair, insertRound}
+use Rattle.tree_in_rule.specs.Reach.{insertRepairHulls, insertRoundHulls}
 use Rattle.tree_edit.specs.Reach.{changes}
 use Rattle.tree_links.proofs.LinkLaws.{begin-sum}
 use Rattle.tree_links.proofs.Loops.{loop-done, loop-none, loop-on, loop-stays, count-done, count-none, count-on, last-fits, sum-fits, sum-room}
@@ -10,7 +10,7 @@ use mathlib.Core.Path.{_≡_, refl}
 use native.Mathlib.Omega.{arith}
 use Rattle.tree_in.proofs.repair.insert_repair.Statement.{statement}
 use Rattle.tree_in.proofs.repair.insert_repair.Tie as tie
-use Rattle.tree_in_laws.proofs.Reached.{insertRound-le}
+use Rattle.tree_in_rule.proofs.Reached.{insertRound-le}
 
 abbrev Inv-loop : tie.InvT-loop
 Inv-loop nodes₀ colours₀ count root index at₀ top₀ reach₀ rounds₀ nodes colours at top reach rounds = (insertRepair count 32 nodes₀ colours₀ root index ≡ insertRepair count rounds nodes colours top at) × (length nodes ≡ length nodes₀) × (length colours ≡ length colours₀) × (at < count) × (changes count (insertRepairHulls count 32 nodes₀ colours₀ root index) ≡ reach + changes count (insertRepairHulls count rounds nodes colours top at)) × (reach + 4 * rounds ≤ 144)

@@ -1,6 +1,6 @@
 use Rattle.tree_in.proofs.InsertRounds.{at-grandparent, grandparent-changes}
-use Rattle.tree_in_laws.specs.InsertRepair.{insertRoundBelow}
-use Rattle.tree_in_laws.specs.Reach.{insertRoundBelowHulls}
+use Rattle.tree_in_rule.specs.InsertRepair.{insertRoundBelow}
+use Rattle.tree_in_rule.specs.Reach.{insertRoundBelowHulls}
 use Rattle.tree_links.proofs.LinkLaws.{read-unlinked, hulls-unlinked}
 use Rattle.words.proofs.Laws.{slot-live, slot-room}
 use native.Mathlib.Omega.{arith}

@@ -1,4 +1,4 @@
-use Rattle.tree_rm_laws.specs.Remove.{cleared}
+use Rattle.tree_rm_rule.specs.Remove.{cleared}
 use borrow.Author.Needs.{needs}
 use Rattle.tree_rm.proofs.remove.clear_node.Statement.{statement}
 use Rattle.tree_rm.proofs.remove.clear_node.Tie as tie

@@ -1,7 +1,7 @@
-use Rattle.tree_rm_laws.specs.Reach.{cutHulls}
+use Rattle.tree_rm_rule.specs.Reach.{cutHulls}
 use Rattle.tree_links.proofs.LinkLaws.{hulls-unlinked, read-linked, read-unlinked}
 use Rattle.tree_rm.proofs.Removes.{cut-is, cut-changes}
-use Rattle.tree_rm_laws.specs.Remove.{cutRoot, cutWordsWith}
+use Rattle.tree_rm_rule.specs.Remove.{cutRoot, cutWordsWith}
 use Rattle.words.proofs.Laws.{slot-room}
 use borrow.Author.Needs.{needs}
 use mathlib.Core.Path.{refl}

@@ -1,5 +1,5 @@
 use Rattle.tree_rm.proofs.Removes.{child-root, child-words, leaf-root, leaf-words, leaf-changes, child-changes}
-use Rattle.tree_rm_laws.specs.Pairs.{emptied}
+use Rattle.tree_rm_rule.specs.Pairs.{emptied}
 use Rattle.words.proofs.Laws.{linked, slot-live, slot-room, unlinked}
 use borrow.Author.Needs.{needs}
 use native.Mathlib.Omega.{arith}

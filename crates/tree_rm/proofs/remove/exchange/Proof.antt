@@ -1,4 +1,4 @@
-use Rattle.tree_rm_laws.specs.Remove.{exchanged}
+use Rattle.tree_rm_rule.specs.Remove.{exchanged}
 use Rattle.words.proofs.Tests.{equal, unequal}
 use borrow.Author.Needs.{needs}
 use Rattle.tree_rm.proofs.remove.exchange.Statement.{statement}

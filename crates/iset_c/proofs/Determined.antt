@@ -1,0 +1,145 @@
+-- Any two numbers, and any two contents of each lent slice at exit, that an export's promise allows are equal.
+use mathlib.Core.Path.{_≡_, sym, _∙_}
+use contract.Lifetimes.{Lfts}
+use borrow.Fn.Kinds as K
+use denote.Triple.Clauses.{AtExit}
+use denote.Ref.{now}
+use Rattle.iset_c.proofs.Exits.{same-answer, same-change, same-output}
+use Rattle.iset_c.proofs.iset_check.Reads as check-reads
+use Rattle.iset_c.proofs.iset_check.Kinds as check-kinds
+use Rattle.iset_c.proofs.iset_build.Reads as build-reads
+use Rattle.iset_c.proofs.iset_build.Kinds as build-kinds
+use Rattle.iset_c.proofs.iset_remove.Reads as remove-reads
+use Rattle.iset_c.proofs.iset_remove.Kinds as remove-kinds
+use Rattle.iset_c.proofs.iset_insert.Reads as insert-reads
+use Rattle.iset_c.proofs.iset_insert.Kinds as insert-kinds
+use Rattle.iset_c.proofs.iset_slot_after.Reads as slot-after-reads
+use Rattle.iset_c.proofs.iset_slot_after.Kinds as slot-after-kinds
+use Rattle.iset_c.proofs.lookup.iset_fresh.Reads as fresh-reads
+use Rattle.iset_c.proofs.lookup.iset_fresh.Kinds as fresh-kinds
+use Rattle.iset_c.proofs.lookup.iset_fresh_exact.Reads as fresh-exact-reads
+use Rattle.iset_c.proofs.lookup.iset_fresh_exact.Kinds as fresh-exact-kinds
+use Rattle.iset_c.proofs.lookup.iset_step.Reads as step-reads
+use Rattle.iset_c.proofs.lookup.iset_step.Kinds as step-kinds
+use Rattle.iset_c.proofs.lookup.iset_step_exact.Reads as step-exact-reads
+use Rattle.iset_c.proofs.lookup.iset_step_exact.Kinds as step-exact-kinds
+use Rattle.iset_c.proofs.lookup.iset_drain.Reads as drain-reads
+use Rattle.iset_c.proofs.lookup.iset_drain.Kinds as drain-kinds
+use Rattle.iset_c.proofs.lookup.iset_drain_exact.Reads as drain-exact-reads
+use Rattle.iset_c.proofs.lookup.iset_drain_exact.Kinds as drain-exact-kinds
+use Rattle.iset_c.proofs.scan.iset_plain.Reads as plain-reads
+use Rattle.iset_c.proofs.scan.iset_plain.Kinds as plain-kinds
+use Rattle.iset_c.proofs.scan.iset_plain_exact.Reads as plain-exact-reads
+use Rattle.iset_c.proofs.scan.iset_plain_exact.Kinds as plain-exact-kinds
+
+-- the exits are a product by parameter: the slice of parameter k is at `.1`, k times, then `.0`
+
+pub check-determined :
+    (κs : Lfts 2) (a : K.Dens κs check-kinds.ps) (r r′ : K.resT check-kinds.r κs .Denot)
+    (s s′ : AtExit (K.endedOf 2 check-kinds.ps check-kinds.r) κs)
+    → check-reads.Post κs a r s → check-reads.Post κs a r′ s′ → r ≡ r′
+check-determined κs a r r′ s s′ p q = p ∙ sym q
+
+pub slot-after-determined :
+    (κs : Lfts 1) (a : K.Dens κs slot-after-kinds.ps) (r r′ : K.resT slot-after-kinds.r κs .Denot)
+    (s s′ : AtExit (K.endedOf 1 slot-after-kinds.ps slot-after-kinds.r) κs)
+    → slot-after-reads.Post κs a r s → slot-after-reads.Post κs a r′ s′ → r ≡ r′
+slot-after-determined κs a r r′ s s′ p q = p ∙ sym q
+
+pub build-determined :
+    (κs : Lfts 4) (a : K.Dens κs build-kinds.ps) (r r′ : K.resT build-kinds.r κs .Denot)
+    (s s′ : AtExit (K.endedOf 4 build-kinds.ps build-kinds.r) κs)
+    → build-reads.Post κs a r s → build-reads.Post κs a r′ s′
+    → (r ≡ r′)
+    × (now (s .1 .1 .1 .0) ≡ now (s′ .1 .1 .1 .0))
+    × (now (s .0) ≡ now (s′ .0))
+    × (now (s .1 .0) ≡ now (s′ .1 .0))
+build-determined κs a r r′ s s′ p q = same-change p q
+
+pub remove-determined :
+    (κs : Lfts 3) (a : K.Dens κs remove-kinds.ps) (r r′ : K.resT remove-kinds.r κs .Denot)
+    (s s′ : AtExit (K.endedOf 3 remove-kinds.ps remove-kinds.r) κs)
+    → remove-reads.Post κs a r s → remove-reads.Post κs a r′ s′
+    → (r ≡ r′)
+    × (now (s .1 .1 .1 .1 .1 .0) ≡ now (s′ .1 .1 .1 .1 .1 .0))
+    × (now (s .1 .1 .0) ≡ now (s′ .1 .1 .0))
+    × (now (s .1 .1 .1 .0) ≡ now (s′ .1 .1 .1 .0))
+remove-determined κs a r r′ s s′ p q = same-change p q
+
+pub insert-determined :
+    (κs : Lfts 3) (a : K.Dens κs insert-kinds.ps) (r r′ : K.resT insert-kinds.r κs .Denot)
+    (s s′ : AtExit (K.endedOf 3 insert-kinds.ps insert-kinds.r) κs)
+    → insert-reads.Post κs a r s → insert-reads.Post κs a r′ s′
+    → (r ≡ r′)
+    × (now (s .1 .1 .1 .1 .1 .1 .1 .0) ≡ now (s′ .1 .1 .1 .1 .1 .1 .1 .0))
+    × (now (s .1 .1 .0) ≡ now (s′ .1 .1 .0))
+    × (now (s .1 .1 .1 .0) ≡ now (s′ .1 .1 .1 .0))
+insert-determined κs a r r′ s s′ p q = same-change p q
+
+pub fresh-determined :
+    (κs : Lfts 1) (a : K.Dens κs fresh-kinds.ps) (r r′ : K.resT fresh-kinds.r κs .Denot)
+    (s s′ : AtExit (K.endedOf 1 fresh-kinds.ps fresh-kinds.r) κs)
+    → fresh-reads.Post κs a r s → fresh-reads.Post κs a r′ s′
+    → (r ≡ r′)
+    × (now (s .1 .1 .0) ≡ now (s′ .1 .1 .0))
+fresh-determined κs a r r′ s s′ p q = same-answer p q
+
+pub fresh-exact-determined :
+    (κs : Lfts 3) (a : K.Dens κs fresh-exact-kinds.ps) (r r′ : K.resT fresh-exact-kinds.r κs .Denot)
+    (s s′ : AtExit (K.endedOf 3 fresh-exact-kinds.ps fresh-exact-kinds.r) κs)
+    → fresh-exact-reads.Post κs a r s → fresh-exact-reads.Post κs a r′ s′
+    → (r ≡ r′)
+    × (now (s .1 .1 .1 .1 .1 .1 .0) ≡ now (s′ .1 .1 .1 .1 .1 .1 .0))
+fresh-exact-determined κs a r r′ s s′ p q = same-answer p q
+
+pub step-determined :
+    (κs : Lfts 3) (a : K.Dens κs step-kinds.ps) (r r′ : K.resT step-kinds.r κs .Denot)
+    (s s′ : AtExit (K.endedOf 3 step-kinds.ps step-kinds.r) κs)
+    → step-reads.Post κs a r s → step-reads.Post κs a r′ s′
+    → (r ≡ r′)
+    × (now (s .1 .1 .1 .1 .1 .1 .1 .1 .1 .1 .1 .0) ≡ now (s′ .1 .1 .1 .1 .1 .1 .1 .1 .1 .1 .1 .0))
+step-determined κs a r r′ s s′ p q = same-answer p q
+
+pub step-exact-determined :
+    (κs : Lfts 3) (a : K.Dens κs step-exact-kinds.ps) (r r′ : K.resT step-exact-kinds.r κs .Denot)
+    (s s′ : AtExit (K.endedOf 3 step-exact-kinds.ps step-exact-kinds.r) κs)
+    → step-exact-reads.Post κs a r s → step-exact-reads.Post κs a r′ s′
+    → (r ≡ r′)
+    × (now (s .1 .1 .1 .1 .1 .1 .1 .1 .1 .0) ≡ now (s′ .1 .1 .1 .1 .1 .1 .1 .1 .1 .0))
+step-exact-determined κs a r r′ s s′ p q = same-answer p q
+
+pub drain-determined :
+    (κs : Lfts 4) (a : K.Dens κs drain-kinds.ps) (r r′ : K.resT drain-kinds.r κs .Denot)
+    (s s′ : AtExit (K.endedOf 4 drain-kinds.ps drain-kinds.r) κs)
+    → drain-reads.Post κs a r s → drain-reads.Post κs a r′ s′
+    → (r ≡ r′)
+    × (now (s .1 .1 .1 .1 .1 .1 .1 .1 .1 .1 .1 .1 .1 .0) ≡ now (s′ .1 .1 .1 .1 .1 .1 .1 .1 .1 .1 .1 .1 .1 .0))
+    × (now (s .1 .1 .1 .1 .1 .1 .1 .1 .1 .1 .1 .1 .0) ≡ now (s′ .1 .1 .1 .1 .1 .1 .1 .1 .1 .1 .1 .1 .0))
+drain-determined κs a r r′ s s′ p q = same-output p q
+
+pub drain-exact-determined :
+    (κs : Lfts 4) (a : K.Dens κs drain-exact-kinds.ps) (r r′ : K.resT drain-exact-kinds.r κs .Denot)
+    (s s′ : AtExit (K.endedOf 4 drain-exact-kinds.ps drain-exact-kinds.r) κs)
+    → drain-exact-reads.Post κs a r s → drain-exact-reads.Post κs a r′ s′
+    → (r ≡ r′)
+    × (now (s .1 .1 .1 .1 .1 .1 .1 .1 .1 .1 .1 .0) ≡ now (s′ .1 .1 .1 .1 .1 .1 .1 .1 .1 .1 .1 .0))
+    × (now (s .1 .1 .1 .1 .1 .1 .1 .1 .1 .1 .0) ≡ now (s′ .1 .1 .1 .1 .1 .1 .1 .1 .1 .1 .0))
+drain-exact-determined κs a r r′ s s′ p q = same-output p q
+
+pub plain-determined :
+    (κs : Lfts 4) (a : K.Dens κs plain-kinds.ps) (r r′ : K.resT plain-kinds.r κs .Denot)
+    (s s′ : AtExit (K.endedOf 4 plain-kinds.ps plain-kinds.r) κs)
+    → plain-reads.Post κs a r s → plain-reads.Post κs a r′ s′
+    → (r ≡ r′)
+    × (now (s .1 .1 .1 .1 .1 .1 .1 .1 .1 .0) ≡ now (s′ .1 .1 .1 .1 .1 .1 .1 .1 .1 .0))
+    × (now (s .1 .1 .1 .1 .1 .1 .1 .1 .0) ≡ now (s′ .1 .1 .1 .1 .1 .1 .1 .1 .0))
+plain-determined κs a r r′ s s′ p q = same-output p q
+
+pub plain-exact-determined :
+    (κs : Lfts 4) (a : K.Dens κs plain-exact-kinds.ps) (r r′ : K.resT plain-exact-kinds.r κs .Denot)
+    (s s′ : AtExit (K.endedOf 4 plain-exact-kinds.ps plain-exact-kinds.r) κs)
+    → plain-exact-reads.Post κs a r s → plain-exact-reads.Post κs a r′ s′
+    → (r ≡ r′)
+    × (now (s .1 .1 .1 .1 .1 .1 .1 .0) ≡ now (s′ .1 .1 .1 .1 .1 .1 .1 .0))
+    × (now (s .1 .1 .1 .1 .1 .1 .0) ≡ now (s′ .1 .1 .1 .1 .1 .1 .0))
+plain-exact-determined κs a r r′ s s′ p q = same-output p q

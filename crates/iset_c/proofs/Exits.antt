@@ -1,0 +1,35 @@
+-- One equation of what an export returns and leaves determines each part of it.
+use mathlib.Core.Path.{_≡_, sym, ap, _∙_}
+use mathlib.Core.List.{List, [], _∷_}
+use Prim.Native.Nat.{ℕ}
+use Rattle.iset_c.specs.Replies.{Exit, exit}
+
+abbrev front : List (List ℕ) → List ℕ
+front [] = []
+front (x ∷ l) = x
+
+abbrev rest : List (List ℕ) → List (List ℕ)
+rest [] = []
+rest (x ∷ l) = l
+
+-- of a call that writes nothing but its answer; of one that writes the store; of one that writes an
+-- output
+module _ {n k : ℕ} {A B : List ℕ} {x : Exit} where
+  pub same-answer : exit n A [] ≡ x → exit k B [] ≡ x → (n ≡ k) × (A ≡ B)
+  same-answer p q =
+      let e : exit n A [] ≡ exit k B [] = p ∙ sym q in
+      (ap (λ (y : Exit). y .number) e, ap (λ (y : Exit). y .answer) e)
+
+  pub same-change : {W C X D : List ℕ} → exit n A (W ∷ C ∷ []) ≡ x → exit k B (X ∷ D ∷ []) ≡ x → (n ≡ k) × (A ≡ B) × (W ≡ X) × (C ≡ D)
+  same-change {W = W} {C = C} {X = X} {D = D} p q =
+      let e : exit n A (W ∷ C ∷ []) ≡ exit k B (X ∷ D ∷ []) = p ∙ sym q in (
+        ap (λ (y : Exit). y .number) e,
+        ap (λ (y : Exit). y .answer) e,
+        ap (λ (y : Exit). front (y .slices)) e,
+        ap (λ (y : Exit). front (rest (y .slices))) e,
+      )
+
+  pub same-output : {X Y : List ℕ} → exit n A (X ∷ []) ≡ x → exit k B (Y ∷ []) ≡ x → (n ≡ k) × (A ≡ B) × (X ≡ Y)
+  same-output {X = X} {Y = Y} p q =
+      let e : exit n A (X ∷ []) ≡ exit k B (Y ∷ []) = p ∙ sym q in
+      (ap (λ (y : Exit). y .number) e, ap (λ (y : Exit). y .answer) e, ap (λ (y : Exit). front (y .slices)) e)

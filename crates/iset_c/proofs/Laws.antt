@@ -1,0 +1,96 @@
+-- What an export hands out, in the form that `search` takes.
+use mathlib.Core.Path.{_≡_, sym, _∙_}
+use mathlib.Core.Bool.{Bool, true, false}
+use mathlib.Core.List.{List, [], _∷_}
+use Prim.Native.Nat.{ℕ, _<_, _≤_}
+use native.Mathlib.Omega.{arith}
+use lib.ListN.{length}
+use borrow.Author.Tests.{lt-ltb, le-ltb, ne-eqb}
+use Rattle.words.specs.Ix.{U}
+use Rattle.words.specs.declared.interval.Bound.{Bound}
+use Rattle.iter.specs.Cursors.{ended}
+use Rattle.iter.specs.Drains.{filled}
+use Rattle.iter.specs.declared.Cursor.{Cursor}
+use Rattle.iter.specs.declared.rules.Query.{Query}
+use Rattle.iter.specs.declared.rules.Query.the-variants.{Overlap}
+use Rattle.iter.specs.declared.seek.Step.{Step}
+use Rattle.iter.specs.declared.seek.Step.the-variants.{Hit, End}
+use Rattle.iset.specs.Changes.{Change, change, Output, output}
+use Rattle.iset.specs.declared.Map.{Map}
+use Rattle.iset_c.specs.Replies.{Reply, Exit, exit, number, handed, left, exitOf, answerExit, changeExit, outputExit, stepNumbers, foundNumbers}
+
+-- an answer that is too short, whatever the bounds are
+pub short-exit : (b : Bool) (A : List ℕ) (R : Reply) (old new : List (List ℕ)) → length A < length (R .numbers) → exit 101 A old ≡ exitOf b A R old new
+unfolding number handed left
+short-exit b A R old new h = rw (lt-ltb (length A) (length (R .numbers)) h)
+
+-- a range whose bounds have not all a kind
+pub unbounded-exit : (b t : Bool) (A : List ℕ) (R : Reply) (old new : List (List ℕ)) → t ≡ b → t ≡ false → length (R .numbers) ≤ length A
+    → exit 102 A old ≡ exitOf b A R old new
+unfolding number handed left
+unbounded-exit b t A R old new e q h =
+    let f : b ≡ false = sym e ∙ q in
+    rw (f, le-ltb (length A) (length (R .numbers)) h)
+
+-- a call that was made: its reply R, the slices that it left, and what the export has done with the
+-- answer
+module _ (A : List ℕ) (R : Reply) (old new : List (List ℕ)) (h : length (R .numbers) ≤ length A) where
+  made-refused : 0 < R .no → exit (R .no) A new ≡ exitOf true A R old new
+  unfolding number handed left
+  made-refused p = rw (le-ltb (length A) (length (R .numbers)) h, ne-eqb (R .no) 0 (λ f. omega arith))
+
+  made-done : R .no ≡ 0 → exit 0 (filled (R .numbers) A) new ≡ exitOf true A R old new
+  unfolding number handed left
+  made-done z = rw (le-ltb (length A) (length (R .numbers)) h, z)
+
+-- The code's answer is t, known to be v. What it stands for goes by g, what was given: a map or a
+-- cursor.
+module _ {G T K : Type 0} (stands : G → T → K) (reply : K → Reply) (g : G) (A : List ℕ) (t v : T) (q : t ≡ v) where
+  -- an export of a call that writes nothing
+  module _ (k : K) (e : stands g t ≡ k) (h : length (reply k .numbers) ≤ length A) where
+    pub refused-answer : (n : ℕ) → n ≡ reply (stands g v) .no → 0 < reply (stands g v) .no → exit n A [] ≡ answerExit true A (reply k)
+    refused-answer n p o = rw (← e, q, p) (made-refused A (reply (stands g v)) [] [] (rw (← e, q) at h) o)
+
+    pub done-answer : (X : List ℕ) → X ≡ filled (reply (stands g v) .numbers) A → reply (stands g v) .no ≡ 0 → exit 0 X [] ≡ answerExit true A (reply k)
+    done-answer X p z = rw (← e, q, p) (made-done A (reply (stands g v)) [] [] (rw (← e, q) at h) z)
+
+  -- of one that writes the store
+  module _ (k : Change K) (W C Y Z : List ℕ) (e : change (stands g t) Y Z ≡ k) (h : length (reply (k .answer) .numbers) ≤ length A) where
+    pub refused-change : (n : ℕ) → n ≡ reply (stands g v) .no → 0 < reply (stands g v) .no → exit n A (Y ∷ Z ∷ []) ≡ changeExit reply A W C k
+    refused-change n p o =
+        rw (← e, q, p) (made-refused A (reply (stands g v)) (W ∷ C ∷ []) (Y ∷ Z ∷ []) (rw (← e, q) at h) o)
+
+    pub done-change : (X : List ℕ) → X ≡ filled (reply (stands g v) .numbers) A → reply (stands g v) .no ≡ 0
+        → exit 0 X (Y ∷ Z ∷ []) ≡ changeExit reply A W C k
+    done-change X p z = rw (← e, q, p) (made-done A (reply (stands g v)) (W ∷ C ∷ []) (Y ∷ Z ∷ []) (rw (← e, q) at h) z)
+
+  -- of one that writes an output
+  module _ (k : Output K) (out Y : List ℕ) (e : output (stands g t) Y ≡ k) (h : length (reply (k .answer) .numbers) ≤ length A) where
+    pub refused-output : (n : ℕ) → n ≡ reply (stands g v) .no → 0 < reply (stands g v) .no → exit n A (Y ∷ []) ≡ outputExit reply true A out k
+    refused-output n p o = rw (← e, q, p) (made-refused A (reply (stands g v)) (out ∷ []) (Y ∷ []) (rw (← e, q) at h) o)
+
+    pub done-output : (X : List ℕ) → X ≡ filled (reply (stands g v) .numbers) A → reply (stands g v) .no ≡ 0
+        → exit 0 X (Y ∷ []) ≡ outputExit reply true A out k
+    done-output X p z = rw (← e, q, p) (made-done A (reply (stands g v)) (out ∷ []) (Y ∷ []) (rw (← e, q) at h) z)
+
+-- A range that a function made, whose bounds have kinds: a step or a plain lookup; and a drain.
+-- They serve the public calls and the opened ones.
+pub bounded : {T : Type 0} (rule : Bool → List ℕ → Map → List ℕ → List ℕ → Query → T → Exit) (A : List ℕ) (m : Map) (W C : List ℕ) (x : T)
+    (made query : Query) (b t : Bool) → made ≡ query → t ≡ b → t ≡ true → (r : Exit) → r ≡ rule true A m W C made x → r ≡ rule b A m W C query x
+bounded rule A m W C x made query b t e f q r p = let c : b ≡ true = sym f ∙ q in rw (c, ← e) p
+
+pub bounded-drain : (rule : Bool → List ℕ → Map → List ℕ → List ℕ → Query → Cursor → ℕ → List ℕ → Exit) (A : List ℕ) (m : Map) (W C : List ℕ)
+    (c : Cursor) (limit : ℕ) (out : List ℕ) (made query : Query) (b t : Bool) → made ≡ query → t ≡ b → t ≡ true
+    → (r : Exit) → r ≡ rule true A m W C made c limit out → r ≡ rule b A m W C query c limit out
+bounded-drain rule A m W C c limit out made query b t e f q r p = let d : b ≡ true = sym f ∙ q in rw (d, ← e) p
+
+-- the numbers of a step that is known to be a hit or the end
+module _ (s : Step) (A X : List ℕ) (c : Cursor) (e : ℕ) where
+  pub hit-put : s ≡ Hit c e → X ≡ filled (stepNumbers (c .slot) c e) A → X ≡ filled (foundNumbers s) A
+  hit-put q p = rw q p
+
+  pub end-put : s ≡ End e → c ≡ ended → X ≡ filled (stepNumbers U c e) A → X ≡ filled (foundNumbers s) A
+  end-put q d p = rw q (rw d at p)
+
+pub range-made : (l h lo hi : Bound) → l ≡ lo → h ≡ hi → _≡_ {A = Query} (Overlap (record { lo = l; hi = h })) (Overlap (record { lo = lo; hi = hi }))
+range-made l h lo hi p q = rw (p, q)

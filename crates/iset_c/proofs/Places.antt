@@ -1,0 +1,287 @@
+-- Each export, in the words of include/iset.h: which number it returns, exactly when, and what each place of its answer holds. Said of whatever
+-- number r and slices at exit s its promise allows from its arguments a.
+use mathlib.Core.Path.{_≡_, refl, sym, ap, _∙_}
+use mathlib.Core.Bool.{Bool, true, cond}
+use mathlib.Core.List.{List, [], _∷_}
+use Prim.Native.Nat.{ℕ, _<_}
+use native.Mathlib.Omega.{arith}
+use lib.ListN.{length, take, drop}
+use lib.Seq.{take-at, drop-at}
+use lib.Dec.{ltb, leb}
+use borrow.Author.Tests.{ltb-true, ltb-false, eq-eqb}
+use contract.Lifetimes.{Lfts}
+use borrow.Fn.Kinds as K
+use denote.Triple.Clauses.{AtExit}
+use denote.Ref.{now}
+use Rattle.words.specs.declared.interval.Interval.{Interval}
+use Rattle.words.specs.declared.node.Entry.{Entry}
+use Rattle.iter.specs.Drains.{filled}
+use Rattle.iter.specs.declared.Cursor.{Cursor}
+use Rattle.iter.specs.declared.rules.Query.{Query}
+use Rattle.iter.specs.declared.rules.Query.the-variants.{Exact}
+use Rattle.iset.specs.Build.{BuildAnswer, buildCall}
+use Rattle.iset.specs.Remove.{RemoveAnswer, removeCall}
+use Rattle.iset.specs.Insert.{InsertAnswer, insertCall}
+use Rattle.iset.specs.Lookup.{startCall, stepCall, drainCall}
+use Rattle.iset.specs.Plain.{plainCall}
+use Rattle.iset.specs.Maps.{mapOf}
+use Rattle.iset.specs.Refusals.{Rows, accept, refuse, Exactly, checkRows, buildRows, removeRows, insertRows, startRows, stepRows, drainRows, plainRows}
+use Rattle.iset.specs.declared.Map.{Map}
+use Rattle.iset.proofs.Refusals.{Lacks, passed-row, failed-row, check-refusals, build-refusals, remove-refusals, insert-refusals, start-refusals, step-refusals, drain-refusals, plain-refusals}
+use Rattle.iset.proofs.BitRefusals.{Fails, le-fails, and-fails}
+use Rattle.iset_c.specs.Replies.{Reply, Exit, exit, number, handed, exitOf, stepReply, drainReply, plainReply}
+use Rattle.iset_c.specs.Ranges.{rangeOf, kinds}
+use Rattle.iset_c.specs.Places.{Told, BadBound, stepPlaces, drainPlaces, plainPlaces}
+use Rattle.iset_c.proofs.iset_check.Reads as check-reads
+use Rattle.iset_c.proofs.iset_check.Kinds as check-kinds
+use Rattle.iset_c.proofs.iset_build.Reads as build-reads
+use Rattle.iset_c.proofs.iset_build.Kinds as build-kinds
+use Rattle.iset_c.proofs.iset_remove.Reads as remove-reads
+use Rattle.iset_c.proofs.iset_remove.Kinds as remove-kinds
+use Rattle.iset_c.proofs.iset_insert.Reads as insert-reads
+use Rattle.iset_c.proofs.iset_insert.Kinds as insert-kinds
+use Rattle.iset_c.proofs.lookup.iset_fresh.Reads as fresh-reads
+use Rattle.iset_c.proofs.lookup.iset_fresh.Kinds as fresh-kinds
+use Rattle.iset_c.proofs.lookup.iset_fresh_exact.Reads as fresh-exact-reads
+use Rattle.iset_c.proofs.lookup.iset_fresh_exact.Kinds as fresh-exact-kinds
+use Rattle.iset_c.proofs.lookup.iset_step.Reads as step-reads
+use Rattle.iset_c.proofs.lookup.iset_step.Kinds as step-kinds
+use Rattle.iset_c.proofs.lookup.iset_step_exact.Reads as step-exact-reads
+use Rattle.iset_c.proofs.lookup.iset_step_exact.Kinds as step-exact-kinds
+use Rattle.iset_c.proofs.lookup.iset_drain.Reads as drain-reads
+use Rattle.iset_c.proofs.lookup.iset_drain.Kinds as drain-kinds
+use Rattle.iset_c.proofs.lookup.iset_drain_exact.Reads as drain-exact-reads
+use Rattle.iset_c.proofs.lookup.iset_drain_exact.Kinds as drain-exact-kinds
+use Rattle.iset_c.proofs.scan.iset_plain.Reads as plain-reads
+use Rattle.iset_c.proofs.scan.iset_plain.Kinds as plain-kinds
+use Rattle.iset_c.proofs.scan.iset_plain_exact.Reads as plain-exact-reads
+use Rattle.iset_c.proofs.scan.iset_plain_exact.Kinds as plain-exact-kinds
+
+-- the reply of a call whose number the rows say; b is whether each bound has a kind
+module _ (rows : Rows) (b : Bool) (R : Reply) (A X : List ℕ) (r : ℕ) where
+  places-of : r ≡ number b A R → X ≡ handed b A R → r ≡ 0
+      → (take (length (R .numbers)) X ≡ R .numbers) × (drop (length (R .numbers)) X ≡ drop (length (R .numbers)) A)
+  unfolding handed filled
+  places-of p q z =
+      let X-is : X ≡ filled (R .numbers) A = q ∙ rw (eq-eqb (number b A R) 0 (sym p ∙ z)) in
+      rw X-is (take-at (R .numbers) (drop (length (R .numbers)) A) _ refl, drop-at (R .numbers) (drop (length (R .numbers)) A) _ refl)
+
+  told : Lacks 101 rows → Exactly rows (cond b (R .no) 102) → (l old new : List (List ℕ)) → exit r X l ≡ exitOf b A R old new
+      → Told rows (R .numbers) A X r
+  unfolding number
+  told lacks e l old new p =
+      let p-number : r ≡ number b A R = ap (λ (x : Exit). x .number) p in
+      record {
+        number =
+            rw p-number
+            (failed-row 101 (length A < length (R .numbers)) rows (cond b (R .no) 102) (ltb (length A) (length (R .numbers))) lacks
+            (ltb-true (length A) (length (R .numbers))) (λ t h. omega (arith, ltb-false (length A) (length (R .numbers)) t)) (λ t. e));
+        places = places-of p-number (ap (λ (x : Exit). x .answer) p);
+      }
+
+-- and of one with a range
+module _ (rows : Rows) (R : Reply) (A X : List ℕ) (r lo-kind hi-kind : ℕ) where
+  kinds-fail : Fails (kinds lo-kind hi-kind) (BadBound lo-kind hi-kind)
+  unfolding kinds
+  kinds-fail = and-fails (leb lo-kind 2) (leb hi-kind 2) (2 < lo-kind) (2 < hi-kind) (le-fails lo-kind 2) (le-fails hi-kind 2)
+
+  told-ranged : Lacks 101 (refuse 102 (BadBound lo-kind hi-kind) rows) → Lacks 102 rows → Exactly rows (R .no)
+      → (l old new : List (List ℕ)) → exit r X l ≡ exitOf (kinds lo-kind hi-kind) A R old new
+      → Told (refuse 102 (BadBound lo-kind hi-kind) rows) (R .numbers) A X r
+  told-ranged k lacks e =
+      told (refuse 102 (BadBound lo-kind hi-kind) rows) (kinds lo-kind hi-kind) R A X r k
+      (passed-row 102 (BadBound lo-kind hi-kind) rows (R .no) (kinds lo-kind hi-kind) lacks (kinds-fail .0) (kinds-fail .1) (λ t. e))
+
+-- `iset_check`: its number is all
+pub check-told : (κs : Lfts 2) (a : K.Dens κs check-kinds.ps) (r : K.resT check-kinds.r κs .Denot) (s : AtExit (K.endedOf 2 check-kinds.ps check-kinds.r) κs)
+    → check-reads.Post κs a r s
+    → Exactly (checkRows (mapOf (a .0) (a .1 .0)) (now (a .1 .1 .0)) (now (a .1 .1 .1 .0))) r
+check-told κs a r s p = rw p (check-refusals (mapOf (a .0) (a .1 .0)) (now (a .1 .1 .0)) (now (a .1 .1 .1 .0)))
+
+-- `iset_build`: count, root
+pub build-told : (κs : Lfts 4) (a : K.Dens κs build-kinds.ps) (r : K.resT build-kinds.r κs .Denot) (s : AtExit (K.endedOf 4 build-kinds.ps build-kinds.r) κs)
+    → build-reads.Post κs a r s
+    → let W : List ℕ = now (a .0) in
+    let C : List ℕ = now (a .1 .0) in
+    let S : List ℕ = now (a .1 .1 .0) in
+    let b : BuildAnswer = buildCall W C S .answer in
+    Told (buildRows W C S) (b .map .count ∷ b .map .root ∷ []) (now (a .1 .1 .1 .0)) (now (s .1 .1 .1 .0)) r
+build-told κs a r s p = told _ true _ _ _ r (omega arith) (build-refusals _ _ _) _ _ _ p
+
+-- `iset_remove`: value, count, root, then three pairs, old slot, new slot, and how many hulls changed
+pub remove-told : (κs : Lfts 3) (a : K.Dens κs remove-kinds.ps) (r : K.resT remove-kinds.r κs .Denot) (s : AtExit (K.endedOf 3 remove-kinds.ps remove-kinds.r) κs)
+    → remove-reads.Post κs a r s
+    → let m : Map = mapOf (a .0) (a .1 .0) in
+    let W : List ℕ = now (a .1 .1 .0) in
+    let C : List ℕ = now (a .1 .1 .1 .0) in
+    let slot : ℕ = a .1 .1 .1 .1 .0 in
+    let b : RemoveAnswer = removeCall m W C slot .answer in
+    Told (removeRows m W C slot)
+    (b .value ∷ b .map .count ∷ b .map .root
+    ∷ b .pairs .first .old ∷ b .pairs .first .new ∷ b .pairs .second .old ∷ b .pairs .second .new ∷ b .pairs .third .old ∷ b .pairs .third .new ∷ b .reach ∷ [])
+    (now (a .1 .1 .1 .1 .1 .0)) (now (s .1 .1 .1 .1 .1 .0)) r
+remove-told κs a r s p = told _ true _ _ _ r (omega arith) (remove-refusals _ _ _ _) _ _ _ p
+
+-- `iset_insert`: count, root, the new entry's slot, and how many hulls changed
+pub insert-told : (κs : Lfts 3) (a : K.Dens κs insert-kinds.ps) (r : K.resT insert-kinds.r κs .Denot) (s : AtExit (K.endedOf 3 insert-kinds.ps insert-kinds.r) κs)
+    → insert-reads.Post κs a r s
+    → let m : Map = mapOf (a .0) (a .1 .0) in
+    let W : List ℕ = now (a .1 .1 .0) in
+    let C : List ℕ = now (a .1 .1 .1 .0) in
+    let e : Entry = record { start = a .1 .1 .1 .1 .0; end = a .1 .1 .1 .1 .1 .0; value = a .1 .1 .1 .1 .1 .1 .0 } in
+    let b : InsertAnswer = insertCall m W C e .answer in
+    Told (insertRows m W C e) (b .map .count ∷ b .map .root ∷ b .slot ∷ b .reach ∷ []) (now (a .1 .1 .1 .1 .1 .1 .1 .0)) (now (s .1 .1 .1 .1 .1 .1 .1 .0)) r
+insert-told κs a r s p = told _ true _ _ _ r (omega arith) (insert-refusals _ _ _ _) _ _ _ p
+
+-- `iset_fresh`: slot, levels, bits: the root, one level, 00. It has no refusal but 101.
+pub fresh-told : (κs : Lfts 1) (a : K.Dens κs fresh-kinds.ps) (r : K.resT fresh-kinds.r κs .Denot) (s : AtExit (K.endedOf 1 fresh-kinds.ps fresh-kinds.r) κs)
+    → fresh-reads.Post κs a r s → Told accept (a .1 .0 ∷ 1 ∷ 0 ∷ []) (now (a .1 .1 .0)) (now (s .1 .1 .0)) r
+fresh-told κs a r s p = told accept true _ _ _ r (omega arith) refl _ _ _ p
+
+-- `iset_fresh_exact`: slot, levels, bits
+pub fresh-exact-told : (κs : Lfts 3) (a : K.Dens κs fresh-exact-kinds.ps) (r : K.resT fresh-exact-kinds.r κs .Denot) (s : AtExit (K.endedOf 3 fresh-exact-kinds.ps fresh-exact-kinds.r) κs)
+    → fresh-exact-reads.Post κs a r s
+    → let m : Map = mapOf (a .0) (a .1 .0) in
+    let W : List ℕ = now (a .1 .1 .0) in
+    let C : List ℕ = now (a .1 .1 .1 .0) in
+    let x : Interval = record { start = a .1 .1 .1 .1 .0; end = a .1 .1 .1 .1 .1 .0 } in
+    let c : Cursor = startCall m W C x .cursor in
+    Told (startRows m W C x) (c .slot ∷ c .levels ∷ c .bits ∷ []) (now (a .1 .1 .1 .1 .1 .1 .0)) (now (s .1 .1 .1 .1 .1 .1 .0)) r
+fresh-exact-told κs a r s p = told _ true _ _ _ r (omega arith) (start-refusals _ _ _ _) _ _ _ p
+
+-- `iset_step`
+pub step-told : (κs : Lfts 3) (a : K.Dens κs step-kinds.ps) (r : K.resT step-kinds.r κs .Denot) (s : AtExit (K.endedOf 3 step-kinds.ps step-kinds.r) κs)
+    → step-reads.Post κs a r s
+    → let m : Map = mapOf (a .0) (a .1 .0) in
+    let W : List ℕ = now (a .1 .1 .0) in
+    let C : List ℕ = now (a .1 .1 .1 .0) in
+    let b = a .1 .1 .1 .1 in
+    let q : Query = rangeOf (b .0) (b .1 .0) (b .1 .1 .0) (b .1 .1 .1 .0) in
+    let c : Cursor = record { slot = b .1 .1 .1 .1 .0; levels = b .1 .1 .1 .1 .1 .0; bits = b .1 .1 .1 .1 .1 .1 .0 } in
+    Told (refuse 102 (BadBound (b .0) (b .1 .1 .0)) (stepRows m W C q c)) (stepPlaces (stepCall m W C q c))
+    (now (b .1 .1 .1 .1 .1 .1 .1 .0)) (now (s .1 .1 .1 .1 .1 .1 .1 .1 .1 .1 .1 .0)) r
+step-told κs a r s p =
+    let m : Map = mapOf (a .0) (a .1 .0) in
+    let W : List ℕ = now (a .1 .1 .0) in
+    let C : List ℕ = now (a .1 .1 .1 .0) in
+    let b = a .1 .1 .1 .1 in
+    let q : Query = rangeOf (b .0) (b .1 .0) (b .1 .1 .0) (b .1 .1 .1 .0) in
+    let c : Cursor = record { slot = b .1 .1 .1 .1 .0; levels = b .1 .1 .1 .1 .1 .0; bits = b .1 .1 .1 .1 .1 .1 .0 } in
+    told-ranged (stepRows m W C q c) (stepReply (stepCall m W C q c)) (now (b .1 .1 .1 .1 .1 .1 .1 .0)) (now (s .1 .1 .1 .1 .1 .1 .1 .1 .1 .1 .1 .0)) r
+    (b .0) (b .1 .1 .0) (omega arith) (omega arith) (step-refusals m W C c q) _ _ _ p
+
+-- `iset_step_exact`
+pub step-exact-told : (κs : Lfts 3) (a : K.Dens κs step-exact-kinds.ps) (r : K.resT step-exact-kinds.r κs .Denot) (s : AtExit (K.endedOf 3 step-exact-kinds.ps step-exact-kinds.r) κs)
+    → step-exact-reads.Post κs a r s
+    → let m : Map = mapOf (a .0) (a .1 .0) in
+    let W : List ℕ = now (a .1 .1 .0) in
+    let C : List ℕ = now (a .1 .1 .1 .0) in
+    let b = a .1 .1 .1 .1 in
+    let q : Query = Exact (record { start = b .0; end = b .1 .0 }) in
+    let c : Cursor = record { slot = b .1 .1 .0; levels = b .1 .1 .1 .0; bits = b .1 .1 .1 .1 .0 } in
+    Told (stepRows m W C q c) (stepPlaces (stepCall m W C q c)) (now (b .1 .1 .1 .1 .1 .0)) (now (s .1 .1 .1 .1 .1 .1 .1 .1 .1 .0)) r
+step-exact-told κs a r s p =
+    let m : Map = mapOf (a .0) (a .1 .0) in
+    let W : List ℕ = now (a .1 .1 .0) in
+    let C : List ℕ = now (a .1 .1 .1 .0) in
+    let b = a .1 .1 .1 .1 in
+    let q : Query = Exact (record { start = b .0; end = b .1 .0 }) in
+    let c : Cursor = record { slot = b .1 .1 .0; levels = b .1 .1 .1 .0; bits = b .1 .1 .1 .1 .0 } in
+    told (stepRows m W C q c) true (stepReply (stepCall m W C q c)) (now (b .1 .1 .1 .1 .1 .0)) (now (s .1 .1 .1 .1 .1 .1 .1 .1 .1 .0)) r
+    (omega arith) (step-refusals m W C c q) _ _ _ p
+
+-- `iset_drain`
+pub drain-told : (κs : Lfts 4) (a : K.Dens κs drain-kinds.ps) (r : K.resT drain-kinds.r κs .Denot) (s : AtExit (K.endedOf 4 drain-kinds.ps drain-kinds.r) κs)
+    → drain-reads.Post κs a r s
+    → let m : Map = mapOf (a .0) (a .1 .0) in
+    let W : List ℕ = now (a .1 .1 .0) in
+    let C : List ℕ = now (a .1 .1 .1 .0) in
+    let b = a .1 .1 .1 .1 in
+    let q : Query = rangeOf (b .0) (b .1 .0) (b .1 .1 .0) (b .1 .1 .1 .0) in
+    let c : Cursor = record { slot = b .1 .1 .1 .1 .0; levels = b .1 .1 .1 .1 .1 .0; bits = b .1 .1 .1 .1 .1 .1 .0 } in
+    let limit : ℕ = b .1 .1 .1 .1 .1 .1 .1 .0 in
+    let out : List ℕ = now (b .1 .1 .1 .1 .1 .1 .1 .1 .0) in
+    Told (refuse 102 (BadBound (b .0) (b .1 .1 .0)) (drainRows m W C q c limit (length out))) (drainPlaces (drainCall m W C q c limit out .answer))
+    (now (b .1 .1 .1 .1 .1 .1 .1 .1 .1 .0)) (now (s .1 .1 .1 .1 .1 .1 .1 .1 .1 .1 .1 .1 .1 .0)) r
+drain-told κs a r s p =
+    let m : Map = mapOf (a .0) (a .1 .0) in
+    let W : List ℕ = now (a .1 .1 .0) in
+    let C : List ℕ = now (a .1 .1 .1 .0) in
+    let b = a .1 .1 .1 .1 in
+    let q : Query = rangeOf (b .0) (b .1 .0) (b .1 .1 .0) (b .1 .1 .1 .0) in
+    let c : Cursor = record { slot = b .1 .1 .1 .1 .0; levels = b .1 .1 .1 .1 .1 .0; bits = b .1 .1 .1 .1 .1 .1 .0 } in
+    let limit : ℕ = b .1 .1 .1 .1 .1 .1 .1 .0 in
+    let out : List ℕ = now (b .1 .1 .1 .1 .1 .1 .1 .1 .0) in
+    told-ranged (drainRows m W C q c limit (length out)) (drainReply (drainCall m W C q c limit out .answer))
+    (now (b .1 .1 .1 .1 .1 .1 .1 .1 .1 .0)) (now (s .1 .1 .1 .1 .1 .1 .1 .1 .1 .1 .1 .1 .1 .0)) r
+    (b .0) (b .1 .1 .0) (omega arith) (omega arith) (drain-refusals m W C c limit q out) _ _ _ p
+
+-- `iset_drain_exact`
+pub drain-exact-told : (κs : Lfts 4) (a : K.Dens κs drain-exact-kinds.ps) (r : K.resT drain-exact-kinds.r κs .Denot) (s : AtExit (K.endedOf 4 drain-exact-kinds.ps drain-exact-kinds.r) κs)
+    → drain-exact-reads.Post κs a r s
+    → let m : Map = mapOf (a .0) (a .1 .0) in
+    let W : List ℕ = now (a .1 .1 .0) in
+    let C : List ℕ = now (a .1 .1 .1 .0) in
+    let b = a .1 .1 .1 .1 in
+    let q : Query = Exact (record { start = b .0; end = b .1 .0 }) in
+    let c : Cursor = record { slot = b .1 .1 .0; levels = b .1 .1 .1 .0; bits = b .1 .1 .1 .1 .0 } in
+    let limit : ℕ = b .1 .1 .1 .1 .1 .0 in
+    let out : List ℕ = now (b .1 .1 .1 .1 .1 .1 .0) in
+    Told (drainRows m W C q c limit (length out)) (drainPlaces (drainCall m W C q c limit out .answer))
+    (now (b .1 .1 .1 .1 .1 .1 .1 .0)) (now (s .1 .1 .1 .1 .1 .1 .1 .1 .1 .1 .1 .0)) r
+drain-exact-told κs a r s p =
+    let m : Map = mapOf (a .0) (a .1 .0) in
+    let W : List ℕ = now (a .1 .1 .0) in
+    let C : List ℕ = now (a .1 .1 .1 .0) in
+    let b = a .1 .1 .1 .1 in
+    let q : Query = Exact (record { start = b .0; end = b .1 .0 }) in
+    let c : Cursor = record { slot = b .1 .1 .0; levels = b .1 .1 .1 .0; bits = b .1 .1 .1 .1 .0 } in
+    let limit : ℕ = b .1 .1 .1 .1 .1 .0 in
+    let out : List ℕ = now (b .1 .1 .1 .1 .1 .1 .0) in
+    told (drainRows m W C q c limit (length out)) true (drainReply (drainCall m W C q c limit out .answer))
+    (now (b .1 .1 .1 .1 .1 .1 .1 .0)) (now (s .1 .1 .1 .1 .1 .1 .1 .1 .1 .1 .1 .0)) r
+    (omega arith) (drain-refusals m W C c limit q out) _ _ _ p
+
+-- `iset_plain`
+pub plain-told : (κs : Lfts 4) (a : K.Dens κs plain-kinds.ps) (r : K.resT plain-kinds.r κs .Denot) (s : AtExit (K.endedOf 4 plain-kinds.ps plain-kinds.r) κs)
+    → plain-reads.Post κs a r s
+    → let m : Map = mapOf (a .0) (a .1 .0) in
+    let W : List ℕ = now (a .1 .1 .0) in
+    let C : List ℕ = now (a .1 .1 .1 .0) in
+    let b = a .1 .1 .1 .1 in
+    let q : Query = rangeOf (b .0) (b .1 .0) (b .1 .1 .0) (b .1 .1 .1 .0) in
+    let out : List ℕ = now (b .1 .1 .1 .1 .0) in
+    Told (refuse 102 (BadBound (b .0) (b .1 .1 .0)) (plainRows m W C q (length out))) (plainPlaces (plainCall m W C q out .answer))
+    (now (b .1 .1 .1 .1 .1 .0)) (now (s .1 .1 .1 .1 .1 .1 .1 .1 .1 .0)) r
+plain-told κs a r s p =
+    let m : Map = mapOf (a .0) (a .1 .0) in
+    let W : List ℕ = now (a .1 .1 .0) in
+    let C : List ℕ = now (a .1 .1 .1 .0) in
+    let b = a .1 .1 .1 .1 in
+    let q : Query = rangeOf (b .0) (b .1 .0) (b .1 .1 .0) (b .1 .1 .1 .0) in
+    let out : List ℕ = now (b .1 .1 .1 .1 .0) in
+    told-ranged (plainRows m W C q (length out)) (plainReply (plainCall m W C q out .answer))
+    (now (b .1 .1 .1 .1 .1 .0)) (now (s .1 .1 .1 .1 .1 .1 .1 .1 .1 .0)) r
+    (b .0) (b .1 .1 .0) (omega arith) (omega arith) (plain-refusals m W C q out) _ _ _ p
+
+-- `iset_plain_exact`
+pub plain-exact-told : (κs : Lfts 4) (a : K.Dens κs plain-exact-kinds.ps) (r : K.resT plain-exact-kinds.r κs .Denot) (s : AtExit (K.endedOf 4 plain-exact-kinds.ps plain-exact-kinds.r) κs)
+    → plain-exact-reads.Post κs a r s
+    → let m : Map = mapOf (a .0) (a .1 .0) in
+    let W : List ℕ = now (a .1 .1 .0) in
+    let C : List ℕ = now (a .1 .1 .1 .0) in
+    let b = a .1 .1 .1 .1 in
+    let q : Query = Exact (record { start = b .0; end = b .1 .0 }) in
+    let out : List ℕ = now (b .1 .1 .0) in
+    Told (plainRows m W C q (length out)) (plainPlaces (plainCall m W C q out .answer))
+    (now (b .1 .1 .1 .0)) (now (s .1 .1 .1 .1 .1 .1 .1 .0)) r
+plain-exact-told κs a r s p =
+    let m : Map = mapOf (a .0) (a .1 .0) in
+    let W : List ℕ = now (a .1 .1 .0) in
+    let C : List ℕ = now (a .1 .1 .1 .0) in
+    let b = a .1 .1 .1 .1 in
+    let q : Query = Exact (record { start = b .0; end = b .1 .0 }) in
+    let out : List ℕ = now (b .1 .1 .0) in
+    told (plainRows m W C q (length out)) true (plainReply (plainCall m W C q out .answer))
+    (now (b .1 .1 .1 .0)) (now (s .1 .1 .1 .1 .1 .1 .1 .0)) r
+    (omega arith) (plain-refusals m W C q out) _ _ _ p

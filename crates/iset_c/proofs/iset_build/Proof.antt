@@ -1,0 +1,26 @@
+use Prim.Native.Nat.{ℕ}
+use Rattle.words.proofs.Refusals.{number-pos}
+use Rattle.iset.specs.Build.{buildAnswer}
+use Rattle.iset_c.specs.Replies.{buildReply}
+use Rattle.iset_c.proofs.Laws.{short-exit, refused-change, done-change}
+use borrow.Author.Needs.{needs}
+use Rattle.iset_c.proofs.iset_build.Statement.{statement}
+use Rattle.iset_c.proofs.iset_build.Tie as tie
+
+pub iset-build-spec : {M : Type 1} → statement M
+iset-build-spec =
+    tie.close
+    (tie.spec
+    (λ c. search short-exit)
+    (λ c κs. search needs)
+    (λ c. search needs)
+    (λ c κs. search needs)
+    (λ c. search needs)
+    (λ c κs. search needs)
+    (λ c. search needs)
+    (λ c. search needs)
+    (λ c. search (refused-change (λ (g : ℕ). buildAnswer) buildReply 0, number-pos))
+    (λ c. search needs)
+    (λ c. search needs)
+    (λ c. search needs)
+    (λ c. search (done-change (λ (g : ℕ). buildAnswer) buildReply 0)))

@@ -1,0 +1,25 @@
+use Rattle.words.proofs.Refusals.{number-pos}
+use Rattle.iset.specs.Insert.{insertAnswer}
+use Rattle.iset_c.specs.Replies.{insertReply}
+use Rattle.iset_c.proofs.Laws.{short-exit, refused-change, done-change}
+use borrow.Author.Needs.{needs}
+use Rattle.iset_c.proofs.iset_insert.Statement.{statement}
+use Rattle.iset_c.proofs.iset_insert.Tie as tie
+
+pub iset-insert-spec : {M : Type 1} → statement M
+iset-insert-spec =
+    tie.close
+    (tie.spec
+    (λ c. search short-exit)
+    (λ c κs. search needs)
+    (λ c. search needs)
+    (λ c κs. search needs)
+    (λ c. search needs)
+    (λ c κs. search needs)
+    (λ c. search needs)
+    (λ c. search needs)
+    (λ c. search (refused-change insertAnswer insertReply, number-pos))
+    (λ c. search needs)
+    (λ c. search needs)
+    (λ c. search needs)
+    (λ c. search (done-change insertAnswer insertReply)))

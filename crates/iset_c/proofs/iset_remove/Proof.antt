@@ -1,0 +1,25 @@
+use Rattle.words.proofs.Refusals.{number-pos}
+use Rattle.iset.specs.Remove.{removeAnswer}
+use Rattle.iset_c.specs.Replies.{removeReply}
+use Rattle.iset_c.proofs.Laws.{short-exit, refused-change, done-change}
+use borrow.Author.Needs.{needs}
+use Rattle.iset_c.proofs.iset_remove.Statement.{statement}
+use Rattle.iset_c.proofs.iset_remove.Tie as tie
+
+pub iset-remove-spec : {M : Type 1} → statement M
+iset-remove-spec =
+    tie.close
+    (tie.spec
+    (λ c. search short-exit)
+    (λ c κs. search needs)
+    (λ c. search needs)
+    (λ c κs. search needs)
+    (λ c. search needs)
+    (λ c κs. search needs)
+    (λ c. search needs)
+    (λ c. search needs)
+    (λ c. search (refused-change removeAnswer removeReply, number-pos))
+    (λ c. search needs)
+    (λ c. search needs)
+    (λ c. search needs)
+    (λ c. search (done-change removeAnswer removeReply)))

@@ -1,0 +1,18 @@
+use Rattle.iset_c.proofs.Laws.{short-exit, bounded, unbounded-exit}
+use Rattle.iset_c.specs.Replies.{plainExit}
+use borrow.Author.Needs.{needs}
+use Rattle.iset_c.proofs.scan.iset_plain.Statement.{statement}
+use Rattle.iset_c.proofs.scan.iset_plain.Tie as tie
+
+pub iset-plain-spec : {M : Type 1} → statement M
+iset-plain-spec =
+    tie.close
+    (tie.spec
+    (λ c. search short-exit)
+    (λ c κs. search needs)
+    (λ c κs. search needs)
+    (λ c κs. search needs)
+    (λ c. search needs)
+    (λ c. search needs)
+    (λ c. search (bounded plainExit))
+    (λ c. search unbounded-exit))

@@ -1,0 +1,103 @@
+// Writing the numbers of an answer, in the order that include/iset.h declares.
+use iset::Cursor;
+use iset::Drained;
+use iset::Map;
+use iset::Step;
+use iset::Tally;
+use iset::insert::Inserted;
+use iset::remove::Removed;
+use words::ix::U;
+ghost use mathlib.Core.Path.{_≡_};
+ghost use Prim.Native.Nat.{_≤_};
+ghost use lib.ListN.{length};
+ghost use Rattle.iter.specs.Drains.{filled};
+ghost use Rattle.iset_c.specs.Replies.{mapNumbers, removedNumbers, insertedNumbers, cursorNumbers, stepNumbers, foundNumbers, drainNumbers, plainNumbers};
+
+// Writes the numbers to the front of the answer. Places past them stay.
+pub(crate) fn put(numbers: &[u64], answer: &mut [u64])
+    requires { ⌜ length (now numbers) ≤ length (now answer) ⌝ }
+    ensures { λ _. ⌜ now (answer .exit) ≡ filled (now (numbers .entry)) (now (answer .entry)) ⌝ }
+{
+    let mut i = 0;
+    while i < numbers.len() {
+        answer[i] = numbers[i];
+        i += 1;
+    }
+}
+
+pub(crate) fn put_map(m: Map, answer: &mut [u64])
+    requires { ⌜ 2 ≤ length (now answer) ⌝ }
+    ensures { λ _. ⌜ now (answer .exit) ≡ filled (mapNumbers m) (now (answer .entry)) ⌝ }
+{
+    let numbers = [m.count, m.root];
+    put(&numbers, answer);
+}
+
+pub fn put_removed(g: Removed, answer: &mut [u64])
+    requires { ⌜ 10 ≤ length (now answer) ⌝ }
+    ensures { λ _. ⌜ now (answer .exit) ≡ filled (removedNumbers (g .value) (g .map) (g .pairs) (g .reach)) (now (answer .entry)) ⌝ }
+{
+    let numbers = [
+        g.value,
+        g.map.count,
+        g.map.root,
+        g.pairs.first.old,
+        g.pairs.first.new,
+        g.pairs.second.old,
+        g.pairs.second.new,
+        g.pairs.third.old,
+        g.pairs.third.new,
+        g.reach,
+    ];
+    put(&numbers, answer);
+}
+
+pub fn put_inserted(a: Inserted, answer: &mut [u64])
+    requires { ⌜ 4 ≤ length (now answer) ⌝ }
+    ensures { λ _. ⌜ now (answer .exit) ≡ filled (insertedNumbers (a .map) (a .slot) (a .reach)) (now (answer .entry)) ⌝ }
+{
+    let numbers = [a.map.count, a.map.root, a.slot, a.reach];
+    put(&numbers, answer);
+}
+
+pub fn put_cursor(c: Cursor, answer: &mut [u64])
+    requires { ⌜ 3 ≤ length (now answer) ⌝ }
+    ensures { λ _. ⌜ now (answer .exit) ≡ filled (cursorNumbers c) (now (answer .entry)) ⌝ }
+{
+    let numbers = [c.slot, c.levels, c.bits];
+    put(&numbers, answer);
+}
+
+fn put_found(slot: u64, next: Cursor, entered: u64, answer: &mut [u64])
+    requires { ⌜ 5 ≤ length (now answer) ⌝ }
+    ensures { λ _. ⌜ now (answer .exit) ≡ filled (stepNumbers slot next entered) (now (answer .entry)) ⌝ }
+{
+    let numbers = [slot, next.slot, next.levels, next.bits, entered];
+    put(&numbers, answer);
+}
+
+pub fn put_step(s: Step, answer: &mut [u64])
+    requires { ⌜ 5 ≤ length (now answer) ⌝ }
+    ensures { λ _. ⌜ now (answer .exit) ≡ filled (foundNumbers s) (now (answer .entry)) ⌝ }
+{
+    match s {
+        Step::Hit(next, entered) => put_found(next.slot, next, entered, answer),
+        Step::End(entered) => put_found(U, Cursor::ended(), entered, answer),
+    }
+}
+
+pub fn put_drained(d: Drained, answer: &mut [u64])
+    requires { ⌜ 5 ≤ length (now answer) ⌝ }
+    ensures { λ _. ⌜ now (answer .exit) ≡ filled (drainNumbers (d .hits) (d .entered) (d .next)) (now (answer .entry)) ⌝ }
+{
+    let numbers = [d.hits, d.entered, d.next.slot, d.next.levels, d.next.bits];
+    put(&numbers, answer);
+}
+
+pub fn put_tally(t: Tally, answer: &mut [u64])
+    requires { ⌜ 2 ≤ length (now answer) ⌝ }
+    ensures { λ _. ⌜ now (answer .exit) ≡ filled (plainNumbers (t .hits) (t .entered)) (now (answer .entry)) ⌝ }
+{
+    let numbers = [t.hits, t.entered];
+    put(&numbers, answer);
+}

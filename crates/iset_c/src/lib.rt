@@ -1,0 +1,147 @@
+// The map for hosts in C and Rust: every public call of crate iset over lent slices and numbers, as include/iset.h declares them. Over
+// extern "C" a slice is two scalars, its pointer and its length; a map, a range and a cursor are the numbers that they hold.
+//
+// An export returns the refusal's number, 0 for none, and writes the answer's numbers to the front of the slice `answer`. Two
+// refusals are its own and come before those of the call: ShortAnswer where that slice does not hold the numbers, then BadBound where a kind of
+// bound is none. Where anything is refused nothing lent has changed, the answer slice neither.
+pub mod answer;
+pub mod lookup;
+pub mod range;
+pub mod scan;
+
+use crate::answer::put_inserted;
+use crate::answer::put_map;
+use crate::answer::put_removed;
+use iset::Map;
+use iset::Pair;
+use iset::Pairs;
+use iset::build::Built;
+use iset::insert::Insertion;
+use iset::remove::Removal;
+use iset::remove::Removed;
+ghost use mathlib.Core.Path.{_≡_};
+ghost use mathlib.Core.List.{[], _∷_};
+ghost use Rattle.iset.specs.Check.{checkRule};
+ghost use Rattle.iset.specs.Remove.{slotAfter};
+ghost use Rattle.iset.specs.Insert.{entryOf};
+ghost use Rattle.iset.specs.Maps.{mapOf};
+ghost use Rattle.iset_c.specs.Replies.{exit, pairsOf, buildExit, removeExit, insertExit};
+
+// The exports' own refusals. Their numbers leave room for refusals that the map may get after the ten of crate words.
+pub const SHORT_ANSWER: u64 = 101;
+
+pub const BAD_BOUND: u64 = 102;
+
+// The store check. Its number is its whole answer.
+#[no_mangle]
+pub extern "C" fn iset_check(count: u64, root: u64, nodes: &[u64], colours: &[u8]) -> u64
+    ensures { λ r. ⌜ r ≡ checkRule (mapOf count root) (now (nodes .entry)) (now (colours .entry)) ⌝ }
+{
+    (Map { count, root }).check(nodes, colours).number()
+}
+
+// The map of the triples start, end, value of a list. Answer: count, root.
+#[no_mangle]
+pub extern "C" fn iset_build(
+    nodes: &mut [u64],
+    colours: &mut [u8],
+    list: &[u64],
+    answer: &mut [u64],
+) -> u64
+    ensures { λ r. ⌜ exit r (now (answer .exit)) (now (nodes .exit) ∷ now (colours .exit) ∷ [])
+        ≡ buildExit (now (answer .entry)) (now (nodes .entry)) (now (colours .entry)) (now (list .entry)) ⌝ }
+{
+    if answer.len() < 2 {
+        return SHORT_ANSWER;
+    }
+    match Map::build(nodes, colours, list) {
+        Built::Refused(why) => why.number(),
+        Built::Done(m) => {
+            put_map(m, answer);
+            0
+        }
+    }
+}
+
+// Removes the entry of a slot. Answer: value, count, root, then the moved entries, three times old slot, new slot, and how many hulls
+// changed.
+#[no_mangle]
+pub extern "C" fn iset_remove(
+    count: u64,
+    root: u64,
+    nodes: &mut [u64],
+    colours: &mut [u8],
+    slot: u64,
+    answer: &mut [u64],
+) -> u64
+    ensures { λ r. ⌜ exit r (now (answer .exit)) (now (nodes .exit) ∷ now (colours .exit) ∷ [])
+        ≡ removeExit (now (answer .entry)) (mapOf count root) (now (nodes .entry)) (now (colours .entry)) slot ⌝ }
+{
+    if answer.len() < 10 {
+        return SHORT_ANSWER;
+    }
+    match (Map { count, root }).remove(nodes, colours, slot) {
+        Removal::Refused(why) => why.number(),
+        Removal::Done(g) => {
+            put_removed(g, answer);
+            0
+        }
+    }
+}
+
+// After a removal of slot `removed` that gave `answer`: the slot of the entry that was in slot `kept` before it, U for the removed one.
+#[no_mangle]
+pub extern "C" fn iset_slot_after(answer: &[u64; 10], removed: u64, kept: u64) -> u64
+    ensures { λ r. ⌜ r ≡ slotAfter (pairsOf (now (answer .entry))) removed kept ⌝ }
+{
+    let gone = Removed {
+        map: Map {
+            count: answer[1],
+            root: answer[2],
+        },
+        value: answer[0],
+        pairs: Pairs {
+            first: Pair {
+                old: answer[3],
+                new: answer[4],
+            },
+            second: Pair {
+                old: answer[5],
+                new: answer[6],
+            },
+            third: Pair {
+                old: answer[7],
+                new: answer[8],
+            },
+        },
+        reach: answer[9],
+    };
+    gone.slot_after(removed, kept)
+}
+
+// Adds an entry in slot `count`; no other entry changes slot. Answer: count, root, the entry's slot, and how many hulls changed.
+#[no_mangle]
+pub extern "C" fn iset_insert(
+    count: u64,
+    root: u64,
+    nodes: &mut [u64],
+    colours: &mut [u8],
+    start: u64,
+    end: u64,
+    value: u64,
+    answer: &mut [u64],
+) -> u64
+    ensures { λ r. ⌜ exit r (now (answer .exit)) (now (nodes .exit) ∷ now (colours .exit) ∷ [])
+        ≡ insertExit (now (answer .entry)) (mapOf count root) (now (nodes .entry)) (now (colours .entry)) (entryOf start end value) ⌝ }
+{
+    if answer.len() < 4 {
+        return SHORT_ANSWER;
+    }
+    match (Map { count, root }).insert(nodes, colours, start, end, value) {
+        Insertion::Refused(why) => why.number(),
+        Insertion::Done(a) => {
+            put_inserted(a, answer);
+            0
+        }
+    }
+}

@@ -1,0 +1,250 @@
+// Looking up: fresh cursors, steps and drains. A cursor is three numbers, slot, levels and bits; a bound is two, its kind and its number.
+use crate::BAD_BOUND;
+use crate::SHORT_ANSWER;
+use crate::answer::put_cursor;
+use crate::answer::put_drained;
+use crate::answer::put_step;
+use crate::range::are_kinds;
+use crate::range::range;
+use iset::Cursor;
+use iset::Interval;
+use iset::Map;
+use iset::Query;
+use iset::lookup::Drain;
+use iset::lookup::Started;
+use iset::lookup::Stepped;
+ghost use mathlib.Core.Path.{_≡_};
+ghost use mathlib.Core.Bool.{true};
+ghost use mathlib.Core.List.{[], _∷_};
+ghost use Prim.Native.Nat.{_≤_};
+ghost use lib.ListN.{length};
+ghost use Rattle.iter.specs.Cursors.{fresh};
+ghost use Rattle.iset.specs.Maps.{mapOf};
+ghost use Rattle.iset_c.specs.Replies.{cursorOf, exit, freshReply, answerExit, startExit, stepExit, drainExit};
+ghost use Rattle.iset_c.specs.Ranges.{rangeOf, intervalOf, exactOf, kinds};
+
+// The fresh cursor of an overlap lookup. Answer: slot, levels, bits. The map is tested where the cursor is used.
+#[no_mangle]
+pub extern "C" fn iset_fresh(count: u64, root: u64, answer: &mut [u64]) -> u64
+    ensures { λ r. ⌜ exit r (now (answer .exit)) []
+        ≡ answerExit true (now (answer .entry)) (freshReply (fresh root)) ⌝ }
+{
+    if answer.len() < 3 {
+        return SHORT_ANSWER;
+    }
+    put_cursor((Map { count, root }).fresh(), answer);
+    0
+}
+
+// The fresh cursor of an exact lookup. Answer: slot, levels, bits.
+#[no_mangle]
+pub extern "C" fn iset_fresh_exact(
+    count: u64,
+    root: u64,
+    nodes: &[u64],
+    colours: &[u8],
+    start: u64,
+    end: u64,
+    answer: &mut [u64],
+) -> u64
+    ensures { λ r. ⌜ exit r (now (answer .exit)) []
+        ≡ startExit (now (answer .entry)) (mapOf count root) (now (nodes .entry)) (now (colours .entry)) (intervalOf start end) ⌝ }
+{
+    if answer.len() < 3 {
+        return SHORT_ANSWER;
+    }
+    match (Map { count, root }).fresh_exact(nodes, colours, Interval { start, end }) {
+        Started::Refused(why) => why.number(),
+        Started::Done(c) => {
+            put_cursor(c, answer);
+            0
+        }
+    }
+}
+
+// A step of either kind of lookup.
+fn step(
+    map: Map,
+    nodes: &[u64],
+    colours: &[u8],
+    query: Query,
+    cursor: Cursor,
+    answer: &mut [u64],
+) -> u64
+    requires { ⌜ 5 ≤ length (now answer) ⌝ }
+    ensures { λ r. ⌜ exit r (now (answer .exit)) []
+        ≡ stepExit true (now (answer .entry)) map (now (nodes .entry)) (now (colours .entry)) query cursor ⌝ }
+{
+    match map.step(nodes, colours, query, cursor) {
+        Stepped::Refused(why) => why.number(),
+        Stepped::Done(s) => {
+            put_step(s, answer);
+            0
+        }
+    }
+}
+
+// The next entry that intersects a range. Answer: its slot, U at the end; the next cursor's slot, levels, bits; nodes entered.
+#[no_mangle]
+pub extern "C" fn iset_step(
+    count: u64,
+    root: u64,
+    nodes: &[u64],
+    colours: &[u8],
+    lo_kind: u64,
+    lo: u64,
+    hi_kind: u64,
+    hi: u64,
+    slot: u64,
+    levels: u64,
+    bits: u64,
+    answer: &mut [u64],
+) -> u64
+    ensures { λ r. ⌜ exit r (now (answer .exit)) []
+        ≡ stepExit (kinds «lo_kind» «hi_kind») (now (answer .entry)) (mapOf count root) (now (nodes .entry)) (now (colours .entry)) (rangeOf «lo_kind» lo «hi_kind» hi) (cursorOf slot levels bits) ⌝ }
+{
+    if answer.len() < 5 {
+        return SHORT_ANSWER;
+    }
+    if are_kinds(lo_kind, hi_kind) {
+        step(
+            Map { count, root },
+            nodes,
+            colours,
+            range(lo_kind, lo, hi_kind, hi),
+            Cursor { slot, levels, bits },
+            answer,
+        )
+    } else {
+        BAD_BOUND
+    }
+}
+
+// The next entry that is equal to an interval. Answer: as of iset_step.
+#[no_mangle]
+pub extern "C" fn iset_step_exact(
+    count: u64,
+    root: u64,
+    nodes: &[u64],
+    colours: &[u8],
+    start: u64,
+    end: u64,
+    slot: u64,
+    levels: u64,
+    bits: u64,
+    answer: &mut [u64],
+) -> u64
+    ensures { λ r. ⌜ exit r (now (answer .exit)) []
+        ≡ stepExit true (now (answer .entry)) (mapOf count root) (now (nodes .entry)) (now (colours .entry)) (exactOf start end) (cursorOf slot levels bits) ⌝ }
+{
+    if answer.len() < 5 {
+        return SHORT_ANSWER;
+    }
+    step(
+        Map { count, root },
+        nodes,
+        colours,
+        Query::Exact(Interval { start, end }),
+        Cursor { slot, levels, bits },
+        answer,
+    )
+}
+
+// A drain of either kind of lookup.
+fn drain(
+    map: Map,
+    nodes: &[u64],
+    colours: &[u8],
+    query: Query,
+    cursor: Cursor,
+    limit: u64,
+    out: &mut [u64],
+    answer: &mut [u64],
+) -> u64
+    requires { ⌜ 5 ≤ length (now answer) ⌝ }
+    ensures { λ r. ⌜ exit r (now (answer .exit)) (now (out .exit) ∷ [])
+        ≡ drainExit true (now (answer .entry)) map (now (nodes .entry)) (now (colours .entry)) query cursor limit (now (out .entry)) ⌝ }
+{
+    match map.drain(nodes, colours, query, cursor, limit, out) {
+        Drain::Refused(why) => why.number(),
+        Drain::Done(d) => {
+            put_drained(d, answer);
+            0
+        }
+    }
+}
+
+// Steps from a cursor until the end, or until `limit` slots are in `out`; a limit of 0 means as many as fit. Answer: how many slots were written,
+// nodes entered, the next cursor's slot, levels, bits.
+#[no_mangle]
+pub extern "C" fn iset_drain(
+    count: u64,
+    root: u64,
+    nodes: &[u64],
+    colours: &[u8],
+    lo_kind: u64,
+    lo: u64,
+    hi_kind: u64,
+    hi: u64,
+    slot: u64,
+    levels: u64,
+    bits: u64,
+    limit: u64,
+    out: &mut [u64],
+    answer: &mut [u64],
+) -> u64
+    ensures { λ r. ⌜ exit r (now (answer .exit)) (now (out .exit) ∷ [])
+        ≡ drainExit (kinds «lo_kind» «hi_kind») (now (answer .entry)) (mapOf count root) (now (nodes .entry)) (now (colours .entry)) (rangeOf «lo_kind» lo «hi_kind» hi) (cursorOf slot levels bits) limit (now (out .entry)) ⌝ }
+{
+    if answer.len() < 5 {
+        return SHORT_ANSWER;
+    }
+    if are_kinds(lo_kind, hi_kind) {
+        drain(
+            Map { count, root },
+            nodes,
+            colours,
+            range(lo_kind, lo, hi_kind, hi),
+            Cursor { slot, levels, bits },
+            limit,
+            out,
+            answer,
+        )
+    } else {
+        BAD_BOUND
+    }
+}
+
+// The drain of an exact lookup. Answer: as of iset_drain.
+#[no_mangle]
+pub extern "C" fn iset_drain_exact(
+    count: u64,
+    root: u64,
+    nodes: &[u64],
+    colours: &[u8],
+    start: u64,
+    end: u64,
+    slot: u64,
+    levels: u64,
+    bits: u64,
+    limit: u64,
+    out: &mut [u64],
+    answer: &mut [u64],
+) -> u64
+    ensures { λ r. ⌜ exit r (now (answer .exit)) (now (out .exit) ∷ [])
+        ≡ drainExit true (now (answer .entry)) (mapOf count root) (now (nodes .entry)) (now (colours .entry)) (exactOf start end) (cursorOf slot levels bits) limit (now (out .entry)) ⌝ }
+{
+    if answer.len() < 5 {
+        return SHORT_ANSWER;
+    }
+    drain(
+        Map { count, root },
+        nodes,
+        colours,
+        Query::Exact(Interval { start, end }),
+        Cursor { slot, levels, bits },
+        limit,
+        out,
+        answer,
+    )
+}

@@ -1,0 +1,118 @@
+-- Any two numbers, and any two contents of each lent slice at exit, that an export's promise allows are equal.
+use mathlib.Core.Path.{_≡_}
+use contract.Lifetimes.{Lfts}
+use borrow.Fn.Kinds as K
+use denote.Triple.Clauses.{AtExit}
+use denote.Ref.{now}
+use Rattle.iset_c.proofs.Exits.{same-answer, same-change, same-output}
+use Rattle.iset_c_open.proofs.iset_open_remove.Reads as remove-reads
+use Rattle.iset_c_open.proofs.iset_open_remove.Kinds as remove-kinds
+use Rattle.iset_c_open.proofs.iset_open_insert.Reads as insert-reads
+use Rattle.iset_c_open.proofs.iset_open_insert.Kinds as insert-kinds
+use Rattle.iset_c_open.proofs.lookup.iset_open_fresh_exact.Reads as fresh-exact-reads
+use Rattle.iset_c_open.proofs.lookup.iset_open_fresh_exact.Kinds as fresh-exact-kinds
+use Rattle.iset_c_open.proofs.lookup.iset_open_step.Reads as step-reads
+use Rattle.iset_c_open.proofs.lookup.iset_open_step.Kinds as step-kinds
+use Rattle.iset_c_open.proofs.lookup.iset_open_step_exact.Reads as step-exact-reads
+use Rattle.iset_c_open.proofs.lookup.iset_open_step_exact.Kinds as step-exact-kinds
+use Rattle.iset_c_open.proofs.lookup.iset_open_drain.Reads as drain-reads
+use Rattle.iset_c_open.proofs.lookup.iset_open_drain.Kinds as drain-kinds
+use Rattle.iset_c_open.proofs.lookup.iset_open_drain_exact.Reads as drain-exact-reads
+use Rattle.iset_c_open.proofs.lookup.iset_open_drain_exact.Kinds as drain-exact-kinds
+use Rattle.iset_c_open.proofs.scan.iset_open_plain.Reads as plain-reads
+use Rattle.iset_c_open.proofs.scan.iset_open_plain.Kinds as plain-kinds
+use Rattle.iset_c_open.proofs.scan.iset_open_plain_exact.Reads as plain-exact-reads
+use Rattle.iset_c_open.proofs.scan.iset_open_plain_exact.Kinds as plain-exact-kinds
+use Rattle.iset_c_open.proofs.lookup.iset_open_at.Reads as at-reads
+use Rattle.iset_c_open.proofs.lookup.iset_open_at.Kinds as at-kinds
+
+-- the exits are a product by parameter: the slice of parameter k is at `.1`, k times, then `.0`
+
+pub remove-determined :
+    (κs : Lfts 3) (a : K.Dens κs remove-kinds.ps) (r r′ : K.resT remove-kinds.r κs .Denot)
+    (s s′ : AtExit (K.endedOf 3 remove-kinds.ps remove-kinds.r) κs)
+    → remove-reads.Post κs a r s → remove-reads.Post κs a r′ s′
+    → (r ≡ r′)
+    × (now (s .1 .1 .1 .1 .1 .0) ≡ now (s′ .1 .1 .1 .1 .1 .0))
+    × (now (s .1 .1 .0) ≡ now (s′ .1 .1 .0))
+    × (now (s .1 .1 .1 .0) ≡ now (s′ .1 .1 .1 .0))
+remove-determined κs a r r′ s s′ p q = same-change p q
+
+pub insert-determined :
+    (κs : Lfts 3) (a : K.Dens κs insert-kinds.ps) (r r′ : K.resT insert-kinds.r κs .Denot)
+    (s s′ : AtExit (K.endedOf 3 insert-kinds.ps insert-kinds.r) κs)
+    → insert-reads.Post κs a r s → insert-reads.Post κs a r′ s′
+    → (r ≡ r′)
+    × (now (s .1 .1 .1 .1 .1 .1 .1 .0) ≡ now (s′ .1 .1 .1 .1 .1 .1 .1 .0))
+    × (now (s .1 .1 .0) ≡ now (s′ .1 .1 .0))
+    × (now (s .1 .1 .1 .0) ≡ now (s′ .1 .1 .1 .0))
+insert-determined κs a r r′ s s′ p q = same-change p q
+
+pub fresh-exact-determined :
+    (κs : Lfts 3) (a : K.Dens κs fresh-exact-kinds.ps) (r r′ : K.resT fresh-exact-kinds.r κs .Denot)
+    (s s′ : AtExit (K.endedOf 3 fresh-exact-kinds.ps fresh-exact-kinds.r) κs)
+    → fresh-exact-reads.Post κs a r s → fresh-exact-reads.Post κs a r′ s′
+    → (r ≡ r′)
+    × (now (s .1 .1 .1 .1 .1 .1 .0) ≡ now (s′ .1 .1 .1 .1 .1 .1 .0))
+fresh-exact-determined κs a r r′ s s′ p q = same-answer p q
+
+pub step-determined :
+    (κs : Lfts 3) (a : K.Dens κs step-kinds.ps) (r r′ : K.resT step-kinds.r κs .Denot)
+    (s s′ : AtExit (K.endedOf 3 step-kinds.ps step-kinds.r) κs)
+    → step-reads.Post κs a r s → step-reads.Post κs a r′ s′
+    → (r ≡ r′)
+    × (now (s .1 .1 .1 .1 .1 .1 .1 .1 .1 .1 .1 .0) ≡ now (s′ .1 .1 .1 .1 .1 .1 .1 .1 .1 .1 .1 .0))
+step-determined κs a r r′ s s′ p q = same-answer p q
+
+pub step-exact-determined :
+    (κs : Lfts 3) (a : K.Dens κs step-exact-kinds.ps) (r r′ : K.resT step-exact-kinds.r κs .Denot)
+    (s s′ : AtExit (K.endedOf 3 step-exact-kinds.ps step-exact-kinds.r) κs)
+    → step-exact-reads.Post κs a r s → step-exact-reads.Post κs a r′ s′
+    → (r ≡ r′)
+    × (now (s .1 .1 .1 .1 .1 .1 .1 .1 .1 .0) ≡ now (s′ .1 .1 .1 .1 .1 .1 .1 .1 .1 .0))
+step-exact-determined κs a r r′ s s′ p q = same-answer p q
+
+pub drain-determined :
+    (κs : Lfts 4) (a : K.Dens κs drain-kinds.ps) (r r′ : K.resT drain-kinds.r κs .Denot)
+    (s s′ : AtExit (K.endedOf 4 drain-kinds.ps drain-kinds.r) κs)
+    → drain-reads.Post κs a r s → drain-reads.Post κs a r′ s′
+    → (r ≡ r′)
+    × (now (s .1 .1 .1 .1 .1 .1 .1 .1 .1 .1 .1 .1 .1 .0) ≡ now (s′ .1 .1 .1 .1 .1 .1 .1 .1 .1 .1 .1 .1 .1 .0))
+    × (now (s .1 .1 .1 .1 .1 .1 .1 .1 .1 .1 .1 .1 .0) ≡ now (s′ .1 .1 .1 .1 .1 .1 .1 .1 .1 .1 .1 .1 .0))
+drain-determined κs a r r′ s s′ p q = same-output p q
+
+pub drain-exact-determined :
+    (κs : Lfts 4) (a : K.Dens κs drain-exact-kinds.ps) (r r′ : K.resT drain-exact-kinds.r κs .Denot)
+    (s s′ : AtExit (K.endedOf 4 drain-exact-kinds.ps drain-exact-kinds.r) κs)
+    → drain-exact-reads.Post κs a r s → drain-exact-reads.Post κs a r′ s′
+    → (r ≡ r′)
+    × (now (s .1 .1 .1 .1 .1 .1 .1 .1 .1 .1 .1 .0) ≡ now (s′ .1 .1 .1 .1 .1 .1 .1 .1 .1 .1 .1 .0))
+    × (now (s .1 .1 .1 .1 .1 .1 .1 .1 .1 .1 .0) ≡ now (s′ .1 .1 .1 .1 .1 .1 .1 .1 .1 .1 .0))
+drain-exact-determined κs a r r′ s s′ p q = same-output p q
+
+pub at-determined :
+    (κs : Lfts 4) (a : K.Dens κs at-kinds.ps) (r r′ : K.resT at-kinds.r κs .Denot)
+    (s s′ : AtExit (K.endedOf 4 at-kinds.ps at-kinds.r) κs)
+    → at-reads.Post κs a r s → at-reads.Post κs a r′ s′
+    → (r ≡ r′)
+    × (now (s .1 .1 .1 .1 .1 .1 .0) ≡ now (s′ .1 .1 .1 .1 .1 .1 .0))
+    × (now (s .1 .1 .1 .1 .1 .0) ≡ now (s′ .1 .1 .1 .1 .1 .0))
+at-determined κs a r r′ s s′ p q = same-output p q
+
+pub plain-determined :
+    (κs : Lfts 4) (a : K.Dens κs plain-kinds.ps) (r r′ : K.resT plain-kinds.r κs .Denot)
+    (s s′ : AtExit (K.endedOf 4 plain-kinds.ps plain-kinds.r) κs)
+    → plain-reads.Post κs a r s → plain-reads.Post κs a r′ s′
+    → (r ≡ r′)
+    × (now (s .1 .1 .1 .1 .1 .1 .1 .1 .1 .0) ≡ now (s′ .1 .1 .1 .1 .1 .1 .1 .1 .1 .0))
+    × (now (s .1 .1 .1 .1 .1 .1 .1 .1 .0) ≡ now (s′ .1 .1 .1 .1 .1 .1 .1 .1 .0))
+plain-determined κs a r r′ s s′ p q = same-output p q
+
+pub plain-exact-determined :
+    (κs : Lfts 4) (a : K.Dens κs plain-exact-kinds.ps) (r r′ : K.resT plain-exact-kinds.r κs .Denot)
+    (s s′ : AtExit (K.endedOf 4 plain-exact-kinds.ps plain-exact-kinds.r) κs)
+    → plain-exact-reads.Post κs a r s → plain-exact-reads.Post κs a r′ s′
+    → (r ≡ r′)
+    × (now (s .1 .1 .1 .1 .1 .1 .1 .0) ≡ now (s′ .1 .1 .1 .1 .1 .1 .1 .0))
+    × (now (s .1 .1 .1 .1 .1 .1 .0) ≡ now (s′ .1 .1 .1 .1 .1 .1 .0))
+plain-exact-determined κs a r r′ s s′ p q = same-output p q

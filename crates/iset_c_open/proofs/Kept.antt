@@ -1,0 +1,37 @@
+-- "Nothing lent changes" where an opened call is refused, by an export's own refusals too: the
+-- answer, and each slice that the call may write.
+use mathlib.Core.Path.{refl}
+use mathlib.Core.Bool.{Bool}
+use mathlib.Core.List.{List, [], _∷_}
+use Prim.Native.Nat.{ℕ}
+use lib.ListN.{length}
+use Rattle.words.specs.declared.node.Entry.{Entry}
+use Rattle.iter.specs.declared.Cursor.{Cursor}
+use Rattle.iter.specs.declared.rules.Query.{Query}
+use Rattle.iset.specs.Remove.{openRemoveNumber, removeSlot, openRemoveCall}
+use Rattle.iset.specs.Insert.{openInsertNumber, insertEntry, openInsertCall}
+use Rattle.iset.specs.Lookup.{openDrainNumber, openDrainCall}
+use Rattle.iset.specs.Plain.{openPlainNumber, openPlainCall}
+use Rattle.iset.specs.declared.Map.{Map}
+use Rattle.iset_c.specs.Replies.{removeReply, insertReply, drainReply, plainReply}
+use Rattle.iset_c.proofs.Kept.{Kept, change-kept, output-kept}
+use Rattle.iset_c_open.specs.Replies.{openRemoveExit, openInsertExit, openDrainExit, openPlainExit}
+
+module _ (A : List ℕ) (m : Map) (W C : List ℕ) where
+  pub open-remove-kept : (s : ℕ) → Kept (openRemoveExit A m W C s) A (W ∷ C ∷ [])
+  unfolding openRemoveCall
+  open-remove-kept s = change-kept removeReply A W C (openRemoveNumber m W C s) (removeSlot m W C s) _ refl
+
+  pub open-insert-kept : (e : Entry) → Kept (openInsertExit A m W C e) A (W ∷ C ∷ [])
+  unfolding openInsertCall
+  open-insert-kept e = change-kept insertReply A W C (openInsertNumber m W C e) (insertEntry m W C e) _ refl
+
+  -- of iset_open_drain, iset_open_drain_exact and iset_open_at; b: whether the bounds have kinds
+  pub open-drain-kept : (b : Bool) (q : Query) (c : Cursor) (limit : ℕ) (out : List ℕ) → Kept (openDrainExit b A m W C q c limit out) A (out ∷ [])
+  unfolding openDrainCall
+  open-drain-kept b q c limit out = output-kept drainReply b A out (openDrainNumber m W C q c limit (length out)) _ _ refl
+
+  -- of iset_open_plain and iset_open_plain_exact
+  pub open-plain-kept : (b : Bool) (q : Query) (out : List ℕ) → Kept (openPlainExit b A m W C q out) A (out ∷ [])
+  unfolding openPlainCall
+  open-plain-kept b q out = output-kept plainReply b A out (openPlainNumber m W C q (length out)) _ _ refl

@@ -1,0 +1,39 @@
+-- On a store that passes the check an export returns and leaves what the export of crate capi of
+-- that name does.
+use mathlib.Core.Path.{_≡_, ap}
+use mathlib.Core.Bool.{Bool, true}
+use mathlib.Core.List.{List}
+use Prim.Native.Nat.{ℕ}
+use Rattle.words.specs.declared.interval.Interval.{Interval}
+use Rattle.words.specs.declared.node.Entry.{Entry}
+use Rattle.iter.specs.declared.Cursor.{Cursor}
+use Rattle.iter.specs.declared.rules.Query.{Query}
+use Rattle.iset.specs.Changes.{Change, Output}
+use Rattle.iset.specs.Check.{checkRule}
+use Rattle.iset.specs.Remove.{RemoveAnswer}
+use Rattle.iset.specs.Insert.{InsertAnswer}
+use Rattle.iset.specs.Lookup.{StartAnswer, StepAnswer, DrainAnswer}
+use Rattle.iset.specs.Plain.{PlainAnswer}
+use Rattle.iset.specs.declared.Map.{Map}
+use Rattle.iset.proofs.Opened.{remove-is, insert-is, fresh-exact-is, step-is, drain-is, plain-is}
+use Rattle.iset_c.specs.Replies.{answerExit, changeExit, outputExit, removeReply, insertReply, startReply, stepReply, drainReply, plainReply, removeExit, insertExit, startExit, stepExit, drainExit, plainExit}
+use Rattle.iset_c_open.specs.Replies.{openRemoveExit, openInsertExit, openStartExit, openStepExit, openDrainExit, openPlainExit}
+
+module _ (A : List ℕ) (m : Map) (W C : List ℕ) (h : checkRule m W C ≡ 0) where
+  pub remove-exit-is : (s : ℕ) → openRemoveExit A m W C s ≡ removeExit A m W C s
+  remove-exit-is s = ap (λ (k : Change RemoveAnswer). changeExit removeReply A W C k) (remove-is m W C h s)
+
+  pub insert-exit-is : (e : Entry) → openInsertExit A m W C e ≡ insertExit A m W C e
+  insert-exit-is e = ap (λ (k : Change InsertAnswer). changeExit insertReply A W C k) (insert-is m W C h e)
+
+  pub start-exit-is : (x : Interval) → openStartExit A m W C x ≡ startExit A m W C x
+  start-exit-is x = ap (λ (k : StartAnswer). answerExit true A (startReply k)) (fresh-exact-is m W C h x)
+
+  pub step-exit-is : (b : Bool) (q : Query) (c : Cursor) → openStepExit b A m W C q c ≡ stepExit b A m W C q c
+  step-exit-is b q c = ap (λ (k : StepAnswer). answerExit b A (stepReply k)) (step-is m W C h q c)
+
+  pub drain-exit-is : (b : Bool) (q : Query) (c : Cursor) (limit : ℕ) (out : List ℕ) → openDrainExit b A m W C q c limit out ≡ drainExit b A m W C q c limit out
+  drain-exit-is b q c limit out = ap (λ (k : Output DrainAnswer). outputExit drainReply b A out k) (drain-is m W C h q c limit out)
+
+  pub plain-exit-is : (b : Bool) (q : Query) (out : List ℕ) → openPlainExit b A m W C q out ≡ plainExit b A m W C q out
+  plain-exit-is b q out = ap (λ (k : Output PlainAnswer). outputExit plainReply b A out k) (plain-is m W C h q out)

@@ -1,0 +1,13 @@
+use Rattle.iset_c.proofs.Laws.{short-exit}
+use borrow.Author.Needs.{needs}
+use Rattle.iset_c_open.proofs.lookup.iset_open_step_exact.Statement.{statement}
+use Rattle.iset_c_open.proofs.lookup.iset_open_step_exact.Tie as tie
+
+pub iset-open-step-exact-spec : {M : Type 1} → statement M
+iset-open-step-exact-spec =
+    tie.close
+    (tie.spec
+    (λ c. search short-exit)
+    (λ c κs. search needs)
+    (λ c. search needs)
+    (λ c. search needs))

@@ -1,0 +1,70 @@
+// The map for hosts in C and Rust that check a store once and then keep it to themselves: the calls of crate capi without the store check, as
+// include/iset_open.h declares them. Answers, refusals and their order are those of crate capi, but for Broken, which is never given.
+pub mod lookup;
+pub mod scan;
+
+use iset::Map;
+use iset::insert::Insertion;
+use iset::remove::Removal;
+use iset_c::SHORT_ANSWER;
+use iset_c::answer::put_inserted;
+use iset_c::answer::put_removed;
+ghost use mathlib.Core.Path.{_≡_};
+ghost use mathlib.Core.List.{[], _∷_};
+ghost use Rattle.iset.specs.Insert.{entryOf};
+ghost use Rattle.iset.specs.Maps.{mapOf};
+ghost use Rattle.iset_c.specs.Replies.{exit};
+ghost use Rattle.iset_c_open.specs.Replies.{openRemoveExit, openInsertExit};
+
+// Removes the entry of a slot. Answer: value, count, root, then the moved entries, three times old slot, new slot, and how many hulls
+// changed.
+#[no_mangle]
+pub extern "C" fn iset_open_remove(
+    count: u64,
+    root: u64,
+    nodes: &mut [u64],
+    colours: &mut [u8],
+    slot: u64,
+    answer: &mut [u64],
+) -> u64
+    ensures { λ r. ⌜ exit r (now (answer .exit)) (now (nodes .exit) ∷ now (colours .exit) ∷ [])
+        ≡ openRemoveExit (now (answer .entry)) (mapOf count root) (now (nodes .entry)) (now (colours .entry)) slot ⌝ }
+{
+    if answer.len() < 10 {
+        return SHORT_ANSWER;
+    }
+    match (Map { count, root }).open_remove(nodes, colours, slot) {
+        Removal::Refused(why) => why.number(),
+        Removal::Done(g) => {
+            put_removed(g, answer);
+            0
+        }
+    }
+}
+
+// Adds an entry in slot `count`; no other entry changes slot. Answer: count, root, the entry's slot, and how many hulls changed.
+#[no_mangle]
+pub extern "C" fn iset_open_insert(
+    count: u64,
+    root: u64,
+    nodes: &mut [u64],
+    colours: &mut [u8],
+    start: u64,
+    end: u64,
+    value: u64,
+    answer: &mut [u64],
+) -> u64
+    ensures { λ r. ⌜ exit r (now (answer .exit)) (now (nodes .exit) ∷ now (colours .exit) ∷ [])
+        ≡ openInsertExit (now (answer .entry)) (mapOf count root) (now (nodes .entry)) (now (colours .entry)) (entryOf start end value) ⌝ }
+{
+    if answer.len() < 4 {
+        return SHORT_ANSWER;
+    }
+    match (Map { count, root }).open_insert(nodes, colours, start, end, value) {
+        Insertion::Refused(why) => why.number(),
+        Insertion::Done(a) => {
+            put_inserted(a, answer);
+            0
+        }
+    }
+}

@@ -1,0 +1,275 @@
+// Looking up in an opened store, and the entries at an address in one call. A cursor is three numbers, slot, levels and bits; a bound is two, its
+// kind and its number.
+use iset::Bound;
+use iset::Cursor;
+use iset::Interval;
+use iset::Map;
+use iset::Query;
+use iset::Span;
+use iset::lookup::Drain;
+use iset::lookup::Started;
+use iset::lookup::Stepped;
+use iset_c::BAD_BOUND;
+use iset_c::SHORT_ANSWER;
+use iset_c::answer::put_cursor;
+use iset_c::answer::put_drained;
+use iset_c::answer::put_step;
+use iset_c::range::are_kinds;
+use iset_c::range::range;
+ghost use mathlib.Core.Path.{_≡_};
+ghost use mathlib.Core.Bool.{true};
+ghost use mathlib.Core.List.{[], _∷_};
+ghost use Prim.Native.Nat.{_≤_};
+ghost use lib.ListN.{length};
+ghost use Rattle.iter.specs.Cursors.{fresh};
+ghost use Rattle.iset.specs.Maps.{mapOf};
+ghost use Rattle.iset_c.specs.Replies.{cursorOf, exit};
+ghost use Rattle.iset_c.specs.Ranges.{rangeOf, intervalOf, exactOf, kinds};
+ghost use Rattle.iset_c_open.specs.Replies.{openStartExit, openStepExit, openDrainExit};
+
+// The fresh cursor of an exact lookup. Answer: slot, levels, bits.
+#[no_mangle]
+pub extern "C" fn iset_open_fresh_exact(
+    count: u64,
+    root: u64,
+    nodes: &[u64],
+    colours: &[u8],
+    start: u64,
+    end: u64,
+    answer: &mut [u64],
+) -> u64
+    ensures { λ r. ⌜ exit r (now (answer .exit)) []
+        ≡ openStartExit (now (answer .entry)) (mapOf count root) (now (nodes .entry)) (now (colours .entry)) (intervalOf start end) ⌝ }
+{
+    if answer.len() < 3 {
+        return SHORT_ANSWER;
+    }
+    match (Map { count, root }).open_fresh_exact(nodes, colours, Interval { start, end }) {
+        Started::Refused(why) => why.number(),
+        Started::Done(c) => {
+            put_cursor(c, answer);
+            0
+        }
+    }
+}
+
+// A step of either kind of lookup.
+fn step(
+    map: Map,
+    nodes: &[u64],
+    colours: &[u8],
+    query: Query,
+    cursor: Cursor,
+    answer: &mut [u64],
+) -> u64
+    requires { ⌜ 5 ≤ length (now answer) ⌝ }
+    ensures { λ r. ⌜ exit r (now (answer .exit)) []
+        ≡ openStepExit true (now (answer .entry)) map (now (nodes .entry)) (now (colours .entry)) query cursor ⌝ }
+{
+    match map.open_step(nodes, colours, query, cursor) {
+        Stepped::Refused(why) => why.number(),
+        Stepped::Done(s) => {
+            put_step(s, answer);
+            0
+        }
+    }
+}
+
+// The next entry that intersects a range. Answer: its slot, U at the end; the next cursor's slot, levels, bits; nodes entered.
+#[no_mangle]
+pub extern "C" fn iset_open_step(
+    count: u64,
+    root: u64,
+    nodes: &[u64],
+    colours: &[u8],
+    lo_kind: u64,
+    lo: u64,
+    hi_kind: u64,
+    hi: u64,
+    slot: u64,
+    levels: u64,
+    bits: u64,
+    answer: &mut [u64],
+) -> u64
+    ensures { λ r. ⌜ exit r (now (answer .exit)) []
+        ≡ openStepExit (kinds «lo_kind» «hi_kind») (now (answer .entry)) (mapOf count root) (now (nodes .entry)) (now (colours .entry)) (rangeOf «lo_kind» lo «hi_kind» hi) (cursorOf slot levels bits) ⌝ }
+{
+    if answer.len() < 5 {
+        return SHORT_ANSWER;
+    }
+    if are_kinds(lo_kind, hi_kind) {
+        step(
+            Map { count, root },
+            nodes,
+            colours,
+            range(lo_kind, lo, hi_kind, hi),
+            Cursor { slot, levels, bits },
+            answer,
+        )
+    } else {
+        BAD_BOUND
+    }
+}
+
+// The next entry that is equal to an interval. Answer: as of iset_open_step.
+#[no_mangle]
+pub extern "C" fn iset_open_step_exact(
+    count: u64,
+    root: u64,
+    nodes: &[u64],
+    colours: &[u8],
+    start: u64,
+    end: u64,
+    slot: u64,
+    levels: u64,
+    bits: u64,
+    answer: &mut [u64],
+) -> u64
+    ensures { λ r. ⌜ exit r (now (answer .exit)) []
+        ≡ openStepExit true (now (answer .entry)) (mapOf count root) (now (nodes .entry)) (now (colours .entry)) (exactOf start end) (cursorOf slot levels bits) ⌝ }
+{
+    if answer.len() < 5 {
+        return SHORT_ANSWER;
+    }
+    step(
+        Map { count, root },
+        nodes,
+        colours,
+        Query::Exact(Interval { start, end }),
+        Cursor { slot, levels, bits },
+        answer,
+    )
+}
+
+// A drain of either kind of lookup.
+fn drain(
+    map: Map,
+    nodes: &[u64],
+    colours: &[u8],
+    query: Query,
+    cursor: Cursor,
+    limit: u64,
+    out: &mut [u64],
+    answer: &mut [u64],
+) -> u64
+    requires { ⌜ 5 ≤ length (now answer) ⌝ }
+    ensures { λ r. ⌜ exit r (now (answer .exit)) (now (out .exit) ∷ [])
+        ≡ openDrainExit true (now (answer .entry)) map (now (nodes .entry)) (now (colours .entry)) query cursor limit (now (out .entry)) ⌝ }
+{
+    match map.open_drain(nodes, colours, query, cursor, limit, out) {
+        Drain::Refused(why) => why.number(),
+        Drain::Done(d) => {
+            put_drained(d, answer);
+            0
+        }
+    }
+}
+
+// Steps from a cursor until the end, or until `limit` slots are in `out`; a limit of 0 means as many as fit. Answer: how many slots were written,
+// nodes entered, the next cursor's slot, levels, bits.
+#[no_mangle]
+pub extern "C" fn iset_open_drain(
+    count: u64,
+    root: u64,
+    nodes: &[u64],
+    colours: &[u8],
+    lo_kind: u64,
+    lo: u64,
+    hi_kind: u64,
+    hi: u64,
+    slot: u64,
+    levels: u64,
+    bits: u64,
+    limit: u64,
+    out: &mut [u64],
+    answer: &mut [u64],
+) -> u64
+    ensures { λ r. ⌜ exit r (now (answer .exit)) (now (out .exit) ∷ [])
+        ≡ openDrainExit (kinds «lo_kind» «hi_kind») (now (answer .entry)) (mapOf count root) (now (nodes .entry)) (now (colours .entry)) (rangeOf «lo_kind» lo «hi_kind» hi) (cursorOf slot levels bits) limit (now (out .entry)) ⌝ }
+{
+    if answer.len() < 5 {
+        return SHORT_ANSWER;
+    }
+    if are_kinds(lo_kind, hi_kind) {
+        drain(
+            Map { count, root },
+            nodes,
+            colours,
+            range(lo_kind, lo, hi_kind, hi),
+            Cursor { slot, levels, bits },
+            limit,
+            out,
+            answer,
+        )
+    } else {
+        BAD_BOUND
+    }
+}
+
+// The drain of an exact lookup. Answer: as of iset_open_drain.
+#[no_mangle]
+pub extern "C" fn iset_open_drain_exact(
+    count: u64,
+    root: u64,
+    nodes: &[u64],
+    colours: &[u8],
+    start: u64,
+    end: u64,
+    slot: u64,
+    levels: u64,
+    bits: u64,
+    limit: u64,
+    out: &mut [u64],
+    answer: &mut [u64],
+) -> u64
+    ensures { λ r. ⌜ exit r (now (answer .exit)) (now (out .exit) ∷ [])
+        ≡ openDrainExit true (now (answer .entry)) (mapOf count root) (now (nodes .entry)) (now (colours .entry)) (exactOf start end) (cursorOf slot levels bits) limit (now (out .entry)) ⌝ }
+{
+    if answer.len() < 5 {
+        return SHORT_ANSWER;
+    }
+    drain(
+        Map { count, root },
+        nodes,
+        colours,
+        Query::Exact(Interval { start, end }),
+        Cursor { slot, levels, bits },
+        limit,
+        out,
+        answer,
+    )
+}
+
+// The entries that hold an address: the drain of the range from it to it, both Included, from the fresh cursor, into the whole output. Answer:
+// as of iset_drain.
+#[no_mangle]
+pub extern "C" fn iset_open_at(
+    count: u64,
+    root: u64,
+    nodes: &[u64],
+    colours: &[u8],
+    address: u64,
+    out: &mut [u64],
+    answer: &mut [u64],
+) -> u64
+    ensures { λ r. ⌜ exit r (now (answer .exit)) (now (out .exit) ∷ [])
+        ≡ openDrainExit true (now (answer .entry)) (mapOf count root) (now (nodes .entry)) (now (colours .entry)) (rangeOf 0 address 0 address) (fresh root) (length (now (out .entry))) (now (out .entry)) ⌝ }
+{
+    if answer.len() < 5 {
+        return SHORT_ANSWER;
+    }
+    let limit = out.len() as u64;
+    drain(
+        Map { count, root },
+        nodes,
+        colours,
+        Query::Overlap(Span {
+            lo: Bound::Included(address),
+            hi: Bound::Included(address),
+        }),
+        Cursor::fresh(root),
+        limit,
+        out,
+        answer,
+    )
+}

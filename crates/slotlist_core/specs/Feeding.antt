@@ -1,0 +1,64 @@
+-- The input byte by byte.
+use mathlib.Core.Bool.{cond}
+use mathlib.Core.List.{List, foldl}
+use Prim.Native.Nat.{ℕ}
+use lib.Dec.{eqb}
+use Rattle.lines.specs.Output.{Page, page}
+use Rattle.iset.specs.Changes.{change}
+use Rattle.slotlist_core.specs.Reading.{byteRule, endRule, newRule}
+use Rattle.slotlist_core.specs.Working.{Desk, desk, lineIn, settledIn, onDesk}
+use Rattle.slotlist_core.specs.Writing.{puts, workText}
+use Rattle.slotlist_core.specs.declared.State.{State}
+use Rattle.slotlist_core.specs.declared.reading.Line.{Line}
+use Rattle.slotlist_core.specs.declared.reading.Line.the-variants.{Start}
+use Rattle.slotlist_core.specs.declared.working.Work.the-variants.{Listing}
+
+-- the line so far, the work, and the lent memory
+pub record Turn : Type 0 where
+  pub line : Line
+  pub desk : Desk
+
+abbrev pub turn : State → List ℕ → List ℕ → List ℕ → Turn
+turn s W C E = record { line = s .line; desk = desk (s .work) W C E }
+
+abbrev pub begun : State
+begun = record { line = Start; work = Listing 0 }
+
+-- a line is complete
+abbrev pub lined : Turn → Desk
+lined t = lineIn (endRule (t .line)) (t .desk)
+
+-- one byte, and a piece of the input
+unfoldable pub stepped : Turn → ℕ → Turn
+stepped t b = cond (eqb b 10) (record { line = Start; desk = lined t }) (record { line = byteRule (t .line) b; desk = t .desk })
+
+unfoldable pub fed : Turn → List ℕ → Turn
+fed t s = foldl stepped t s
+
+-- "the input's last LF may be missing"
+unfoldable pub lastLine : Turn → Desk
+lastLine t = cond (newRule (t .line)) (t .desk) (lined t)
+
+-- the end of the input
+abbrev pub settledDesk : Desk → Desk
+settledDesk d = onDesk (settledIn (d .entries) (change (d .work) (d .nodes) (d .colours))) (d .entries)
+
+abbrev pub ended : Turn → Desk
+ended t = settledDesk (lastLine t)
+
+-- what is printed, in the lent buffer, with the memory as it is then
+pub record End : Type 0 where
+  pub page : Page
+  pub nodes : List ℕ
+  pub colours : List ℕ
+  pub entries : List ℕ
+
+abbrev pub finished : ℕ → List ℕ → List ℕ → List ℕ → List ℕ → End
+finished at W C E out = record { page = page at out; nodes = W; colours = C; entries = E }
+
+abbrev pub printedOn : List ℕ → Desk → End
+printedOn out d =
+    record { page = puts (page 0 out) (workText (d .work) (d .nodes)); nodes = d .nodes; colours = d .colours; entries = d .entries }
+
+abbrev pub finish : Turn → List ℕ → End
+finish t out = printedOn out (ended t)

@@ -1,0 +1,158 @@
+// A line of `slotlist` read byte by byte: an entry, a removal, or any other line.
+use lines::input::Digit;
+use lines::input::Value;
+use lines::input::append_digit;
+use lines::input::digit_of;
+ghost use mathlib.Core.Path.{_≡_};
+ghost use Rattle.slotlist_core.specs.Reading.{firstDigit, startByte, nameByte, longer, gapAfter, numberByte, byteRule, complete, endRule, newRule};
+
+const SPACE: u8 = 32;
+
+// What stands in a line before the number that is read: the numbers of an entry, or `remove`.
+pub enum Before {
+    Nothing,
+    One(u64),
+    Two(u64, u64),
+    Removal,
+}
+
+// A line so far: nothing; the first letters of `remove`; a number, of one digit at least; a space after which a number has to
+// begin. A line that went wrong stays so.
+pub enum Line {
+    Start,
+    Name(usize),
+    Number(Before, u64),
+    Gap(Before),
+    Wrong,
+}
+
+// What a complete line says.
+pub enum Said {
+    Entry(u64, u64, u64),
+    Remove(u64),
+    Other,
+}
+
+fn first_digit(before: Before, b: u8) -> Line
+    ensures { λ r. ⌜ r ≡ firstDigit before b ⌝ }
+{
+    match digit_of(b) {
+        Digit::Is(d) => Line::Number(before, d),
+        Digit::Not => Line::Wrong,
+    }
+}
+
+fn start_byte(b: u8) -> Line
+    ensures { λ r. ⌜ r ≡ startByte b ⌝ }
+{
+    if b == b'r' {
+        Line::Name(1)
+    } else {
+        first_digit(Before::Nothing, b)
+    }
+}
+
+// A byte after k letters of `remove`.
+fn name_byte(k: usize, b: u8) -> Line
+    ensures { λ r. ⌜ r ≡ nameByte k b ⌝ }
+{
+    let name = b"remove";
+    if k < 6 {
+        if b == name[k] {
+            Line::Name(k + 1)
+        } else {
+            Line::Wrong
+        }
+    } else if b == SPACE {
+        Line::Gap(Before::Removal)
+    } else {
+        Line::Wrong
+    }
+}
+
+fn longer(before: Before, value: u64, d: u64) -> Line
+    ensures { λ r. ⌜ r ≡ longer before value d ⌝ }
+{
+    match append_digit(value, d) {
+        Value::Is(v) => Line::Number(before, v),
+        Value::Over => Line::Wrong,
+    }
+}
+
+// A space after a number, which is complete then. None follows the last.
+fn gap_after(before: Before, value: u64) -> Line
+    ensures { λ r. ⌜ r ≡ gapAfter before value ⌝ }
+{
+    match before {
+        Before::Nothing => Line::Gap(Before::One(value)),
+        Before::One(a) => Line::Gap(Before::Two(a, value)),
+        Before::Two(_, _) => Line::Wrong,
+        Before::Removal => Line::Wrong,
+    }
+}
+
+fn number_byte(before: Before, value: u64, b: u8) -> Line
+    ensures { λ r. ⌜ r ≡ numberByte before value b ⌝ }
+{
+    match digit_of(b) {
+        Digit::Is(d) => longer(before, value, d),
+        Digit::Not => if b == SPACE {
+            gap_after(before, value)
+        } else {
+            Line::Wrong
+        },
+    }
+}
+
+// A line that ends with a number.
+fn complete(before: Before, value: u64) -> Said
+    ensures { λ r. ⌜ r ≡ complete before value ⌝ }
+{
+    match before {
+        Before::Nothing => Said::Other,
+        Before::One(_) => Said::Other,
+        Before::Two(a, b) => Said::Entry(a, b, value),
+        Before::Removal => Said::Remove(value),
+    }
+}
+
+impl Line {
+    // The line with one more byte, which is no line end.
+    pub(crate) fn byte(self, b: u8) -> Line
+        ensures { λ r. ⌜ r ≡ byteRule self b ⌝ }
+    {
+        match self {
+            Line::Start => start_byte(b),
+            Line::Name(k) => name_byte(k, b),
+            Line::Number(before, value) => number_byte(before, value, b),
+            Line::Gap(before) => first_digit(before, b),
+            Line::Wrong => Line::Wrong,
+        }
+    }
+
+    // What the line says, now that it is complete.
+    pub(crate) fn end(self) -> Said
+        ensures { λ r. ⌜ r ≡ endRule self ⌝ }
+    {
+        match self {
+            Line::Start => Said::Other,
+            Line::Name(_) => Said::Other,
+            Line::Number(before, value) => complete(before, value),
+            Line::Gap(_) => Said::Other,
+            Line::Wrong => Said::Other,
+        }
+    }
+
+    // Whether no byte of the line is there yet.
+    pub(crate) fn is_new(self) -> bool
+        ensures { λ r. ⌜ r ≡ newRule self ⌝ }
+    {
+        match self {
+            Line::Start => true,
+            Line::Name(_) => false,
+            Line::Number(_, _) => false,
+            Line::Gap(_) => false,
+            Line::Wrong => false,
+        }
+    }
+}

@@ -1,0 +1,158 @@
+// The lines' work: entries are listed, then built into a map, from which slots are removed.
+use crate::reading::Said;
+use iset::Map;
+use iset::Refusal;
+use iset::build::Built;
+use iset::remove::Removal;
+use words::numbers::least;
+ghost use mathlib.Core.Path.{_≡_};
+ghost use Prim.Native.Nat.{_+_, _*_, _/_, _≤_};
+ghost use lib.ListN.{length};
+ghost use lib.Seq.{sets};
+ghost use mathlib.Core.List.{[], _∷_};
+ghost use Rattle.words.specs.Refusals.{refusalNumber};
+ghost use Rattle.iset.specs.Changes.{change};
+ghost use Rattle.slotlist_core.specs.Working.{desk, roomFor, enteredWork, enteredList, listedIn};
+ghost use Rattle.slotlist_core.specs.Working.{builtIn, removalIn, settledIn, removedIn, wrongIn, lineIn};
+
+// What the lines so far have led to: the number of entries in the list; the map that was built; the first refusal's number.
+pub enum Work {
+    Listing(usize),
+    Held(Map),
+    Refused(u64),
+}
+
+fn refuse(why: Refusal) -> Work
+    ensures { λ r. ⌜ r ≡ Work.Refused (refusalNumber why) ⌝ }
+{
+    Work::Refused(why.number())
+}
+
+// At most 256 entries are listed, and no more than the slice holds.
+fn has_room(n: usize, len: usize) -> bool
+    ensures { λ r. ⌜ r ≡ roomFor n len ⌝ }
+{
+    if n < 256 { n * 3 + 3 <= len } else { false }
+}
+
+// Writes an entry after n others, and answers how many there are then.
+fn put_triple(n: usize, a: u64, b: u64, c: u64, entries: &mut [u64]) -> usize
+    requires { ⌜ n * 3 + 3 ≤ length (now entries) ⌝ }
+    ensures { λ r. ⌜ (r ≡ n + 1) × (now (entries .exit) ≡ sets (now (entries .entry)) (n * 3) (a ∷ b ∷ c ∷ [])) ⌝ }
+{
+    entries[n * 3] = a;
+    entries[n * 3 + 1] = b;
+    entries[n * 3 + 2] = c;
+    n + 1
+}
+
+// One more entry after n of them.
+fn list_entry(n: usize, a: u64, b: u64, c: u64, entries: &mut [u64]) -> Work
+    ensures { λ r. ⌜ (r ≡ enteredWork (Work.Listing n) (length (now (entries .entry))))
+        × (now (entries .exit) ≡ enteredList (Work.Listing n) a b c (now (entries .entry))) ⌝ }
+{
+    if has_room(n, entries.len()) {
+        Work::Listing(put_triple(n, a, b, c, entries))
+    } else {
+        refuse(Refusal::NoRoom)
+    }
+}
+
+// The map of the n entries that are listed.
+fn build(n: usize, nodes: &mut [u64], colours: &mut [u8], entries: &[u64]) -> Work
+    ensures { λ r. ⌜ change r (now (nodes .exit)) (now (colours .exit))
+        ≡ builtIn (now (nodes .entry)) (now (colours .entry)) (listedIn n (now (entries .entry))) ⌝ }
+{
+    let m = least(n, entries.len() / 3);
+    match Map::build(nodes, colours, &entries[..m * 3]) {
+        Built::Done(map) => Work::Held(map),
+        Built::Refused(why) => refuse(why),
+    }
+}
+
+fn remove_slot(map: Map, k: u64, nodes: &mut [u64], colours: &mut [u8]) -> Work
+    ensures { λ r. ⌜ change r (now (nodes .exit)) (now (colours .exit)) ≡ removalIn map (now (nodes .entry)) (now (colours .entry)) k ⌝ }
+{
+    match map.remove(nodes, colours, k) {
+        Removal::Done(gone) => {
+            let left = gone.map;
+            Work::Held(left)
+        }
+        Removal::Refused(why) => refuse(why),
+    }
+}
+
+impl Work {
+    // An entry. None comes after a removal.
+    fn enter(self, a: u64, b: u64, c: u64, entries: &mut [u64]) -> Work
+        ensures { λ r. ⌜ (r ≡ enteredWork self (length (now (entries .entry))))
+            × (now (entries .exit) ≡ enteredList self a b c (now (entries .entry))) ⌝ }
+    {
+        match self {
+            Work::Listing(n) => list_entry(n, a, b, c, entries),
+            Work::Held(_) => refuse(Refusal::BadList),
+            Work::Refused(why) => Work::Refused(why),
+        }
+    }
+
+    // The entries are complete: the map is built, where it is not built yet.
+    pub(crate) fn settle(self, nodes: &mut [u64], colours: &mut [u8], entries: &[u64]) -> Work
+        ensures { λ r. ⌜ change r (now (nodes .exit)) (now (colours .exit))
+            ≡ settledIn (now (entries .entry)) (change self (now (nodes .entry)) (now (colours .entry))) ⌝ }
+    {
+        match self {
+            Work::Listing(n) => build(n, nodes, colours, entries),
+            Work::Held(map) => Work::Held(map),
+            Work::Refused(why) => Work::Refused(why),
+        }
+    }
+
+    // A removal from the map that is held.
+    fn remove_held(self, k: u64, nodes: &mut [u64], colours: &mut [u8]) -> Work
+        ensures { λ r. ⌜ change r (now (nodes .exit)) (now (colours .exit))
+            ≡ removedIn k (change self (now (nodes .entry)) (now (colours .entry))) ⌝ }
+    {
+        match self {
+            Work::Listing(n) => Work::Listing(n),
+            Work::Held(map) => remove_slot(map, k, nodes, colours),
+            Work::Refused(why) => Work::Refused(why),
+        }
+    }
+
+    fn remove(self, k: u64, nodes: &mut [u64], colours: &mut [u8], entries: &[u64]) -> Work
+        ensures { λ r. ⌜ change r (now (nodes .exit)) (now (colours .exit))
+            ≡ removedIn k (settledIn (now (entries .entry)) (change self (now (nodes .entry)) (now (colours .entry)))) ⌝ }
+    {
+        let settled = self.settle(nodes, colours, entries);
+        settled.remove_held(k, nodes, colours)
+    }
+
+    // Any other line.
+    fn wrong(self) -> Work
+        ensures { λ r. ⌜ r ≡ wrongIn self ⌝ }
+    {
+        match self {
+            Work::Listing(_) => refuse(Refusal::BadList),
+            Work::Held(_) => refuse(Refusal::BadList),
+            Work::Refused(why) => Work::Refused(why),
+        }
+    }
+
+    // One line more. After a refusal nothing changes.
+    pub(crate) fn line(
+        self,
+        said: Said,
+        nodes: &mut [u64],
+        colours: &mut [u8],
+        entries: &mut [u64],
+    ) -> Work
+        ensures { λ r. ⌜ desk r (now (nodes .exit)) (now (colours .exit)) (now (entries .exit))
+            ≡ lineIn said (desk self (now (nodes .entry)) (now (colours .entry)) (now (entries .entry))) ⌝ }
+    {
+        match said {
+            Said::Entry(a, b, c) => self.enter(a, b, c, entries),
+            Said::Remove(k) => self.remove(k, nodes, colours, entries),
+            Said::Other => self.wrong(),
+        }
+    }
+}

@@ -1,9 +1,0 @@
-use Rattle.lines.proofs.Laws.{digit-taken, digit-missed}
-use Rattle.slots.specs.Reading.{firstDigit}
-use borrow.Author.Needs.{needs}
-use Rattle.slots.proofs.reading.first_digit.Statement.{statement}
-use Rattle.slots.proofs.reading.first_digit.Tie as tie
-
-pub first-digit-spec : {M : Type 1} → statement M
-unfolding firstDigit
-first-digit-spec = tie.close (tie.spec (λ c κs. search needs) (λ c. search needs) (λ c. search needs) (λ c. search digit-taken) (λ c. search digit-missed))

@@ -1,8 +1,0 @@
-use Rattle.slots.proofs.Arms.{removed-then}
-use borrow.Author.Needs.{needs}
-use Rattle.slots.proofs.working.Work.remove.Statement.{statement}
-use Rattle.slots.proofs.working.Work.remove.Tie as tie
-
-pub remove-spec : {M : Type 1} → statement M
-remove-spec =
-    tie.close (tie.spec (λ c κs. search needs) (λ c κs. search needs) (λ c. search needs) (λ c. search needs) (λ c. search removed-then))

@@ -1,7 +1,0 @@
-use Rattle.slots.proofs.Pages.{byte-fits, byte-full}
-use borrow.Author.Needs.{needs}
-use Rattle.slots.proofs.writing.put_byte.Statement.{statement}
-use Rattle.slots.proofs.writing.put_byte.Tie as tie
-
-pub put-byte-spec : {M : Type 1} → statement M
-put-byte-spec = tie.close (tie.spec (λ c. search needs) (λ c. search needs) (λ c. search needs) (λ c. search byte-fits) (λ c. search byte-full))

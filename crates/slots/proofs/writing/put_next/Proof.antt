@@ -1,7 +1,0 @@
-use Rattle.slots.proofs.Pages.{then-byte}
-use borrow.Author.Needs.{needs}
-use Rattle.slots.proofs.writing.put_next.Statement.{statement}
-use Rattle.slots.proofs.writing.put_next.Tie as tie
-
-pub put-next-spec : {M : Type 1} → statement M
-put-next-spec = tie.close (tie.spec (λ c κs. search needs) (λ c κs. search needs) (λ c. search needs) (λ c. search then-byte))

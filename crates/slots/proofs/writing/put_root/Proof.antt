@@ -1,9 +1,0 @@
-use Rattle.slots.proofs.Pages.{root-none, root-some}
-use borrow.Author.Needs.{needs}
-use Rattle.slots.proofs.writing.put_root.Statement.{statement}
-use Rattle.slots.proofs.writing.put_root.Tie as tie
-
-pub put-root-spec : {M : Type 1} → statement M
-put-root-spec =
-    tie.close
-    (tie.spec (λ c κs. search needs) (λ c κs. search needs) (λ c. search needs) (λ c. search root-none) (λ c. search needs) (λ c. search root-some))

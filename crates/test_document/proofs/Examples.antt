@@ -1,0 +1,97 @@
+-- The table, by computing each rule.
+use mathlib.Core.Path.{refl}
+use Rattle.words.specs.Ix.{onLink}
+use Rattle.words.specs.Nodes.{word, put, putEntry, putHull, swap, joined, hullOf, altered, fix, putNode}
+use Rattle.bitvec.specs.Bits.{bit, put as putBit, bitAt, setBit}
+use Rattle.audit.specs.Survey.{survey, wholeOf}
+use Rattle.builder.specs.Input.{startOf, endOf, valueOf, every, properAt, inOrder, allProper, sorted as sortedList}
+use Rattle.builder.specs.Build.{spanHull, spanWords, painted, log, levels, buildWords, buildColours, buildRoot}
+use Rattle.tree_edit.specs.Links.{adopt, setChild, redirected, removeChild, redirect, replaced, rootAfter, fixUp, leftmost}
+use Rattle.tree_edit.specs.Rotations.{rotate, rotate-2, rotate-4}
+use Rattle.bitvec.specs.Colours.{paintAt}
+use Rattle.tree_rm_rule.specs.Repair.{choose, roundOf, roundAt, round}
+use Rattle.tree_rm_rule.specs.Pairs.{movedTo, emptied, home, named, lower, upper, byOldSlot, moved}
+use Rattle.tree_rm_rule.specs.Remove.{vacated, exchanged, child, restructure, handed, above, cutWords, cutRoot, copied, relinked, cleared, swapRemove, finish, removeFrom, removeRule, cutWordsWith, finishWith, removeFromWith, removeWith, restructureWith, vacatedWith}
+use Rattle.tree_edit.specs.Reach.{differs, upHulls, loopHulls}
+use Rattle.tree_rm_rule.specs.Reach.{roundOfHulls, roundAtHulls, roundHulls, restructureHulls, cutHulls, vacateHulls, removeHullsFrom, removeHulls}
+use Rattle.tree_in_rule.specs.Descent.{goesLeft, descend, under}
+use Rattle.tree_in_rule.specs.InsertRepair.{rotated, outer, inner, recoloured, insertRoundAt, insertRoundBelow, insertRound}
+use Rattle.tree_in_rule.specs.Insert.{hungNode, hungWords, hungRoot, hung, insertAt, insertRule}
+use Rattle.tree_in_rule.specs.Reach.{rotatedHulls, outerHulls, innerHulls, insertRoundAtHulls, insertRoundBelowHulls, insertRoundHulls, insertAtHulls, insertHulls}
+use Rattle.stack.specs.States.{stateAt, putState, top, marked, pushed, popped}
+use Rattle.iter.specs.Cursors.{upTo}
+use Rattle.iter.specs.Walk.{deeper, mark, down, move, enters, hits, seek, step as stepOf}
+use Rattle.iter.specs.Drains.{drain, filled}
+use Rattle.iter.specs.Forms.{onSide, formed, heldForm, formOf}
+use Rattle.iter.specs.Overlap.{meets, shouldGo}
+use Rattle.iter.specs.Exact.{equals, sorted as sortedBy, shouldGoExact, find}
+use Rattle.iter.specs.Queries.{rules}
+use Rattle.plain_rule.specs.Tour.{ascend, nextOf, firstOf, tour, entries, plain}
+use Rattle.iset.specs.Check.{countNumber, checkRule}
+use Rattle.iset.specs.Build.{buildNumber, buildCall}
+use Rattle.iset.specs.Remove.{removeNumber, removeCall, openRemoveNumber}
+use Rattle.iset.specs.Insert.{fullNumber, openInsertNumber, roomThenCheck, insertNumber, insertCall}
+use Rattle.iset.specs.Lookup.{startNumber, stepNumber, drainNumber, startCall, stepCall, drainCall, openStartNumber, openStepNumber, openDrainNumber}
+use Rattle.iset.specs.Plain.{openPlainNumber, plainNumber, plainCall}
+use Rattle.test_document.specs.Stores.{buildIn, _minus_, _plus_, treeAt, treeOf, touched, boundOf}
+use Rattle.test_document.specs.Rows.{Each, outcome, stepsFrom, foundFrom, leftIn, tell}
+use Rattle.test_document.specs.Table.{storeA, storeA′, storeB, storeC, table}
+use Rattle.tree_edit.specs.Rounds.{loop}
+
+-- What the rows compute with, layer by layer: to unfold one of these names is to unfold all that its line names.
+reading : Unit {0}
+unfolding onLink word put putEntry putHull swap joined hullOf fix putNode bit putBit bitAt setBit
+reading = record {}
+
+checking : Unit {0}
+unfolding survey wholeOf countNumber checkRule
+checking = record {}
+
+building : Unit {0}
+unfolding startOf endOf valueOf every properAt inOrder allProper sortedList spanHull spanWords painted log levels buildWords buildColours buildRoot
+building = record {}
+
+repairing : Unit {0}
+unfolding adopt setChild redirected removeChild redirect replaced rootAfter fixUp rotate rotate-2 rotate-4 paintAt choose roundOf roundAt round loop
+repairing = record {}
+
+naming : Unit {0}
+unfolding movedTo emptied home named lower upper byOldSlot moved
+naming = record {}
+
+removing : Unit {0}
+unfolding leftmost vacatedWith exchanged child restructureWith handed above cutWordsWith cutRoot copied relinked cleared swapRemove finishWith removeFromWith removeWith
+removing = record {}
+
+inserting : Unit {0}
+unfolding goesLeft descend under rotated outer inner recoloured insertRoundAt insertRoundBelow insertRound hungNode hungWords hungRoot hung insertAt insertRule
+inserting = record {}
+
+reaching : Unit {0}
+unfolding altered differs upHulls roundOfHulls roundAtHulls roundHulls loopHulls restructureHulls cutHulls vacateHulls removeHullsFrom removeHulls rotatedHulls outerHulls innerHulls insertRoundAtHulls insertRoundBelowHulls insertRoundHulls insertAtHulls insertHulls
+reaching = record {}
+
+walking : Unit {0}
+unfolding stateAt putState top marked pushed popped upTo deeper mark down move enters hits seek stepOf drain filled onSide formed heldForm formOf
+walking = record {}
+
+looking : Unit {0}
+unfolding meets shouldGo equals sortedBy shouldGoExact find rules openStartNumber openStepNumber openDrainNumber startNumber stepNumber drainNumber startCall stepCall drainCall
+looking = record {}
+
+touring : Unit {0}
+unfolding ascend nextOf firstOf tour entries plain openPlainNumber plainNumber plainCall
+touring = record {}
+
+changing : Unit {0}
+unfolding buildNumber buildCall openRemoveNumber removeNumber removeCall fullNumber openInsertNumber roomThenCheck insertNumber insertCall
+changing = record {}
+
+telling : Unit {0}
+unfolding buildIn _minus_ _plus_ treeAt treeOf touched boundOf outcome stepsFrom foundFrom leftIn tell storeA storeA′ storeB storeC
+telling = record {}
+
+-- one `refl` a row, in the table's order
+pub examples : Each table
+unfolding reading checking building repairing naming removing inserting reaching walking looking touring changing telling
+examples = (refl, (refl, (refl, (refl, (refl, (refl, (refl, (refl, (refl, (refl, (refl, (refl, (refl, (refl, (refl, (refl, (refl, (refl, (refl, (refl, (refl, (refl, (refl, (refl, (refl, (refl, (refl, (refl, (refl, (refl, (refl, (refl, (refl, (refl, (refl, (refl, (refl, (refl, record {}))))))))))))))))))))))))))))))))))))))

@@ -1,0 +1,208 @@
+-- "Examples to hold it against": every case that is marked (*), in the document's order and beside its words, and what document 02 adds; and after
+-- them cases of our own for what those leave open, worked out from the documents' words by tests/model.py.
+use mathlib.Core.Bool.{false}
+use mathlib.Core.List.{List, [], _∷_, _++_}
+use Prim.Native.Nat.{ℕ, zero, suc}
+use lib.ListN.{replicate}
+use Rattle.words.specs.Ix.{U}
+use Rattle.words.specs.Refusals.{refusalNumber}
+use Rattle.words.specs.declared.interval.Bound.the-variants.{Included, Excluded, Unbounded}
+use Rattle.words.specs.declared.interval.Interval.{Interval}
+use Rattle.words.specs.declared.node.Entry.{Entry}
+use Rattle.words.specs.declared.refusal.Refusal.the-variants.{NoSuch, BadRange, BadInterval, ShortOutput}
+use Rattle.tree.specs.Tree.{Tree, leaf, node}
+use Rattle.iter.specs.Cursors.{fresh, ended}
+use Rattle.iter.specs.declared.Cursor.{Cursor}
+use Rattle.iter.specs.declared.rules.Query.the-variants.{Overlap, Exact}
+use Rattle.iset.specs.Maps.{mapOf}
+use Rattle.iset.specs.Sequence.{State}
+use Rattle.test_document.specs.Stores.{buildIn, _minus_, _plus_}
+use Rattle.test_document.specs.Rows.{Row, _gives_, _to_, moved, colours, _entering_, hit, end, build, remove, insert, rootRight, slot, overlap, step, drain, exact, plain, span, built, removed, inserted, link, holds, found, stepped, drained, started, looked}
+
+-- "Store A, built from [10,20) 1, [10,30) 2, [25,40) 3, [40,50) 4, [45,60) 5", in 40 words and a byte
+abbrev pub listA : List ℕ
+listA = 10 ∷ 20 ∷ 1 ∷ 10 ∷ 30 ∷ 2 ∷ 25 ∷ 40 ∷ 3 ∷ 40 ∷ 50 ∷ 4 ∷ 45 ∷ 60 ∷ 5 ∷ []
+
+unfoldable pub storeA : State
+storeA = buildIn 40 1 listA
+
+-- the same with room for one entry more
+unfoldable pub storeA′ : State
+storeA′ = buildIn 48 1 listA
+
+-- "Store B, three times [5,9) with values 1, 2, 3", in 24 words and a byte
+abbrev pub listB : List ℕ
+listB = 5 ∷ 9 ∷ 1 ∷ 5 ∷ 9 ∷ 2 ∷ 5 ∷ 9 ∷ 3 ∷ []
+
+unfoldable pub storeB : State
+storeB = buildIn 24 1 listB
+
+-- Store C, built from the 65 entries [0,1) 0, [1,2) 1, .. [64,65) 64
+abbrev pub units : ℕ → ℕ → List ℕ
+units a zero = []
+units a (suc k) = a ∷ suc a ∷ a ∷ units (suc a) k
+
+unfoldable pub storeC : State
+storeC = buildIn 520 9 (units 0 65)
+
+-- the slots from a on, k of them
+abbrev pub from : ℕ → ℕ → List ℕ
+from a zero = []
+from a (suc k) = a ∷ from (suc a) k
+
+-- a node without children
+abbrev pub only : ℕ → Tree
+only s = node leaf s leaf
+
+-- the interval [a, b)
+infix 70 _until_
+abbrev pub _until_ : ℕ → ℕ → Interval
+_until_ a b = record { start = a; end = b }
+
+-- the entry [a, b) v
+abbrev pub entry : ℕ → ℕ → ℕ → Entry
+entry a b v = record { start = a; end = b; value = v }
+
+abbrev pub held : ℕ → ℕ → ℕ → Cursor
+held s levels bits = record { slot = s; levels = levels; bits = bits }
+
+abbrev pub table : List Row
+table =
+    -- "root 2; 2 has 1 and 4; 1 has left 0; 4 has left 3; colours 9; h = 3." A line of words a slot.
+    build 40 1 listA gives built (record { no = 0; map = mapOf 5 2 }) (record {
+      tree = node (node (only 0) 1 leaf) 2 (node (only 3) 4 leaf);
+      bytes = colours 9;
+      h = 3;
+      words =
+          10 ∷ 20 ∷ 1 ∷ 10 ∷ 20 ∷ U ∷ U ∷ 1 ∷
+          10 ∷ 30 ∷ 2 ∷ 10 ∷ 30 ∷ 0 ∷ U ∷ 2 ∷
+          25 ∷ 40 ∷ 3 ∷ 10 ∷ 60 ∷ 1 ∷ 4 ∷ U ∷
+          40 ∷ 50 ∷ 4 ∷ 40 ∷ 50 ∷ U ∷ U ∷ 4 ∷
+          45 ∷ 60 ∷ 5 ∷ 40 ∷ 60 ∷ 3 ∷ U ∷ 2 ∷ [];
+    }) ∷
+    -- "remove 0: value 1, pairs (4,0), colours 8, root 2."
+    remove storeA 0 gives removed (record { no = 0; value = 1; map = mapOf 4 2; pairs = moved (4 to 0 ∷ []); reach = 0 }) (colours 8) ∷
+    -- "remove 1: value 2, pairs (0,1), (4,0), colours 8."
+    remove storeA 1 gives removed (record { no = 0; value = 2; map = mapOf 4 2; pairs = moved (0 to 1 ∷ 4 to 0 ∷ []); reach = 1 }) (colours 8) ∷
+    -- "remove 2: value 3, pairs (3,2), (4,3), colours 1."
+    remove storeA 2 gives removed (record { no = 0; value = 3; map = mapOf 4 2; pairs = moved (3 to 2 ∷ 4 to 3 ∷ []); reach = 1 }) (colours 1) ∷
+    -- "remove 4: value 5, no pairs, colours 1, the root's right link is 3."
+    remove storeA 4 gives removed (record { no = 0; value = 5; map = mapOf 4 2; pairs = moved []; reach = 2 }) (colours 1) ∷
+    rootRight (storeA minus 4) gives link 3 ∷
+    -- document 02, item 2: "The left, right and parent words of that slot become U; the other five stay 0."
+    slot (storeA minus 4) 4 gives holds (0 ∷ 0 ∷ 0 ∷ 0 ∷ 0 ∷ U ∷ U ∷ U ∷ []) ∷
+    -- "remove 5 or U: NoSuch."
+    remove storeA 5 gives removed (record { no = refusalNumber NoSuch; value = 0; map = mapOf 5 2; pairs = moved []; reach = 0 }) (colours 9) ∷
+    remove storeA U gives removed (record { no = refusalNumber NoSuch; value = 0; map = mapOf 5 2; pairs = moved []; reach = 0 }) (colours 9) ∷
+    -- "Included 20, Excluded 25: hit 1 with 3 entered, then end with 0; t = 2, bound 9."
+    overlap storeA (Included 20) (Excluded 25) gives
+    found (record { steps = hit 1 entering 3 ∷ end entering 0 ∷ []; hits = 1 ∷ []; entered = 3 }) (record { t = 2; bound = 9 }) ∷
+    -- "Included 60, Excluded 70: end with 2 entered; t = 1, bound 6."
+    overlap storeA (Included 60) (Excluded 70) gives
+    found (record { steps = end entering 2 ∷ []; hits = []; entered = 2 }) (record { t = 1; bound = 6 }) ∷
+    -- "Excluded 20, Included 25: hits 1, 2; 3 entered."
+    overlap storeA (Excluded 20) (Included 25) gives
+    found (record {
+      steps = hit 1 entering 3 ∷ hit 2 entering 0 ∷ end entering 0 ∷ [];
+      hits = 1 ∷ 2 ∷ [];
+      entered = 3;
+    }) (record { t = 3; bound = 12 }) ∷
+    -- "Unbounded both: 0, 1, 2, 3, 4; 5 entered; bound 18."
+    overlap storeA Unbounded Unbounded gives
+    found (record {
+      steps = hit 0 entering 3 ∷ hit 1 entering 0 ∷ hit 2 entering 0 ∷ hit 3 entering 2 ∷ hit 4 entering 0 ∷ end entering 0 ∷ [];
+      hits = 0 ∷ 1 ∷ 2 ∷ 3 ∷ 4 ∷ [];
+      entered = 5;
+    }) (record { t = 5; bound = 18 }) ∷
+    -- "Excluded 7, Included 7: BadRange; Included both: accepted."
+    step storeA (Excluded 7) (Included 7) gives stepped (record { no = refusalNumber BadRange; hit = false; slot = U; next = fresh 2; entered = 0 }) ∷
+    step storeA (Included 7) (Included 7) gives stepped (record { no = 0; hit = false; slot = U; next = ended; entered = 3 }) ∷
+    -- "Store B .. root 1, all black."
+    build 24 1 listB gives built (record { no = 0; map = mapOf 3 1 }) (record {
+      tree = node (only 0) 1 (only 2);
+      bytes = colours 0;
+      h = 2;
+      words =
+          5 ∷ 9 ∷ 1 ∷ 5 ∷ 9 ∷ U ∷ U ∷ 1 ∷
+          5 ∷ 9 ∷ 2 ∷ 5 ∷ 9 ∷ 0 ∷ 2 ∷ U ∷
+          5 ∷ 9 ∷ 3 ∷ 5 ∷ 9 ∷ U ∷ U ∷ 1 ∷ [];
+    }) ∷
+    -- "exact [5,9): 0, 1, 2. Exact [5,8): end at once."
+    exact storeB (5 until 9) gives started (record { no = 0; cursor = fresh 1 }) (record {
+      steps = hit 0 entering 2 ∷ hit 1 entering 0 ∷ hit 2 entering 1 ∷ end entering 0 ∷ [];
+      hits = 0 ∷ 1 ∷ 2 ∷ [];
+      entered = 3;
+    }) ∷
+    exact storeB (5 until 8) gives started (record { no = 0; cursor = fresh U }) (record { steps = end entering 0 ∷ []; hits = []; entered = 0 }) ∷
+    -- "remove 0: value 1, pair (2,0), colour byte 5, count 2."
+    remove storeB 0 gives removed (record { no = 0; value = 1; map = mapOf 2 1; pairs = moved (2 to 0 ∷ []); reach = 0 }) (colours 5) ∷
+    -- "Then remove 1: value 2, no pairs, root 0, byte 4."
+    remove (storeB minus 0) 1 gives removed (record { no = 0; value = 2; map = mapOf 1 0; pairs = moved []; reach = 0 }) (colours 4) ∷
+    -- "Then remove 0: value 3, root U."
+    remove (storeB minus 0 minus 1) 0 gives removed (record { no = 0; value = 3; map = mapOf 0 U; pairs = moved []; reach = 0 }) (colours 4) ∷
+    -- Excluded to Excluded of one number: BadRange, as "lo = hi unless both are Included"
+    step storeA (Excluded 7) (Excluded 7) gives stepped (record { no = refusalNumber BadRange; hit = false; slot = U; next = fresh 2; entered = 0 }) ∷
+    -- [20,30) 1, [10,10) 2 falls and has a bad interval: "build 8, 1, 5, 6", so BadInterval
+    build 16 1 (20 ∷ 30 ∷ 1 ∷ 10 ∷ 10 ∷ 2 ∷ []) gives built (record { no = refusalNumber BadInterval; map = mapOf 0 U }) (record {
+      tree = leaf;
+      bytes = colours 0;
+      h = 0;
+      words = 0 ∷ 0 ∷ 0 ∷ 0 ∷ 0 ∷ 0 ∷ 0 ∷ 0 ∷ 0 ∷ 0 ∷ 0 ∷ 0 ∷ 0 ∷ 0 ∷ 0 ∷ 0 ∷ [];
+    }) ∷
+    -- a drain of 2 into 3 places, and the next one: from [10,30) 2, which is held, was left, then returned
+    drain storeA Unbounded Unbounded (fresh 2) 2 (7 ∷ 7 ∷ 7 ∷ []) gives
+    drained (record { no = 0; hits = 2; entered = 3; next = held 1 2 6 }) (0 ∷ 1 ∷ 7 ∷ []) ∷
+    drain storeA Unbounded Unbounded (held 1 2 6) 4 (7 ∷ 7 ∷ 7 ∷ 7 ∷ []) gives
+    drained (record { no = 0; hits = 3; entered = 2; next = ended }) (2 ∷ 3 ∷ 4 ∷ 7 ∷ []) ∷
+    -- a limit above the output's length: ShortOutput
+    drain storeA Unbounded Unbounded (fresh 2) 2 (7 ∷ []) gives
+    drained (record { no = refusalNumber ShortOutput; hits = 0; entered = 0; next = fresh 2 }) (7 ∷ []) ∷
+    -- an insertion under a black node, in slot 5
+    insert storeA′ (entry 25 30 6) gives inserted (record { no = 0; slot = 5; map = mapOf 6 2; reach = 0 }) (record {
+      tree = node (node (only 0) 1 (only 5)) 2 (node (only 3) 4 leaf);
+      bytes = colours 41;
+      h = 3;
+      words =
+          10 ∷ 20 ∷ 1 ∷ 10 ∷ 20 ∷ U ∷ U ∷ 1 ∷
+          10 ∷ 30 ∷ 2 ∷ 10 ∷ 30 ∷ 0 ∷ 5 ∷ 2 ∷
+          25 ∷ 40 ∷ 3 ∷ 10 ∷ 60 ∷ 1 ∷ 4 ∷ U ∷
+          40 ∷ 50 ∷ 4 ∷ 40 ∷ 50 ∷ U ∷ U ∷ 4 ∷
+          45 ∷ 60 ∷ 5 ∷ 40 ∷ 60 ∷ 3 ∷ U ∷ 2 ∷
+          25 ∷ 30 ∷ 6 ∷ 25 ∷ 30 ∷ U ∷ U ∷ 1 ∷ [];
+    }) ∷
+    -- and one under a red node without an uncle: its parent comes up over the grandparent
+    insert storeA′ (entry 5 6 6) gives inserted (record { no = 0; slot = 5; map = mapOf 6 2; reach = 2 }) (record {
+      tree = node (node (only 5) 0 (only 1)) 2 (node (only 3) 4 leaf);
+      bytes = colours 42;
+      h = 3;
+      words =
+          10 ∷ 20 ∷ 1 ∷ 5 ∷ 30 ∷ 5 ∷ 1 ∷ 2 ∷
+          10 ∷ 30 ∷ 2 ∷ 10 ∷ 30 ∷ U ∷ U ∷ 0 ∷
+          25 ∷ 40 ∷ 3 ∷ 5 ∷ 60 ∷ 0 ∷ 4 ∷ U ∷
+          40 ∷ 50 ∷ 4 ∷ 40 ∷ 50 ∷ U ∷ U ∷ 4 ∷
+          45 ∷ 60 ∷ 5 ∷ 40 ∷ 60 ∷ 3 ∷ U ∷ 2 ∷
+          5 ∷ 6 ∷ 6 ∷ 5 ∷ 6 ∷ U ∷ U ∷ 0 ∷ [];
+    }) ∷
+    -- "Its colour bit keeps what the repair left in it": the emptied slot 5 was red, and its bit stays 1
+    remove (storeA′ plus entry 25 30 6) 5 gives removed (record { no = 0; value = 6; map = mapOf 5 2; pairs = moved []; reach = 0 }) (colours 41) ∷
+    -- document 02, item 8: "0 means the output's length, so 9 cannot occur for it"; it stops at the third hit, which is the root, and comes to
+    -- the end where there is a place more than there are hits
+    drain storeA Unbounded Unbounded (fresh 2) 0 (7 ∷ 7 ∷ 7 ∷ []) gives
+    drained (record { no = 0; hits = 3; entered = 3; next = held 2 1 1 }) (0 ∷ 1 ∷ 2 ∷ []) ∷
+    drain storeA Unbounded Unbounded (fresh 2) 0 (replicate 6 7) gives
+    drained (record { no = 0; hits = 5; entered = 5; next = ended }) (from 0 5 ++ (7 ∷ [])) ∷
+    -- "An output of length 0 gets no hits and its cursor back unmoved."
+    drain storeA Unbounded Unbounded (fresh 2) 0 [] gives drained (record { no = 0; hits = 0; entered = 0; next = fresh 2 }) [] ∷
+    drain storeA Unbounded Unbounded (held 1 2 6) 0 [] gives drained (record { no = 0; hits = 0; entered = 0; next = held 1 2 6 }) [] ∷
+    -- "a lookup with 70 hits looked complete": with 65 hits 0 hands out all of them; 64 stops at the 64th, in slot 63, as 0 did before
+    drain storeC Unbounded Unbounded (fresh 32) 0 (replicate 66 7) gives
+    drained (record { no = 0; hits = 65; entered = 65; next = ended }) (from 0 65 ++ (7 ∷ [])) ∷
+    drain storeC Unbounded Unbounded (fresh 32) 64 (replicate 66 7) gives
+    drained (record { no = 0; hits = 64; entered = 64; next = held 63 5 511 }) (from 0 64 ++ (7 ∷ 7 ∷ [])) ∷
+    -- document 02, item 5: the plain lookup goes through all five entries, and has the one hit that the pruned one has
+    plain storeA (Overlap (span (Included 20) (Excluded 25))) (7 ∷ 7 ∷ 7 ∷ 7 ∷ 7 ∷ 7 ∷ []) gives
+    looked (record { no = 0; hits = 1; entered = 5 }) (1 ∷ 7 ∷ 7 ∷ 7 ∷ 7 ∷ 7 ∷ []) ∷
+    -- three equal entries, in tree order; and 9, "where the output is shorter than the map's count", though no entry is equal
+    plain storeB (Exact (5 until 9)) (7 ∷ 7 ∷ 7 ∷ []) gives looked (record { no = 0; hits = 3; entered = 3 }) (0 ∷ 1 ∷ 2 ∷ []) ∷
+    plain storeB (Exact (5 until 8)) (7 ∷ 7 ∷ []) gives looked (record { no = refusalNumber ShortOutput; hits = 0; entered = 0 }) (7 ∷ 7 ∷ []) ∷
+    []
