@@ -18,15 +18,15 @@
  * count - 1. An entry's range begins at its start and ends before its end. The map of no entries
  * has count 0 and root ISET_U.
  *
- * Each call returns ISET_OK or a refusal, see enum iset_refusal. Treat every number but ISET_OK as a
- * refusal, also one that this header does not list: later versions of the library add some.
+ * Each call returns ISET_OK or a refusal, see enum iset_refusal. Treat every number but ISET_OK as
+ * a refusal, also one that this header does not list: later versions of the library add some.
  *
  * After ISET_OK the answer's numbers are at the front of `answer`, in the order given beside each
  * call, and the places past them are unchanged. After a refusal nothing lent has changed, `answer`
  * included. Every call takes any numbers and any contents, and tests all of them itself. The test
  * of the store takes a time that grows with the count. The refusals of a call are listed in their
- * order: if several apply, the first of them is returned. A host that keeps its arrays to itself may
- * check once and then use the calls of iset_open.h.
+ * order: if several apply, the first of them is returned. A host that keeps its arrays to itself
+ * may check once and then use the calls of iset_open.h.
  *
  * The caller must ensure two things. Each pointer refers to at least as many elements as its length
  * says. An array that a call writes overlaps no other argument, and nothing else uses it during the
@@ -200,8 +200,8 @@ uint64_t iset_insert(uint64_t count, uint64_t root, uint64_t *nodes, size_t node
     uint8_t *colours, size_t colours_len, uint64_t start, uint64_t end, uint64_t value,
     uint64_t *answer, size_t answer_len);
 
-/* Gives the cursor at which a lookup of the entries that intersect a range begins. The map is tested
- * when the cursor is used.
+/* Gives the cursor at which a lookup of the entries that intersect a range begins. The map is
+ * tested when the cursor is used.
  * Answer: the cursor's slot, levels, bits.
  * Refusals: SHORT_ANSWER. */
 uint64_t iset_fresh(uint64_t count, uint64_t root, uint64_t *answer, size_t answer_len);
@@ -214,9 +214,9 @@ uint64_t iset_fresh_exact(uint64_t count, uint64_t root, const uint64_t *nodes, 
     const uint8_t *colours, size_t colours_len, uint64_t start, uint64_t end,
     uint64_t *answer, size_t answer_len);
 
-/* Finds the next entry after a cursor that intersects a range. Entries come in their order: by start,
- * then end, equal ones in the order in which they were added. An entry intersects the range if it
- * ends after lo, whether lo is Included or Excluded, and starts before hi, or at hi if hi is
+/* Finds the next entry after a cursor that intersects a range. Entries come in their order: by
+ * start, then end, equal ones in the order in which they were added. An entry intersects the range
+ * if it ends after lo, whether lo is Included or Excluded, and starts before hi, or at hi if hi is
  * Included. An Unbounded bound asks nothing.
  * Answer: the entry's slot, ISET_U at the end; the next cursor's slot, levels, bits; the number of
  * nodes that this call entered.
@@ -233,8 +233,8 @@ uint64_t iset_step_exact(uint64_t count, uint64_t root, const uint64_t *nodes, s
     const uint8_t *colours, size_t colours_len, uint64_t start, uint64_t end, uint64_t slot,
     uint64_t levels, uint64_t bits, uint64_t *answer, size_t answer_len);
 
-/* Steps until the end, or until `limit` slots are written to `out`. A limit of 0 means `out_len`: as
- * many as fit. Places of `out` past the slots are unchanged. If the next cursor's slot is not
+/* Steps until the end, or until `limit` slots are written to `out`. A limit of 0 means `out_len`:
+ * as many as fit. Places of `out` past the slots are unchanged. If the next cursor's slot is not
  * ISET_U there may be more hits: call again with that cursor. A host that shows one screen of 64
  * passes 64 itself.
  * Answer: the number of slots written, the number of nodes entered, the next cursor's slot, levels,

@@ -1,8 +1,8 @@
 /* The calls of iset.h without the check of the store, for a host that keeps its arrays to itself.
  *
- * These calls may be used if three things hold. The store passed iset_check once, or iset_build made
- * it, or it is the map of no entries. Since then nobody has written its two arrays but these calls
- * and those of iset.h. The count and the root passed in are those of the last answer.
+ * These calls may be used if three things hold. The store passed iset_check once, or iset_build
+ * made it, or it is the map of no entries. Since then nobody has written its two arrays but these
+ * calls and those of iset.h. The count and the root passed in are those of the last answer.
  *
  * Then each call returns, answers and leaves exactly what the call of iset.h does that has its name
  * without `open_`, and the store still passes the check. Otherwise answers may be wrong and a call
@@ -10,8 +10,8 @@
  *
  * The calls of iset.h check the whole store each time. These do not: the time of an insertion, a
  * removal and a step grows with the height of the tree, that of a drain with the nodes that it
- * enters, that of a plain lookup with the count. A step or a drain that continues from a cursor tests
- * that cursor first, one link a level: to fetch many slots, ask for 64 at a time.
+ * enters, that of a plain lookup with the count. A step or a drain that continues from a cursor
+ * tests that cursor first, one link a level: to fetch many slots, ask for 64 at a time.
  *
  * Arguments, answers, refusals and their order are those of iset.h, except that these calls never
  * return ISET_BROKEN. Link libiset_open.a beside libiset.a; `./archive` writes both:
