@@ -160,8 +160,9 @@ impl Lent<'_> {
 
     /// Where a lookup begins.
     pub fn begin(self, calls: &Calls, query: Query) -> Result<Cursor, Refusal> {
-        let Query::Exact { start, end } = query else {
-            return Ok(self.map.fresh());
+        let (start, end) = match query {
+            Query::Overlap(..) => return Ok(self.map.fresh()),
+            Query::Exact { start, end } => (start, end),
         };
         let mut answer = [0; 3];
         // SAFETY: the slices are live during the call, which only reads them. The answer is
