@@ -131,9 +131,9 @@ static uint64_t remove_theirs(void) {
     return sum;
 }
 static uint64_t remove_ours(void) {
-    uint64_t sum = 0, answer[9] = {0, n, root};
+    uint64_t sum = 0, answer[10] = {0, n, root};
     for (size_t k = 0; k < n; k++) {
-        iset_open_remove(answer[1], answer[2], spare, 8 * n, spare_bytes, colour_bytes, slots[k], answer, 9);
+        iset_open_remove(answer[1], answer[2], spare, 8 * n, spare_bytes, colour_bytes, slots[k], answer, 10);
         sum = 3 * sum + answer[0];
     }
     return sum;
@@ -169,10 +169,10 @@ static uint64_t insert_theirs(void) {
     return 0;
 }
 static uint64_t insert_ours(void) {
-    uint64_t answer[3] = {0, ISET_U};
+    uint64_t answer[4] = {0, ISET_U};
     for (size_t k = 0; k < n; k++) {
         const uint64_t *entry = mixed + 3 * k;
-        iset_open_insert(answer[0], answer[1], spare, 8 * n, spare_bytes, colour_bytes, entry[0], entry[1], entry[2], answer, 3);
+        iset_open_insert(answer[0], answer[1], spare, 8 * n, spare_bytes, colour_bytes, entry[0], entry[1], entry[2], answer, 4);
     }
     grown_root = answer[1];
     return 0;
