@@ -52,7 +52,7 @@ static void fail(const char *what) {
     exit(1);
 }
 
-/* Every number of a reply is set: a wrapper's by put, and the calls' own by an empty answer first. */
+/* Every number of a reply is set: a wrapper's by put, the calls' own by an empty answer first. */
 static void put(struct reply *reply, uint64_t no, size_t n, const uint64_t *numbers) {
     memset(reply, 0, sizeof *reply);
     reply->no = no;

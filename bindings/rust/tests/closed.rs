@@ -1,6 +1,6 @@
 //! An archive of another version, which refuses every call with a number that this crate does not
-//! know: no call may pass that off as an answer. The archive is the functions below, so the real one
-//! is not linked.
+//! know: no call may pass that off as an answer. The archive is the functions below, so the real
+//! one is not linked.
 #![cfg(not(iset_linked))]
 use std::panic::{catch_unwind, AssertUnwindSafe};
 

@@ -1,5 +1,5 @@
-//! `Store` and `StoreRef` beside a plain list of entries. They need the archives: without ISET_LIB_DIR
-//! there is nothing here to run.
+//! `Store` and `StoreRef` beside a plain list of entries. They need the archives: without
+//! ISET_LIB_DIR there is nothing here to run.
 #![cfg(iset_linked)]
 use core::ops::Bound;
 
