@@ -263,7 +263,8 @@ fn looked_up_plainly() {
         assert_eq!(out, [7; 6]);
         why.err()
     };
-    let (all, falling) = (Query::overlap(..), Query::overlap(3..=1));
+    let all = Query::overlap(..);
+    let falling = Query::overlap((Bound::Included(3), Bound::Included(1)));
     let empty = Query::Exact { start: 9, end: 9 };
     assert_eq!(refused(a.map, all, 4), Some(Refusal::ShortOutput));
     assert_eq!(refused(a.map, falling, 4), Some(Refusal::BadRange));
