@@ -294,6 +294,47 @@ static void start(void) {
     build();
 }
 
+static void tell(uint64_t no) { printf(" %" PRIu64, no); }
+
+/* On a store with a red root the public calls return BROKEN, and the opened ones do not check. */
+static void faces(void) {
+    iset_entry list[] = {{1, 2, 0}, {3, 4, 0}, {5, 6, 0}}, entry = {7, 8, 0};
+    iset_range all = iset_range_all();
+    iset_cursor c = {1, 1, 0}, e;
+    iset_removed removed;
+    iset_inserted inserted;
+    iset_stepped s;
+    iset_drained d;
+    iset_tally t;
+    start();
+    for (int k = PUBLIC; k < COPIES; k++) {
+        if (iset_map_build(&MAP(k), MEMORY(k), list, 3) != ISET_OK) fail("build");
+        copies[k].colours[0] |= 1 << MAP(k).root;
+    }
+    printf("a red root, public:");
+    tell(iset_map_check(MAP(1), MEMORY(1)));
+    tell(iset_map_step(MAP(1), MEMORY(1), all, c, &s));
+    tell(iset_map_step_exact(MAP(1), MEMORY(1), 3, 4, c, &s));
+    tell(iset_map_drain(MAP(1), MEMORY(1), all, c, 0, OUT(1), SLOTS, &d));
+    tell(iset_map_drain_exact(MAP(1), MEMORY(1), 3, 4, c, 0, OUT(1), SLOTS, &d));
+    tell(iset_map_plain(MAP(1), MEMORY(1), all, OUT(1), SLOTS, &t));
+    tell(iset_map_plain_exact(MAP(1), MEMORY(1), 3, 4, OUT(1), SLOTS, &t));
+    tell(iset_map_fresh_exact(MAP(1), MEMORY(1), 3, 4, &e));
+    tell(iset_map_insert(&MAP(1), MEMORY(1), entry, &inserted));
+    tell(iset_map_remove(&MAP(1), MEMORY(1), 0, &removed));
+    printf(", opened:");
+    tell(iset_map_open_step(MAP(2), MEMORY(2), all, c, &s));
+    tell(iset_map_open_drain(MAP(2), MEMORY(2), all, c, 0, OUT(2), SLOTS, &d));
+    tell(iset_map_open_plain(MAP(2), MEMORY(2), all, OUT(2), SLOTS, &t));
+    tell(iset_map_open_plain_exact(MAP(2), MEMORY(2), 3, 4, OUT(2), SLOTS, &t));
+    tell(iset_map_open_fresh_exact(MAP(2), MEMORY(2), 3, 4, &e));
+    tell(iset_map_open_step_exact(MAP(2), MEMORY(2), 3, 4, e, &s));
+    tell(iset_map_open_drain_exact(MAP(2), MEMORY(2), 3, 4, e, 0, OUT(2), SLOTS, &d));
+    tell(iset_map_open_insert(&MAP(2), MEMORY(2), entry, &inserted));
+    tell(iset_map_open_remove(&MAP(2), MEMORY(2), 0, &removed));
+    printf("\n");
+}
+
 static void read_refused(void) {
     iset_entry entry;
     iset_memory memory = MEMORY(RAW);
@@ -319,6 +360,7 @@ int main(void) {
             if (iset_map_check(MAP(k), MEMORY(k)) != ISET_OK) fail("check");
     }
     printf("maps: %lu calls as their wrappers, %lu of them refused\n", calls, refusals);
+    faces();
     read_refused();
     for (uint64_t no = 0; no < 104; no = no == 12 ? 100 : no + 1)
         printf("%" PRIu64 ": %s\n", no, iset_refusal_name(no));
