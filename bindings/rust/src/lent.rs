@@ -93,6 +93,7 @@ fn numbers(bound: Bound<u64>) -> (u64, u64) {
 }
 
 impl LentMut<'_> {
+    #[inline]
     pub fn read(&self) -> Lent<'_> {
         Lent {
             map: self.map,

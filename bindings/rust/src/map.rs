@@ -100,6 +100,7 @@ impl Map {
     }
 
     /// Where an overlap lookup begins. The map is tested when the cursor is used.
+    #[inline]
     pub const fn fresh(self) -> Cursor {
         Cursor {
             slot: self.root,

@@ -48,21 +48,25 @@ impl<'m> StoreRef<'m> {
     }
 
     /// The number of entries. They are in slots 0 to `len() - 1`.
+    #[inline]
     pub fn len(self) -> usize {
         self.lent.map.count as usize
     }
 
     /// Whether there are no entries.
+    #[inline]
     pub fn is_empty(self) -> bool {
         self.lent.map.count == 0
     }
 
     /// The entry of a slot; `None` if the slot is not below the number of entries.
+    #[inline]
     pub fn get(self, slot: u64) -> Option<Entry> {
         (slot < self.lent.map.count).then(|| self.entry(slot))
     }
 
     /// The entry of a slot that is below the number of entries.
+    #[inline]
     fn entry(self, slot: u64) -> Entry {
         let words = &self.lent.nodes[slot as usize * NODE_WORDS..][..NODE_WORDS];
         Entry {
@@ -73,11 +77,13 @@ impl<'m> StoreRef<'m> {
     }
 
     /// All entries in order: by start, then end, equal ones in the order in which they were added.
+    #[inline]
     pub fn entries(self) -> Entries<'m, MANY> {
         Entries::of_map(self, Query::overlap(..))
     }
 
     /// The entries that hold an address, in order.
+    #[inline]
     pub fn at(self, address: u64) -> Entries<'m, FEW> {
         Entries::of_map(self, Query::overlap(address..=address))
     }
@@ -211,6 +217,7 @@ impl<'m> Store<'m> {
 
     /// The same store for reading: it can be copied and sent to other threads, and nothing writes
     /// while one of them lives.
+    #[inline]
     pub fn read(&self) -> StoreRef<'_> {
         StoreRef {
             lent: self.lent.read(),
@@ -218,26 +225,31 @@ impl<'m> Store<'m> {
     }
 
     /// The number of entries. They are in slots 0 to `len() - 1`.
+    #[inline]
     pub fn len(&self) -> usize {
         self.read().len()
     }
 
     /// Whether there are no entries.
+    #[inline]
     pub fn is_empty(&self) -> bool {
         self.read().is_empty()
     }
 
     /// The entry of a slot; `None` if the slot is not below the number of entries.
+    #[inline]
     pub fn get(&self, slot: u64) -> Option<Entry> {
         self.read().get(slot)
     }
 
     /// All entries in order: by start, then end, equal ones in the order in which they were added.
+    #[inline]
     pub fn entries(&self) -> Entries<'_, MANY> {
         self.read().entries()
     }
 
     /// The entries that hold an address, in order.
+    #[inline]
     pub fn at(&self, address: u64) -> Entries<'_, FEW> {
         self.read().at(address)
     }
