@@ -93,6 +93,6 @@ int main(void) {
     if (!build() || !look_up(20, 45) || !remove_slot(1, kept, 4) || !insert(30, 35, 6) ||
         !look_up(20, 45))
         return 1;
-    /* There is no slot 9. A refused call changes nothing. */
-    return remove_slot(9, kept, 4);
+    /* There is no slot 9: the call is refused, and changes nothing. */
+    return remove_slot(9, kept, 4) ? 1 : 0;
 }

@@ -71,6 +71,6 @@ int main(void) {
     if (!went_well(iset_map_open_insert(&map, memory, entry, &inserted))) return 1;
     printf("inserted value %" PRIu64 " in slot %" PRIu64 "\n", entry.value, inserted.slot);
     if (!look_up(map, memory, 20, 45)) return 1;
-    /* There is no slot 9. A refused call changes nothing. */
-    return remove_slot(&map, memory, 9, kept, 4);
+    /* There is no slot 9: the call is refused, and changes nothing. */
+    return remove_slot(&map, memory, 9, kept, 4) ? 1 : 0;
 }

@@ -58,7 +58,7 @@ fn main() -> Result<(), Refusal> {
     remove(&mut store, 1, &mut kept)?;
     println!("inserted value 6 in slot {}", store.insert(30..35, 6)?);
     look_up(&store, 20, 45)?;
-    // There is no slot 9. A refused call changes nothing.
+    // There is no slot 9: the call is refused, and changes nothing.
     if let Err(why) = remove(&mut store, 9, &mut kept) {
         println!("refused: {why}");
     }

@@ -2,15 +2,16 @@
 //! libiset_open.a, as include/iset_open.h does. [`Map`](crate::Map) and [`Store`](crate::Store)
 //! call them safely.
 //!
-//! Each returns 0, or the number of a [`Refusal`](crate::Refusal). Treat every number but 0 as a
-//! refusal. The order of an answer's numbers is given in include/iset.h.
+//! Each returns 0, or the number of a [`Refusal`](crate::Refusal); only [`iset_slot_after`] returns
+//! a slot. Treat every number but 0 as a refusal. The order of an answer's numbers is given in
+//! include/iset.h.
 //!
 //! # Safety
 //!
 //! For each function here the caller must ensure two things. A pointer refers to at least as many
-//! elements as the length after it says; an array of length 0 may have any pointer. An array that
-//! is passed as `*mut` overlaps no other argument, and nothing else uses it during the call.
-//! The functions take any numbers and any contents.
+//! elements as the length after it says, and that of [`iset_slot_after`] to 10 numbers; an array of
+//! length 0 may have any pointer. An array that is passed as `*mut` overlaps no other argument, and
+//! nothing else uses it during the call. The functions take any numbers and any contents.
 #![allow(clippy::too_many_arguments)]
 
 /// Declares functions of the archives.
