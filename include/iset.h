@@ -1,83 +1,103 @@
-/* The interval map of loaded code, for C99 and C++: ranges of addresses, each with a value, in a red-black tree inside memory that the
- * caller lends. Nothing is allocated and nothing is kept between calls. Link libcapi.a, which `rt staticlib capi` writes.
+/* The interval map of loaded code, for C99 and C++: ranges of addresses, each with a value, in a
+ * red-black tree inside memory that the caller lends. Nothing is allocated, and nothing is kept
+ * between calls.
  *
- * A map is its count and its root, two numbers that go in by value; an answer has the new ones. Its entries stand in two lent arrays:
- *   nodes     eight words a slot: start, end, value, hull start, hull end, left, right, parent
+ * A whole host is examples/host.c. To build it on x86-64:
+ *
+ *     ./archive
+ *     gcc -std=c99 -I include examples/host.c target/staticlib/libiset.a -o host
+ *
+ * `./archive` proves the library and writes libiset.a. include/iset_map.h has the same calls with
+ * structs instead of single numbers.
+ *
+ * A map is its count and its root, two numbers that are passed by value. Each change answers the
+ * new ones. The entries are in two lent arrays:
+ *   nodes     eight words a slot, see enum iset_word
  *   colours   one bit a slot: bit i is bit i % 8 of byte i / 8, and 1 is red
- * It holds the least of nodes_len / 8, colours_len * 8 and 65535 entries, in slots 0 to count - 1. An entry's range begins at start and ends
- * before end. The map of no entries is count 0, root ISET_U.
+ * A map holds at most the least of nodes_len / 8, colours_len * 8 and 65535 entries, in slots 0 to
+ * count - 1. An entry's range begins at its start and ends before its end. The map of no entries
+ * has count 0 and root ISET_U.
  *
- * Each call returns a refusal's number, or ISET_OK and the answer: it writes the answer's numbers to the front of `answer`, in the order
- * given beside each call, and leaves the places past them. Where it refuses, nothing lent has changed, `answer` neither. Every call takes any
- * numbers and any contents and tests all of it itself, the store too, which takes a time that grows with the count. The refusals that a call can
- * give are listed in their order: the first one that applies is given. A host that keeps its arrays to itself may check once, and then make the calls
- * of iset_open.h.
+ * Each call returns ISET_OK or a refusal, see enum iset_refusal. Treat every number but ISET_OK as
+ * a refusal, also one that this header does not list: later versions of the library add some.
  *
- * What the caller sees to is what an array is: a pointer holds as many elements as its length says, and no array that a call may write overlaps
- * another one of that call or is in use elsewhere while it runs. An array of length 0 may have any pointer, NULL too.
+ * After ISET_OK the answer's numbers are at the front of `answer`, in the order given beside each
+ * call, and the places past them are unchanged. After a refusal nothing lent has changed, `answer`
+ * included. Every call takes any numbers and any contents, and tests all of them itself. The test
+ * of the store takes a time that grows with the count. The refusals of a call are listed in their
+ * order: if several apply, the first of them is returned. A host that keeps its arrays to itself
+ * may check once and then use the calls of iset_open.h.
  *
- * A slot is good until the next removal: that names the entries that changed slot (iset_slot_after reads them), or look up again. An insertion
- * moves no old entry: every slot stays good. A cursor that is carried over a removal or an insertion is judged against the new store.
+ * The caller must ensure two things. Each pointer refers to at least as many elements as its length
+ * says. An array that a call writes overlaps no other argument, and nothing else uses it during the
+ * call. An array of length 0 may have any pointer, NULL included.
  *
- * An example, which prints `removed value 1, 4 left; slot 1: [10, 30)`:
- *
- *     #include <inttypes.h>
- *     #include <stdio.h>
- *     #include "iset.h"
- *
- *     int main(void) {
- *         uint64_t list[] = {10, 20, 1, 10, 30, 2, 25, 40, 3, 40, 50, 4, 45, 60, 5};
- *         uint64_t nodes[5 * ISET_NODE_WORDS] = {0};
- *         uint8_t colours[1] = {0};
- *         uint64_t map[ISET_BUILD_ANSWER], gone[ISET_REMOVE_ANSWER], cursor[ISET_FRESH_ANSWER], drained[ISET_DRAIN_ANSWER], out[8];
- *         if (iset_build(nodes, 40, colours, 1, list, 15, map, ISET_BUILD_ANSWER) != ISET_OK) return 1;
- *         if (iset_remove(map[0], map[1], nodes, 40, colours, 1, 0, gone, ISET_REMOVE_ANSWER) != ISET_OK) return 1;
- *         printf("removed value %" PRIu64 ", %" PRIu64 " left;", gone[0], gone[1]);
- *         // the entries that reach past address 20 and start before 25
- *         iset_fresh(gone[1], gone[2], cursor, ISET_FRESH_ANSWER);
- *         if (iset_drain(gone[1], gone[2], nodes, 40, colours, 1, ISET_INCLUDED, 20, ISET_EXCLUDED, 25, cursor[0], cursor[1], cursor[2],
- *                 8, out, 8, drained, ISET_DRAIN_ANSWER) != ISET_OK) return 1;
- *         for (uint64_t i = 0; i < drained[0]; i++)
- *             printf(" slot %" PRIu64 ": [%" PRIu64 ", %" PRIu64 ")", out[i], nodes[out[i] * 8], nodes[out[i] * 8 + 1]);
- *         printf("\n");
- *         return 0;
- *     }
- */
+ * A slot stays valid until the next removal. The removal lists the entries that moved: update the
+ * slots you kept with iset_slot_after, or look them up again. An insertion moves no entry: every
+ * slot stays valid. A cursor that is used after a removal or an insertion is tested against the new
+ * store. */
 #ifndef ISET_H
 #define ISET_H
 
 #include <stddef.h>
 #include <stdint.h>
 
-/* No slot: the root of an empty map, a link that leads nowhere, the slot of a step that is at the end, an unused pair. */
+/* The version of the library that this header belongs to. */
+#define ISET_VERSION_MAJOR 0
+#define ISET_VERSION_MINOR 4
+#define ISET_VERSION_PATCH 0
+#define ISET_VERSION "0.4.0"
+
+/* No slot: the root of the map of no entries, a link that leads nowhere, the slot of an ended
+ * cursor, an unused move. */
 #define ISET_U UINT64_C(4294967295)
 
 #define ISET_NODE_WORDS 8
 #define ISET_MOST_ENTRIES 65535
 
-/* What a call returns. */
-enum {
-    ISET_OK = 0,
-    ISET_NO_ROOM = 1,         /* the arrays do not hold the count, the entries to build, or, at an insertion, one entry more */
-    ISET_BROKEN = 2,          /* the store does not pass the check */
-    ISET_NO_SUCH = 3,         /* the slot is not below the count */
-    ISET_BAD_RANGE = 4,       /* no bound is Unbounded, and lo > hi, or lo == hi unless both are Included */
-    ISET_BAD_INTERVAL = 5,    /* a given interval has start >= end */
-    ISET_NOT_SORTED = 6,      /* the list to build falls somewhere, by start, then end */
-    ISET_BAD_CURSOR = 7,      /* the cursor is not one that a lookup of this query in this store could have */
-    ISET_BAD_LIST = 8,        /* the list's length is no multiple of 3 */
-    ISET_SHORT_OUTPUT = 9,    /* the drain's limit is above the output's length, or a plain lookup's output is shorter than the count */
-    ISET_BAD_BIT = 10,        /* of bit vectors and stacks; none of these calls gives it */
-    /* of the calls from C themselves; the map's own numbers may go on from 10 */
-    ISET_SHORT_ANSWER = 101,  /* `answer` does not hold the answer's numbers */
-    ISET_BAD_BOUND = 102      /* a bound's kind is none of the three below */
+/* How many words and how many bytes the arrays need for n entries. */
+#define ISET_NODES_LEN(n) ((size_t)(n) * ISET_NODE_WORDS)
+#define ISET_COLOURS_LEN(n) (((size_t)(n) + 7) / 8)
+
+/* The words of a slot: word w of slot s is nodes[s * ISET_NODE_WORDS + w]. Links are slots, or
+ * ISET_U. The hull is the least range that holds the ranges of the entry and of all below it. */
+enum iset_word {
+    ISET_START = 0,
+    ISET_END = 1,
+    ISET_VALUE = 2,
+    ISET_HULL_START = 3,
+    ISET_HULL_END = 4,
+    ISET_LEFT = 5,
+    ISET_RIGHT = 6,
+    ISET_PARENT = 7
 };
 
-/* The kinds of a bound. The number of an Unbounded one is not looked at. */
-enum { ISET_INCLUDED = 0, ISET_EXCLUDED = 1, ISET_UNBOUNDED = 2 };
+/* What a call returns. */
+enum iset_refusal {
+    ISET_OK = 0,
+    ISET_NO_ROOM = 1,         /* the arrays do not hold the count, the entries to build, or, for an
+                                 insertion, one more entry */
+    ISET_BROKEN = 2,          /* the store does not pass the check */
+    ISET_NO_SUCH = 3,         /* the slot is not below the count */
+    ISET_BAD_RANGE = 4,       /* neither bound is Unbounded, and lo > hi, or lo == hi unless both
+                                 are Included */
+    ISET_BAD_INTERVAL = 5,    /* a given interval has start >= end */
+    ISET_NOT_SORTED = 6,      /* the list to build is not sorted by start, then end */
+    ISET_BAD_CURSOR = 7,      /* no lookup of this query in this store has this cursor */
+    ISET_BAD_LIST = 8,        /* the list's length is not a multiple of 3 */
+    ISET_SHORT_OUTPUT = 9,    /* the drain's limit is above the output's length, or a plain lookup's
+                                 output is shorter than the count */
+    ISET_BAD_BIT = 10,        /* of bit vectors and stacks; none of these calls returns it */
+    /* Later refusals of the map are numbered from 11. These two belong to the calls from C: */
+    ISET_SHORT_ANSWER = 101,  /* `answer` has fewer places than the answer has numbers */
+    ISET_BAD_BOUND = 102      /* a bound's kind is not 0, 1 or 2 */
+};
+
+/* The kinds of a bound. The number of an Unbounded bound is ignored. */
+enum iset_bound_kind { ISET_INCLUDED = 0, ISET_EXCLUDED = 1, ISET_UNBOUNDED = 2 };
 
 /* How many numbers an answer has. */
-enum {
+enum iset_answer {
     ISET_BUILD_ANSWER = 2,
     ISET_REMOVE_ANSWER = 10,
     ISET_INSERT_ANSWER = 4,
@@ -87,91 +107,167 @@ enum {
     ISET_PLAIN_ANSWER = 2
 };
 
+/* The places of each answer. */
+enum iset_build_place { ISET_BUILT_COUNT = 0, ISET_BUILT_ROOT = 1 };
+enum iset_remove_place {
+    ISET_REMOVED_VALUE = 0,
+    ISET_REMOVED_COUNT = 1,
+    ISET_REMOVED_ROOT = 2,
+    ISET_REMOVED_MOVES = 3, /* old slot, new slot, three times: places 3 to 8 */
+    ISET_REMOVED_REACH = 9
+};
+enum iset_insert_place {
+    ISET_INSERTED_COUNT = 0,
+    ISET_INSERTED_ROOT = 1,
+    ISET_INSERTED_SLOT = 2,
+    ISET_INSERTED_REACH = 3
+};
+enum iset_fresh_place { ISET_FRESH_SLOT = 0, ISET_FRESH_LEVELS = 1, ISET_FRESH_BITS = 2 };
+enum iset_step_place {
+    ISET_STEP_HIT = 0,
+    ISET_STEP_NEXT_SLOT = 1,
+    ISET_STEP_NEXT_LEVELS = 2,
+    ISET_STEP_NEXT_BITS = 3,
+    ISET_STEP_ENTERED = 4
+};
+enum iset_drain_place {
+    ISET_DRAINED_HITS = 0,
+    ISET_DRAINED_ENTERED = 1,
+    ISET_DRAINED_NEXT_SLOT = 2,
+    ISET_DRAINED_NEXT_LEVELS = 3,
+    ISET_DRAINED_NEXT_BITS = 4
+};
+enum iset_plain_place { ISET_PLAIN_HITS = 0, ISET_PLAIN_ENTERED = 1 };
+
 #ifdef __cplusplus
 extern "C" {
 #endif
 
-/* Whether the store passes the check.
- * Refusals: NO_ROOM, BROKEN. */
-uint64_t iset_check(uint64_t count, uint64_t root, const uint64_t *nodes, size_t nodes_len, const uint8_t *colours, size_t colours_len);
+/* What a number that a call returned means, in words. */
+static inline const char *iset_refusal_name(uint64_t no) {
+    switch (no) {
+    case ISET_OK: return "no refusal";
+    case ISET_NO_ROOM: return "not enough room in the memory";
+    case ISET_BROKEN: return "the store does not pass the check";
+    case ISET_NO_SUCH: return "no entry in that slot";
+    case ISET_BAD_RANGE: return "the bounds are not in order";
+    case ISET_BAD_INTERVAL: return "the interval does not end after its start";
+    case ISET_NOT_SORTED: return "the list is not sorted";
+    case ISET_BAD_CURSOR: return "the cursor does not belong to this lookup";
+    case ISET_BAD_LIST: return "the list's length is not a multiple of 3";
+    case ISET_SHORT_OUTPUT: return "the output is too short";
+    case ISET_BAD_BIT: return "no such bit";
+    case ISET_SHORT_ANSWER: return "the answer is too short";
+    case ISET_BAD_BOUND: return "a bound's kind is not 0, 1 or 2";
+    default: return "unknown refusal";
+    }
+}
 
-/* The map of a sorted list of triples start, end, value: entry k goes to slot k. Slots and colour bits past the entries stay.
+/* Checks the store: ISET_OK if it passes.
+ * Refusals: NO_ROOM, BROKEN. */
+uint64_t iset_check(uint64_t count, uint64_t root, const uint64_t *nodes, size_t nodes_len,
+    const uint8_t *colours, size_t colours_len);
+
+/* Builds the map of a sorted list of triples start, end, value. Entry k goes to slot k. Slots and
+ * colour bits past the entries are unchanged.
  * Answer: count, root.
  * Refusals: SHORT_ANSWER, BAD_LIST, NO_ROOM, BAD_INTERVAL, NOT_SORTED. */
-uint64_t iset_build(uint64_t *nodes, size_t nodes_len, uint8_t *colours, size_t colours_len, const uint64_t *list, size_t list_len,
-    uint64_t *answer, size_t answer_len);
+uint64_t iset_build(uint64_t *nodes, size_t nodes_len, uint8_t *colours, size_t colours_len,
+    const uint64_t *list, size_t list_len, uint64_t *answer, size_t answer_len);
 
-/* Removes the entry of a slot. Up to three other entries change slot with it. The slot that is the new count is empty then: its left, right
- * and parent words are ISET_U, so that it points at nobody, and its other words 0.
- * Answer: its value, count, root, old slot, new slot, old slot, new slot, old slot, new slot; by rising old slot, unused pairs ISET_U twice; then
- * how far it reached: of the hulls that it worked out, how many changed at either end.
+/* Removes the entry of a slot. Up to three other entries change slot. Afterwards the slot that is
+ * the new count is empty: its left, right and parent words are ISET_U, its other words 0.
+ * Answer: the removed value, count, root; then three moves, each an old slot and a new slot, by
+ * rising old slot, an unused one ISET_U twice; then the reach: how many of the hulls that the
+ * removal worked out changed, at either end.
  * Refusals: SHORT_ANSWER, NO_ROOM, BROKEN, NO_SUCH. */
-uint64_t iset_remove(uint64_t count, uint64_t root, uint64_t *nodes, size_t nodes_len, uint8_t *colours, size_t colours_len, uint64_t slot,
-    uint64_t *answer, size_t answer_len);
+uint64_t iset_remove(uint64_t count, uint64_t root, uint64_t *nodes, size_t nodes_len,
+    uint8_t *colours, size_t colours_len, uint64_t slot, uint64_t *answer, size_t answer_len);
 
-/* After a removal that was not refused: the slot of the entry that was in slot `kept` before it, ISET_U if that is the entry that was removed. `answer`
- * has the ISET_REMOVE_ANSWER numbers of that removal, and `removed` is the slot that it was asked to remove. So a host that keeps slots carries each of
- * them over. It refuses nothing: what it returns is the slot. */
+/* Returns the slot that an entry has after a removal, if it had slot `kept` before; ISET_U if it is
+ * the removed entry. `answer` has the ISET_REMOVE_ANSWER numbers of that removal, which was not
+ * refused, and `removed` is the slot that was removed. Call it for every slot that you kept. It
+ * refuses nothing: what it returns is a slot. */
 uint64_t iset_slot_after(const uint64_t *answer, uint64_t removed, uint64_t kept);
 
-/* Adds one entry, in slot count; no other entry changes slot. It comes after the entries that are equal to it, which stay.
- * Answer: count, root, its slot, which is the count before, and how many of the hulls that were worked out changed.
- * Refusals: SHORT_ANSWER, NO_ROOM where the count has reached what the arrays hold or is above it, BROKEN, BAD_INTERVAL. */
-uint64_t iset_insert(uint64_t count, uint64_t root, uint64_t *nodes, size_t nodes_len, uint8_t *colours, size_t colours_len,
-    uint64_t start, uint64_t end, uint64_t value, uint64_t *answer, size_t answer_len);
+/* Adds one entry, in slot count. No other entry changes slot. The new entry comes after the entries
+ * that are equal to it, and these stay.
+ * Answer: count, root, the new entry's slot, which is the count before; then the reach: how many of
+ * the hulls that the insertion worked out changed.
+ * Refusals: SHORT_ANSWER, NO_ROOM if the arrays hold no more entries than the count, BROKEN,
+ * BAD_INTERVAL. */
+uint64_t iset_insert(uint64_t count, uint64_t root, uint64_t *nodes, size_t nodes_len,
+    uint8_t *colours, size_t colours_len, uint64_t start, uint64_t end, uint64_t value,
+    uint64_t *answer, size_t answer_len);
 
-/* Where a lookup of the entries that intersect a range begins. The map is tested where the cursor is used.
- * Answer: slot, levels, bits: the cursor.
+/* Gives the cursor at which a lookup of the entries that intersect a range begins. The map is
+ * tested when the cursor is used.
+ * Answer: the cursor's slot, levels, bits.
  * Refusals: SHORT_ANSWER. */
 uint64_t iset_fresh(uint64_t count, uint64_t root, uint64_t *answer, size_t answer_len);
 
-/* Where a lookup of the entries equal to an interval begins: at the highest of them, slot ISET_U if there is none.
- * Answer: slot, levels, bits: the cursor.
+/* Gives the cursor at which a lookup of the entries equal to an interval begins: at the highest of
+ * them in the tree; its slot is ISET_U if there is none.
+ * Answer: the cursor's slot, levels, bits.
  * Refusals: SHORT_ANSWER, NO_ROOM, BROKEN, BAD_INTERVAL. */
-uint64_t iset_fresh_exact(uint64_t count, uint64_t root, const uint64_t *nodes, size_t nodes_len, const uint8_t *colours, size_t colours_len,
-    uint64_t start, uint64_t end, uint64_t *answer, size_t answer_len);
-
-/* The next entry after a cursor that intersects a range, in the order of the entries: it ends past lo, Included and Excluded alike, and starts at
- * hi or before (hi Included) or before hi (Excluded); an Unbounded bound asks nothing.
- * Answer: its slot, ISET_U at the end; the next cursor's slot, levels, bits; how many nodes this call entered.
- * Refusals: SHORT_ANSWER, BAD_BOUND, NO_ROOM, BROKEN, BAD_RANGE, BAD_CURSOR. */
-uint64_t iset_step(uint64_t count, uint64_t root, const uint64_t *nodes, size_t nodes_len, const uint8_t *colours, size_t colours_len,
-    uint64_t lo_kind, uint64_t lo, uint64_t hi_kind, uint64_t hi, uint64_t slot, uint64_t levels, uint64_t bits,
+uint64_t iset_fresh_exact(uint64_t count, uint64_t root, const uint64_t *nodes, size_t nodes_len,
+    const uint8_t *colours, size_t colours_len, uint64_t start, uint64_t end,
     uint64_t *answer, size_t answer_len);
 
-/* The next entry after a cursor that is equal to an interval.
+/* Finds the next entry after a cursor that intersects a range. Entries come in their order: by
+ * start, then end, equal ones in the order in which they were added. An entry intersects the range
+ * if it ends after lo, whether lo is Included or Excluded, and starts before hi, or at hi if hi is
+ * Included. An Unbounded bound asks nothing.
+ * Answer: the entry's slot, ISET_U at the end; the next cursor's slot, levels, bits; the number of
+ * nodes that this call entered.
+ * Refusals: SHORT_ANSWER, BAD_BOUND, NO_ROOM, BROKEN, BAD_RANGE, BAD_CURSOR. */
+uint64_t iset_step(uint64_t count, uint64_t root, const uint64_t *nodes, size_t nodes_len,
+    const uint8_t *colours, size_t colours_len, uint64_t lo_kind, uint64_t lo, uint64_t hi_kind,
+    uint64_t hi, uint64_t slot, uint64_t levels, uint64_t bits,
+    uint64_t *answer, size_t answer_len);
+
+/* Finds the next entry after a cursor that is equal to an interval.
  * Answer: as of iset_step.
  * Refusals: SHORT_ANSWER, NO_ROOM, BROKEN, BAD_INTERVAL, BAD_CURSOR. */
-uint64_t iset_step_exact(uint64_t count, uint64_t root, const uint64_t *nodes, size_t nodes_len, const uint8_t *colours, size_t colours_len,
-    uint64_t start, uint64_t end, uint64_t slot, uint64_t levels, uint64_t bits, uint64_t *answer, size_t answer_len);
+uint64_t iset_step_exact(uint64_t count, uint64_t root, const uint64_t *nodes, size_t nodes_len,
+    const uint8_t *colours, size_t colours_len, uint64_t start, uint64_t end, uint64_t slot,
+    uint64_t levels, uint64_t bits, uint64_t *answer, size_t answer_len);
 
-/* Steps until the end, or until `limit` slots are written to `out`; a limit of 0 means `out_len`, as many as fit. Places of `out` past them stay.
- * If the next cursor's slot is not ISET_U there may be more hits: call again with that cursor. A host that shows one screen passes 64 itself.
- * Answer: how many slots were written, how many nodes were entered, the next cursor's slot, levels, bits. At the end that cursor has slot ISET_U.
+/* Steps until the end, or until `limit` slots are written to `out`. A limit of 0 means `out_len`:
+ * as many as fit. Places of `out` past the slots are unchanged. If the next cursor's slot is not
+ * ISET_U there may be more hits: call again with that cursor. A host that shows one screen of 64
+ * passes 64 itself.
+ * Answer: the number of slots written, the number of nodes entered, the next cursor's slot, levels,
+ * bits. At the end that slot is ISET_U.
  * Refusals: those of iset_step, then SHORT_OUTPUT. */
-uint64_t iset_drain(uint64_t count, uint64_t root, const uint64_t *nodes, size_t nodes_len, const uint8_t *colours, size_t colours_len,
-    uint64_t lo_kind, uint64_t lo, uint64_t hi_kind, uint64_t hi, uint64_t slot, uint64_t levels, uint64_t bits, uint64_t limit,
+uint64_t iset_drain(uint64_t count, uint64_t root, const uint64_t *nodes, size_t nodes_len,
+    const uint8_t *colours, size_t colours_len, uint64_t lo_kind, uint64_t lo, uint64_t hi_kind,
+    uint64_t hi, uint64_t slot, uint64_t levels, uint64_t bits, uint64_t limit,
     uint64_t *out, size_t out_len, uint64_t *answer, size_t answer_len);
 
 /* The same for the entries that are equal to an interval.
  * Answer: as of iset_drain.
  * Refusals: those of iset_step_exact, then SHORT_OUTPUT. */
-uint64_t iset_drain_exact(uint64_t count, uint64_t root, const uint64_t *nodes, size_t nodes_len, const uint8_t *colours, size_t colours_len,
-    uint64_t start, uint64_t end, uint64_t slot, uint64_t levels, uint64_t bits, uint64_t limit,
+uint64_t iset_drain_exact(uint64_t count, uint64_t root, const uint64_t *nodes, size_t nodes_len,
+    const uint8_t *colours, size_t colours_len, uint64_t start, uint64_t end, uint64_t slot,
+    uint64_t levels, uint64_t bits, uint64_t limit,
     uint64_t *out, size_t out_len, uint64_t *answer, size_t answer_len);
 
-/* All entries that intersect a range, without pruning: it goes through every entry in order and tests each. The slots that it writes to `out` are those that
- * iset_drain writes from the fresh cursor to the end. `out` has a place for every entry; places past the slots stay.
- * Answer: how many slots were written, how many entries were gone through, which is the count.
+/* Finds all entries that intersect a range, without pruning: it visits every entry in order and
+ * tests each. It writes to `out` the slots that iset_drain writes from the fresh cursor to the end.
+ * `out` has a place for every entry; places past the slots are unchanged.
+ * Answer: the number of slots written, the number of entries visited, which is the count.
  * Refusals: SHORT_ANSWER, BAD_BOUND, NO_ROOM, BROKEN, BAD_RANGE, SHORT_OUTPUT. */
-uint64_t iset_plain(uint64_t count, uint64_t root, const uint64_t *nodes, size_t nodes_len, const uint8_t *colours, size_t colours_len,
-    uint64_t lo_kind, uint64_t lo, uint64_t hi_kind, uint64_t hi, uint64_t *out, size_t out_len, uint64_t *answer, size_t answer_len);
+uint64_t iset_plain(uint64_t count, uint64_t root, const uint64_t *nodes, size_t nodes_len,
+    const uint8_t *colours, size_t colours_len, uint64_t lo_kind, uint64_t lo, uint64_t hi_kind,
+    uint64_t hi, uint64_t *out, size_t out_len, uint64_t *answer, size_t answer_len);
 
 /* The same for the entries that are equal to an interval.
  * Answer: as of iset_plain.
  * Refusals: SHORT_ANSWER, NO_ROOM, BROKEN, BAD_INTERVAL, SHORT_OUTPUT. */
-uint64_t iset_plain_exact(uint64_t count, uint64_t root, const uint64_t *nodes, size_t nodes_len, const uint8_t *colours, size_t colours_len,
-    uint64_t start, uint64_t end, uint64_t *out, size_t out_len, uint64_t *answer, size_t answer_len);
+uint64_t iset_plain_exact(uint64_t count, uint64_t root, const uint64_t *nodes, size_t nodes_len,
+    const uint8_t *colours, size_t colours_len, uint64_t start, uint64_t end,
+    uint64_t *out, size_t out_len, uint64_t *answer, size_t answer_len);
 
 #ifdef __cplusplus
 }

@@ -1,14 +1,22 @@
-/* When these calls may be used: the store passed iset_check once, or iset_build made it, or it is the map of no entries; since then nobody but these
- * calls and those of iset.h has written its two arrays; and the count and the root that go in are those of the last answer.
- * Then each call returns, answers and leaves exactly what the call of iset.h does that has its name without `open_`, and the store still passes
- * the check. Otherwise answers may be wrong and a call may take long, but every call ends, and none reads or writes outside the arrays.
+/* The calls of iset.h without the check of the store, for a host that keeps its arrays to itself.
  *
- * The calls of iset.h check the whole store each time. These do not: an insertion, a removal and a step take a time that grows with the height of the
- * tree, a drain with the nodes that it enters, a plain lookup with the count. A step or a drain that goes on from a cursor tests that cursor first, one link a level: where there
- * are many slots to be had, ask for 64 at a time.
+ * These calls may be used if three things hold. The store passed iset_check once, or iset_build
+ * made it, or it is the map of no entries. Since then nobody has written its two arrays but these
+ * calls and those of iset.h. The count and the root passed in are those of the last answer.
  *
- * Arguments, answers, refusals and their order are those of iset.h, but for ISET_BROKEN, which these calls never give. Link libcapi_open.a, which
- * `rt staticlib capi_open` writes, beside libcapi.a. */
+ * Then each call returns, answers and leaves exactly what the call of iset.h does that has its name
+ * without `open_`, and the store still passes the check. Otherwise answers may be wrong and a call
+ * may take long. Even then every call ends, and none reads or writes outside the arrays.
+ *
+ * The calls of iset.h check the whole store each time. These do not: the time of an insertion, a
+ * removal and a step grows with the height of the tree, that of a drain with the nodes that it
+ * enters, that of a plain lookup with the count. A step or a drain that continues from a cursor
+ * tests that cursor first, one link a level: to fetch many slots, ask for 64 at a time.
+ *
+ * Arguments, answers, refusals and their order are those of iset.h, except that these calls never
+ * return ISET_BROKEN. Link libiset_open.a beside libiset.a; `./archive` writes both:
+ *
+ *     gcc -std=c99 -I include host.c target/staticlib/libiset.a target/staticlib/libiset_open.a */
 #ifndef ISET_OPEN_H
 #define ISET_OPEN_H
 
@@ -19,52 +27,62 @@ extern "C" {
 #endif
 
 /* Refusals: SHORT_ANSWER, NO_ROOM, NO_SUCH. */
-uint64_t iset_open_remove(uint64_t count, uint64_t root, uint64_t *nodes, size_t nodes_len, uint8_t *colours, size_t colours_len, uint64_t slot,
+uint64_t iset_open_remove(uint64_t count, uint64_t root, uint64_t *nodes, size_t nodes_len,
+    uint8_t *colours, size_t colours_len, uint64_t slot, uint64_t *answer, size_t answer_len);
+
+/* Refusals: SHORT_ANSWER, NO_ROOM, BAD_INTERVAL. */
+uint64_t iset_open_insert(uint64_t count, uint64_t root, uint64_t *nodes, size_t nodes_len,
+    uint8_t *colours, size_t colours_len, uint64_t start, uint64_t end, uint64_t value,
     uint64_t *answer, size_t answer_len);
 
-/* Refusals: SHORT_ANSWER, NO_ROOM, BAD_INTERVAL. */
-uint64_t iset_open_insert(uint64_t count, uint64_t root, uint64_t *nodes, size_t nodes_len, uint8_t *colours, size_t colours_len,
-    uint64_t start, uint64_t end, uint64_t value, uint64_t *answer, size_t answer_len);
-
-/* iset_fresh checks nothing, so there is one for both. */
+/* iset_fresh checks nothing, so it serves both. */
 
 /* Refusals: SHORT_ANSWER, NO_ROOM, BAD_INTERVAL. */
-uint64_t iset_open_fresh_exact(uint64_t count, uint64_t root, const uint64_t *nodes, size_t nodes_len, const uint8_t *colours,
-    size_t colours_len, uint64_t start, uint64_t end, uint64_t *answer, size_t answer_len);
+uint64_t iset_open_fresh_exact(uint64_t count, uint64_t root, const uint64_t *nodes,
+    size_t nodes_len, const uint8_t *colours, size_t colours_len, uint64_t start, uint64_t end,
+    uint64_t *answer, size_t answer_len);
 
 /* Refusals: SHORT_ANSWER, BAD_BOUND, NO_ROOM, BAD_RANGE, BAD_CURSOR. */
-uint64_t iset_open_step(uint64_t count, uint64_t root, const uint64_t *nodes, size_t nodes_len, const uint8_t *colours, size_t colours_len,
-    uint64_t lo_kind, uint64_t lo, uint64_t hi_kind, uint64_t hi, uint64_t slot, uint64_t levels, uint64_t bits,
+uint64_t iset_open_step(uint64_t count, uint64_t root, const uint64_t *nodes, size_t nodes_len,
+    const uint8_t *colours, size_t colours_len, uint64_t lo_kind, uint64_t lo, uint64_t hi_kind,
+    uint64_t hi, uint64_t slot, uint64_t levels, uint64_t bits,
     uint64_t *answer, size_t answer_len);
 
 /* Refusals: SHORT_ANSWER, NO_ROOM, BAD_INTERVAL, BAD_CURSOR. */
-uint64_t iset_open_step_exact(uint64_t count, uint64_t root, const uint64_t *nodes, size_t nodes_len, const uint8_t *colours,
-    size_t colours_len, uint64_t start, uint64_t end, uint64_t slot, uint64_t levels, uint64_t bits, uint64_t *answer, size_t answer_len);
+uint64_t iset_open_step_exact(uint64_t count, uint64_t root, const uint64_t *nodes,
+    size_t nodes_len, const uint8_t *colours, size_t colours_len, uint64_t start, uint64_t end,
+    uint64_t slot, uint64_t levels, uint64_t bits, uint64_t *answer, size_t answer_len);
 
 /* Refusals: those of iset_open_step, then SHORT_OUTPUT. */
-uint64_t iset_open_drain(uint64_t count, uint64_t root, const uint64_t *nodes, size_t nodes_len, const uint8_t *colours, size_t colours_len,
-    uint64_t lo_kind, uint64_t lo, uint64_t hi_kind, uint64_t hi, uint64_t slot, uint64_t levels, uint64_t bits, uint64_t limit,
+uint64_t iset_open_drain(uint64_t count, uint64_t root, const uint64_t *nodes, size_t nodes_len,
+    const uint8_t *colours, size_t colours_len, uint64_t lo_kind, uint64_t lo, uint64_t hi_kind,
+    uint64_t hi, uint64_t slot, uint64_t levels, uint64_t bits, uint64_t limit,
     uint64_t *out, size_t out_len, uint64_t *answer, size_t answer_len);
 
 /* Refusals: those of iset_open_step_exact, then SHORT_OUTPUT. */
-uint64_t iset_open_drain_exact(uint64_t count, uint64_t root, const uint64_t *nodes, size_t nodes_len, const uint8_t *colours,
-    size_t colours_len, uint64_t start, uint64_t end, uint64_t slot, uint64_t levels, uint64_t bits, uint64_t limit,
+uint64_t iset_open_drain_exact(uint64_t count, uint64_t root, const uint64_t *nodes,
+    size_t nodes_len, const uint8_t *colours, size_t colours_len, uint64_t start, uint64_t end,
+    uint64_t slot, uint64_t levels, uint64_t bits, uint64_t limit,
     uint64_t *out, size_t out_len, uint64_t *answer, size_t answer_len);
 
 /* Refusals: SHORT_ANSWER, BAD_BOUND, NO_ROOM, BAD_RANGE, SHORT_OUTPUT. */
-uint64_t iset_open_plain(uint64_t count, uint64_t root, const uint64_t *nodes, size_t nodes_len, const uint8_t *colours, size_t colours_len,
-    uint64_t lo_kind, uint64_t lo, uint64_t hi_kind, uint64_t hi, uint64_t *out, size_t out_len, uint64_t *answer, size_t answer_len);
+uint64_t iset_open_plain(uint64_t count, uint64_t root, const uint64_t *nodes, size_t nodes_len,
+    const uint8_t *colours, size_t colours_len, uint64_t lo_kind, uint64_t lo, uint64_t hi_kind,
+    uint64_t hi, uint64_t *out, size_t out_len, uint64_t *answer, size_t answer_len);
 
 /* Refusals: SHORT_ANSWER, NO_ROOM, BAD_INTERVAL, SHORT_OUTPUT. */
-uint64_t iset_open_plain_exact(uint64_t count, uint64_t root, const uint64_t *nodes, size_t nodes_len, const uint8_t *colours,
-    size_t colours_len, uint64_t start, uint64_t end, uint64_t *out, size_t out_len, uint64_t *answer, size_t answer_len);
+uint64_t iset_open_plain_exact(uint64_t count, uint64_t root, const uint64_t *nodes,
+    size_t nodes_len, const uint8_t *colours, size_t colours_len, uint64_t start, uint64_t end,
+    uint64_t *out, size_t out_len, uint64_t *answer, size_t answer_len);
 
-/* The entries that hold an address: the drain from the fresh cursor of the range from it to it, both Included, into the whole output. Should all
- * places be used, there may be more: go on with iset_open_drain from the cursor of the answer.
+/* Finds the entries that hold an address: the drain from the fresh cursor of the range from the
+ * address to itself, both Included, into the whole output. If the next cursor's slot is not ISET_U
+ * there may be more: continue with iset_open_drain from that cursor.
  * Answer: as of iset_drain.
- * Refusals: SHORT_ANSWER, NO_ROOM, SHORT_OUTPUT where the output has no places. */
-uint64_t iset_open_at(uint64_t count, uint64_t root, const uint64_t *nodes, size_t nodes_len, const uint8_t *colours, size_t colours_len,
-    uint64_t address, uint64_t *out, size_t out_len, uint64_t *answer, size_t answer_len);
+ * Refusals: SHORT_ANSWER, NO_ROOM. */
+uint64_t iset_open_at(uint64_t count, uint64_t root, const uint64_t *nodes, size_t nodes_len,
+    const uint8_t *colours, size_t colours_len, uint64_t address, uint64_t *out, size_t out_len,
+    uint64_t *answer, size_t answer_len);
 
 #ifdef __cplusplus
 }

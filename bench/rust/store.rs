@@ -1,7 +1,7 @@
 //! `Store` of bindings/rust behind C functions.
 use alloc::boxed::Box;
 use core::slice::from_raw_parts_mut;
-use iset_capi::{Map, Store};
+use iset_proved::{Map, Store};
 
 /// Null where the store is refused.
 #[no_mangle]
@@ -20,7 +20,7 @@ pub unsafe extern "C" fn store_close(store: *mut Store) -> u64 {
 
 #[no_mangle]
 pub unsafe extern "C" fn store_remove(store: *mut Store, slot: u64) -> u64 {
-    (*store).remove(slot).map_or(u64::MAX, |gone| gone.value)
+    (*store).remove(slot).map_or(u64::MAX, |removed| removed.value)
 }
 
 #[no_mangle]

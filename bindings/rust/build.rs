@@ -1,14 +1,26 @@
-//! Links libcapi.a and libcapi_open.a, which `rt staticlib` writes, from the folder that ISET_LIB_DIR names. Without it the crate compiles and is checked,
-//! and whoever links a program over it names the archives.
+//! Links libiset.a and libiset_open.a, which `./archive` writes, from the folder that ISET_LIB_DIR
+//! names. Without it the crate compiles and is checked, and programs do not link.
 fn main() {
     println!("cargo::rustc-check-cfg=cfg(iset_linked)");
+    println!("cargo::rustc-check-cfg=cfg(iset_no_core_error)");
     println!("cargo::rerun-if-env-changed=ISET_LIB_DIR");
-    if let Ok(folder) = std::env::var("ISET_LIB_DIR") {
-        println!("cargo::rustc-link-search=native={folder}");
-        for archive in ["capi", "capi_open"] {
-            println!("cargo::rerun-if-changed={folder}/lib{archive}.a");
-            println!("cargo::rustc-link-lib=static={archive}");
-        }
-        println!("cargo::rustc-cfg=iset_linked");
+    let Ok(folder) = std::env::var("ISET_LIB_DIR") else {
+        println!(
+            "cargo::warning=ISET_LIB_DIR is not set: programs will not link. \
+             It names the folder of libiset.a and libiset_open.a, which ./archive writes."
+        );
+        return;
+    };
+    let machine = std::env::var("CARGO_CFG_TARGET_ARCH").unwrap_or_default();
+    if machine != "x86_64" {
+        println!(
+            "cargo::warning=the archives hold x86-64 code: a program for {machine} will not link."
+        );
     }
+    println!("cargo::rustc-link-search=native={folder}");
+    for archive in ["iset", "iset_open"] {
+        println!("cargo::rerun-if-changed={folder}/lib{archive}.a");
+        println!("cargo::rustc-link-lib=static={archive}");
+    }
+    println!("cargo::rustc-cfg=iset_linked");
 }

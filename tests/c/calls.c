@@ -1,6 +1,7 @@
-// Every call of include/iset.h on the examples of document 01 and on bad input. Each call prints one line: its name, the number that it returned and,
-// where that is 0, the answer. After every call it is tested that nothing changed that may not: nothing at all where the call was
-// refused, and never a place past what was lent. Such a change is printed at the line's end.
+// Every call of include/iset.h on the examples of document 01 and on bad input. Each call prints
+// one line: its name, the number that it returned and, where that is 0, the answer. After every
+// call it is tested that nothing changed that may not: nothing at all where the call was refused,
+// and never a place past what was lent. Such a change is printed at the line's end.
 #include <inttypes.h>
 #include <stdio.h>
 #include <stdlib.h>
@@ -14,7 +15,8 @@
 #define PLACES 66
 #define FILL UINT64_C(777)
 
-// What is lent, with the lengths that a call is told. Each array has places past the greatest length told.
+// What is lent, with the lengths that a call is told. Each array has places past the greatest
+// length told.
 struct lent {
     uint64_t nodes[WORDS], list[LIST], out[PLACES], answer[12];
     uint8_t colours[BYTES];
@@ -46,7 +48,8 @@ static int differ(const uint64_t *a, const uint64_t *b, size_t from, size_t to) 
     return memcmp(a + from, b + from, (to - from) * sizeof *a) != 0;
 }
 
-// The line of a call that returned `no` and may write `numbers` numbers and `slots` slots, and where `stores` is set the store.
+// The line of a call that returned `no` and may write `numbers` numbers and `slots` slots, and
+// where `stores` is set the store.
 static void line(const char *name, uint64_t no, size_t numbers, size_t slots, int stores) {
     int done = no == 0;
     printf("%s: %" PRIu64, name, no);
@@ -221,8 +224,8 @@ static void store_a(void) {
 }
 
 static void links(const char *name, uint64_t slot) {
-    printf("%s: left %" PRIu64 " right %" PRIu64 " parent %" PRIu64 "\n", name, now.nodes[slot * 8 + 5], now.nodes[slot * 8 + 6],
-        now.nodes[slot * 8 + 7]);
+    const uint64_t *node = now.nodes + slot * ISET_NODE_WORDS;
+    printf("%s: left %" PRIu64 " right %" PRIu64 " parent %" PRIu64 "\n", name, node[ISET_LEFT], node[ISET_RIGHT], node[ISET_PARENT]);
 }
 
 static void built_and_removed(void) {
@@ -282,7 +285,8 @@ static void refused_insertions(void) {
     store_a_wide(), now.root = 5, insert("root 5", 30, 35, 6), insert("an empty interval too", 30, 30, 6);
     store_a_wide(), now.colours[0] = 13, insert("a red root", 30, 35, 6);
     store_a_wide(), insert("an empty interval", 30, 30, 6), insert("one that ends before its start", 30, 29, 6);
-    insert_in("a short answer", 30, 35, 6, 2), insert_in("and an empty interval", 30, 30, 6, 2), insert_in("no answer", 30, 35, 6, 0);
+    insert_in("a short answer", 30, 35, 6, ISET_INSERT_ANSWER - 1);
+    insert_in("and an empty interval", 30, 30, 6, ISET_INSERT_ANSWER - 1), insert_in("no answer", 30, 35, 6, 0);
     ordered();
 }
 
@@ -372,14 +376,15 @@ static void bad_queries(void) {
     limit = 4, now.places = 3, drain("limit 4, 3 places", all), limit = 3, drain("limit 3", all);
 }
 
-// An answer that is one place too short, in calls that would be refused for another reason too, and in calls that would not.
+// An answer that is one place too short, in calls that would be refused for another reason too, and
+// in calls that would not.
 static void short_answers(void) {
     struct query all = range(ISET_UNBOUNDED, 0, ISET_UNBOUNDED, 0);
     store_a();
     limit = 0;
     fresh("fresh", all);
     build_in("build", LIST_A, 15, 1), build_in("of 4 numbers", LIST_A, 4, 0);
-    remove_in("remove", 0, 8), remove_in("of no slot", 5, 8);
+    remove_in("remove", 0, ISET_REMOVE_ANSWER - 1), remove_in("of no slot", 5, ISET_REMOVE_ANSWER - 1);
     fresh_in("fresh", all, 2), fresh_in("exact", exact(10, 20), 2);
     step_in("step", all, 4), step_in("of a kind 3", range(3, 0, 0, 0), 4), step_in("exact", exact(10, 20), 4);
     drain_in("drain", all, 4), drain_in("of a kind 3", range(3, 0, 0, 0), 4), drain_in("exact", exact(10, 20), 4);

@@ -1,4 +1,5 @@
-// Requests of the program drive, docs/DRIVE.md, through the calls of include/iset_open.h: a line in, a line out. Every store passes the check.
+// Requests of the program drive, docs/DRIVE.md, through the calls of include/iset_open.h: a line
+// in, a line out. Every store passes the check.
 #include <inttypes.h>
 #include <stdio.h>
 #include <stdlib.h>
@@ -53,7 +54,8 @@ static void put_changes(void) {
     printf("\n");
 }
 
-// An answer is what a refused call prints before the call writes it. The number of changed hulls, at its end, is in no line.
+// An answer is what a refused call prints before the call writes it. The number of changed hulls,
+// at its end, is in no line.
 static void remove_slot(void) {
     uint64_t a[ISET_REMOVE_ANSWER] = {0, count, root, ISET_U, ISET_U, ISET_U, ISET_U, ISET_U, ISET_U}, slot = number();
     put(iset_open_remove(count, root, copy, words, colours_copy, bytes, slot, a, ISET_REMOVE_ANSWER), a, 9);

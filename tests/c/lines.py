@@ -1,6 +1,7 @@
 #!/usr/bin/env python3
-"""lines.py REQUESTS ANSWERS: from the recorded lines of the programs drive and vectors those that the opened calls take, where the store passes the
-check, each after a line `store`; and the recorded answers to them."""
+"""lines.py REQUESTS ANSWERS: takes from the recorded lines of the programs drive and vectors those
+that the opened calls take and whose store passes the check. It writes them, each after a line
+`store`, to REQUESTS, and the recorded answers to ANSWERS."""
 import pathlib
 import sys
 

@@ -1,6 +1,8 @@
-// The calls of include/iset_open.h. First on a store that was checked once, beside those of include/iset.h on a copy of it: numbers, answers and
-// arrays must be equal after each call, refused ones among them, and the slots that iset_slot_after gives must hold the entries that were kept. Then
-// on damaged stores and any map: every call must end, and the words around the arrays must stay; nothing is said of the answers.
+// The calls of include/iset_open.h. First on a store that was checked once, beside those of
+// include/iset.h on a copy of it: numbers, answers and arrays must be equal after each call,
+// refused ones among them, and the slots that iset_slot_after gives must hold the entries that were
+// kept. Then on damaged stores and any map: every call must end, and the words around the arrays
+// must stay; nothing is said of the answers.
 #include <inttypes.h>
 #include <stdio.h>
 #include <stdlib.h>
@@ -13,7 +15,8 @@
 #define PLACES 40
 #define GUARD UINT64_C(0x6775617264)
 
-// A store between guard words. The public calls work on the first one, the opened calls on the second one.
+// A store between guard words. The public calls work on the first one, the opened calls on the
+// second one.
 struct store {
     uint64_t below[GUARDS], nodes[MOST * 8 + GUARDS];
     uint8_t before[GUARDS], colours[MOST / 8 + 1 + GUARDS];
@@ -153,11 +156,12 @@ static void look_up(void) {
     exacts();
 }
 
-// An answer that is a place too short, in calls that would be refused for another reason too, and in calls that would not.
+// An answer that is a place too short, in calls that would be refused for another reason too, and
+// in calls that would not.
 static void short_answers(void) {
     uint64_t slot = near_slot();
-    BOTH("short insert", iset_insert(count, root, FIRST, 3, slot, 1, PUBLIC, 2), iset_open_insert(count, root, SECOND, 3, slot, 1, OPENED, 2));
-    BOTH("short remove", iset_remove(count, root, FIRST, slot, PUBLIC, 8), iset_open_remove(count, root, SECOND, slot, OPENED, 8));
+    BOTH("short insert", iset_insert(count, root, FIRST, 3, slot, 1, PUBLIC, 3), iset_open_insert(count, root, SECOND, 3, slot, 1, OPENED, 3));
+    BOTH("short remove", iset_remove(count, root, FIRST, slot, PUBLIC, 9), iset_open_remove(count, root, SECOND, slot, OPENED, 9));
     BOTH("short fresh", iset_fresh_exact(count, root, FIRST, 3, slot, PUBLIC, 2), iset_open_fresh_exact(count, root, SECOND, 3, slot, OPENED, 2));
     BOTH("short step", iset_step(count, root, FIRST, slot, 0, 2, 0, root, 1, 0, PUBLIC, 4),
         iset_open_step(count, root, SECOND, slot, 0, 2, 0, root, 1, 0, OPENED, 4));

@@ -1,435 +1,160 @@
-//! The exports of crate `capi`, as `include/iset.h` declares them, and of crate `capi_open`, as `include/iset_open.h` does. Each slice is its
-//! pointer and its length.
+//! The C functions: those of libiset.a, as include/iset.h declares them, and those of
+//! libiset_open.a, as include/iset_open.h does. [`Map`](crate::Map) and [`Store`](crate::Store)
+//! call them safely.
+//!
+//! Each returns 0, or the number of a [`Refusal`](crate::Refusal); only [`iset_slot_after`] returns
+//! a slot. Treat every number but 0 as a refusal. The order of an answer's numbers is given in
+//! include/iset.h.
+//!
+//! # Safety
+//!
+//! For each function here the caller must ensure two things. A pointer refers to at least as many
+//! elements as the length after it says, and that of [`iset_slot_after`] to 10 numbers; an array of
+//! length 0 may have any pointer. An array that is passed as `*mut` overlaps no other argument, and
+//! nothing else uses it during the call. The functions take any numbers and any contents.
 #![allow(clippy::too_many_arguments)]
 
-extern "C" {
-    pub fn iset_check(
-        count: u64,
-        root: u64,
-        nodes: *const u64,
-        nodes_len: usize,
-        colours: *const u8,
-        colours_len: usize,
-    ) -> u64;
-
-    pub fn iset_build(
-        nodes: *mut u64,
-        nodes_len: usize,
-        colours: *mut u8,
-        colours_len: usize,
-        list: *const u64,
-        list_len: usize,
-        answer: *mut u64,
-        answer_len: usize,
-    ) -> u64;
-
-    pub fn iset_remove(
-        count: u64,
-        root: u64,
-        nodes: *mut u64,
-        nodes_len: usize,
-        colours: *mut u8,
-        colours_len: usize,
-        slot: u64,
-        answer: *mut u64,
-        answer_len: usize,
-    ) -> u64;
-
-    pub fn iset_insert(
-        count: u64,
-        root: u64,
-        nodes: *mut u64,
-        nodes_len: usize,
-        colours: *mut u8,
-        colours_len: usize,
-        start: u64,
-        end: u64,
-        value: u64,
-        answer: *mut u64,
-        answer_len: usize,
-    ) -> u64;
-
-    /// The answer has ten numbers, those of a removal.
-    pub fn iset_slot_after(answer: *const u64, removed: u64, kept: u64) -> u64;
-
-    pub fn iset_fresh(count: u64, root: u64, answer: *mut u64, answer_len: usize) -> u64;
-
-    pub fn iset_fresh_exact(
-        count: u64,
-        root: u64,
-        nodes: *const u64,
-        nodes_len: usize,
-        colours: *const u8,
-        colours_len: usize,
-        start: u64,
-        end: u64,
-        answer: *mut u64,
-        answer_len: usize,
-    ) -> u64;
-
-    pub fn iset_step(
-        count: u64,
-        root: u64,
-        nodes: *const u64,
-        nodes_len: usize,
-        colours: *const u8,
-        colours_len: usize,
-        lo_kind: u64,
-        lo: u64,
-        hi_kind: u64,
-        hi: u64,
-        slot: u64,
-        levels: u64,
-        bits: u64,
-        answer: *mut u64,
-        answer_len: usize,
-    ) -> u64;
-
-    pub fn iset_step_exact(
-        count: u64,
-        root: u64,
-        nodes: *const u64,
-        nodes_len: usize,
-        colours: *const u8,
-        colours_len: usize,
-        start: u64,
-        end: u64,
-        slot: u64,
-        levels: u64,
-        bits: u64,
-        answer: *mut u64,
-        answer_len: usize,
-    ) -> u64;
-
-    pub fn iset_drain(
-        count: u64,
-        root: u64,
-        nodes: *const u64,
-        nodes_len: usize,
-        colours: *const u8,
-        colours_len: usize,
-        lo_kind: u64,
-        lo: u64,
-        hi_kind: u64,
-        hi: u64,
-        slot: u64,
-        levels: u64,
-        bits: u64,
-        limit: u64,
-        out: *mut u64,
-        out_len: usize,
-        answer: *mut u64,
-        answer_len: usize,
-    ) -> u64;
-
-    pub fn iset_drain_exact(
-        count: u64,
-        root: u64,
-        nodes: *const u64,
-        nodes_len: usize,
-        colours: *const u8,
-        colours_len: usize,
-        start: u64,
-        end: u64,
-        slot: u64,
-        levels: u64,
-        bits: u64,
-        limit: u64,
-        out: *mut u64,
-        out_len: usize,
-        answer: *mut u64,
-        answer_len: usize,
-    ) -> u64;
-
-    pub fn iset_plain(
-        count: u64,
-        root: u64,
-        nodes: *const u64,
-        nodes_len: usize,
-        colours: *const u8,
-        colours_len: usize,
-        lo_kind: u64,
-        lo: u64,
-        hi_kind: u64,
-        hi: u64,
-        out: *mut u64,
-        out_len: usize,
-        answer: *mut u64,
-        answer_len: usize,
-    ) -> u64;
-
-    pub fn iset_plain_exact(
-        count: u64,
-        root: u64,
-        nodes: *const u64,
-        nodes_len: usize,
-        colours: *const u8,
-        colours_len: usize,
-        start: u64,
-        end: u64,
-        out: *mut u64,
-        out_len: usize,
-        answer: *mut u64,
-        answer_len: usize,
-    ) -> u64;
+/// Declares functions of the archives.
+macro_rules! exports {
+    ($($(#[$doc:meta])* fn $name:ident($($arg:ident: $type:ty),* $(,)?);)*) => {
+        extern "C" {
+            $(
+                $(#[$doc])*
+                ///
+                /// # Safety
+                ///
+                /// As the [module](self#safety) says.
+                pub fn $name($($arg: $type),*) -> u64;
+            )*
+        }
+    };
 }
 
-// The exports of crate `capi_open`, as `include/iset_open.h` declares them. `Store` and `StoreRef` call them: they have
-// checked, and nobody else writes.
-extern "C" {
-    pub fn iset_open_remove(
-        count: u64,
-        root: u64,
-        nodes: *mut u64,
-        nodes_len: usize,
-        colours: *mut u8,
-        colours_len: usize,
-        slot: u64,
-        answer: *mut u64,
-        answer_len: usize,
-    ) -> u64;
+/// Declares a public call, its opened form and the type of both, so that a wrapper is written once
+/// and takes the one or the other.
+macro_rules! pairs {
+    ($(
+        $(#[$doc:meta])*
+        $kind:ident: fn $name:ident, $opened:ident($($arg:ident: $type:ty),* $(,)?);
+    )*) => {
+        exports! {
+            $(
+                $(#[$doc])*
+                fn $name($($arg: $type),*);
+                #[doc = concat!("[`", stringify!($name), "`] without the check of the store.")]
+                /// include/iset_open.h says when it may be used.
+                fn $opened($($arg: $type),*);
+            )*
+        }
+        $(pub(crate) type $kind = unsafe extern "C" fn($($type),*) -> u64;)*
+    };
+}
 
-    pub fn iset_open_insert(
-        count: u64,
-        root: u64,
-        nodes: *mut u64,
-        nodes_len: usize,
-        colours: *mut u8,
-        colours_len: usize,
-        start: u64,
-        end: u64,
-        value: u64,
-        answer: *mut u64,
-        answer_len: usize,
-    ) -> u64;
+exports! {
+    /// Checks the store: 0 if it passes.
+    fn iset_check(
+        count: u64, root: u64,
+        nodes: *const u64, nodes_len: usize, colours: *const u8, colours_len: usize,
+    );
 
-    pub fn iset_open_fresh_exact(
-        count: u64,
-        root: u64,
-        nodes: *const u64,
-        nodes_len: usize,
-        colours: *const u8,
-        colours_len: usize,
-        start: u64,
-        end: u64,
-        answer: *mut u64,
-        answer_len: usize,
-    ) -> u64;
+    /// Builds the map of a sorted list of triples. The answer has 2 numbers.
+    fn iset_build(
+        nodes: *mut u64, nodes_len: usize, colours: *mut u8, colours_len: usize,
+        list: *const u64, list_len: usize,
+        answer: *mut u64, answer_len: usize,
+    );
 
-    pub fn iset_open_step(
-        count: u64,
-        root: u64,
-        nodes: *const u64,
-        nodes_len: usize,
-        colours: *const u8,
-        colours_len: usize,
-        lo_kind: u64,
-        lo: u64,
-        hi_kind: u64,
-        hi: u64,
-        slot: u64,
-        levels: u64,
-        bits: u64,
-        answer: *mut u64,
-        answer_len: usize,
-    ) -> u64;
+    /// Returns the slot after a removal of the entry that had slot `kept` before it. The answer has
+    /// the 10 numbers of that removal.
+    fn iset_slot_after(answer: *const u64, removed: u64, kept: u64);
 
-    pub fn iset_open_step_exact(
-        count: u64,
-        root: u64,
-        nodes: *const u64,
-        nodes_len: usize,
-        colours: *const u8,
-        colours_len: usize,
-        start: u64,
-        end: u64,
-        slot: u64,
-        levels: u64,
-        bits: u64,
-        answer: *mut u64,
-        answer_len: usize,
-    ) -> u64;
+    /// Gives the cursor at which an overlap lookup begins. The answer has 3 numbers.
+    fn iset_fresh(count: u64, root: u64, answer: *mut u64, answer_len: usize);
 
-    pub fn iset_open_drain(
-        count: u64,
-        root: u64,
-        nodes: *const u64,
-        nodes_len: usize,
-        colours: *const u8,
-        colours_len: usize,
-        lo_kind: u64,
-        lo: u64,
-        hi_kind: u64,
-        hi: u64,
-        slot: u64,
-        levels: u64,
-        bits: u64,
-        limit: u64,
-        out: *mut u64,
-        out_len: usize,
-        answer: *mut u64,
-        answer_len: usize,
-    ) -> u64;
-
-    pub fn iset_open_drain_exact(
-        count: u64,
-        root: u64,
-        nodes: *const u64,
-        nodes_len: usize,
-        colours: *const u8,
-        colours_len: usize,
-        start: u64,
-        end: u64,
-        slot: u64,
-        levels: u64,
-        bits: u64,
-        limit: u64,
-        out: *mut u64,
-        out_len: usize,
-        answer: *mut u64,
-        answer_len: usize,
-    ) -> u64;
-
-    pub fn iset_open_plain(
-        count: u64,
-        root: u64,
-        nodes: *const u64,
-        nodes_len: usize,
-        colours: *const u8,
-        colours_len: usize,
-        lo_kind: u64,
-        lo: u64,
-        hi_kind: u64,
-        hi: u64,
-        out: *mut u64,
-        out_len: usize,
-        answer: *mut u64,
-        answer_len: usize,
-    ) -> u64;
-
-    pub fn iset_open_plain_exact(
-        count: u64,
-        root: u64,
-        nodes: *const u64,
-        nodes_len: usize,
-        colours: *const u8,
-        colours_len: usize,
-        start: u64,
-        end: u64,
-        out: *mut u64,
-        out_len: usize,
-        answer: *mut u64,
-        answer_len: usize,
-    ) -> u64;
-
-    pub fn iset_open_at(
-        count: u64,
-        root: u64,
-        nodes: *const u64,
-        nodes_len: usize,
-        colours: *const u8,
-        colours_len: usize,
+    /// Finds the entries that hold an address, without the check of the store. The answer has 5
+    /// numbers.
+    fn iset_open_at(
+        count: u64, root: u64,
+        nodes: *const u64, nodes_len: usize, colours: *const u8, colours_len: usize,
         address: u64,
-        out: *mut u64,
-        out_len: usize,
-        answer: *mut u64,
-        answer_len: usize,
-    ) -> u64;
+        out: *mut u64, out_len: usize, answer: *mut u64, answer_len: usize,
+    );
 }
 
-// An export and its opened form have one type, so a wrapper is written once and takes the one or the other.
-pub(crate) type Remove =
-    unsafe extern "C" fn(u64, u64, *mut u64, usize, *mut u8, usize, u64, *mut u64, usize) -> u64;
-pub(crate) type Insert = unsafe extern "C" fn(
-    u64,
-    u64,
-    *mut u64,
-    usize,
-    *mut u8,
-    usize,
-    u64,
-    u64,
-    u64,
-    *mut u64,
-    usize,
-) -> u64;
-pub(crate) type FreshExact = unsafe extern "C" fn(
-    u64,
-    u64,
-    *const u64,
-    usize,
-    *const u8,
-    usize,
-    u64,
-    u64,
-    *mut u64,
-    usize,
-) -> u64;
-pub(crate) type Drain = unsafe extern "C" fn(
-    u64,
-    u64,
-    *const u64,
-    usize,
-    *const u8,
-    usize,
-    u64,
-    u64,
-    u64,
-    u64,
-    u64,
-    u64,
-    u64,
-    u64,
-    *mut u64,
-    usize,
-    *mut u64,
-    usize,
-) -> u64;
-pub(crate) type DrainExact = unsafe extern "C" fn(
-    u64,
-    u64,
-    *const u64,
-    usize,
-    *const u8,
-    usize,
-    u64,
-    u64,
-    u64,
-    u64,
-    u64,
-    u64,
-    *mut u64,
-    usize,
-    *mut u64,
-    usize,
-) -> u64;
-pub(crate) type Plain = unsafe extern "C" fn(
-    u64,
-    u64,
-    *const u64,
-    usize,
-    *const u8,
-    usize,
-    u64,
-    u64,
-    u64,
-    u64,
-    *mut u64,
-    usize,
-    *mut u64,
-    usize,
-) -> u64;
-pub(crate) type PlainExact = unsafe extern "C" fn(
-    u64,
-    u64,
-    *const u64,
-    usize,
-    *const u8,
-    usize,
-    u64,
-    u64,
-    *mut u64,
-    usize,
-    *mut u64,
-    usize,
-) -> u64;
+pairs! {
+    /// Removes the entry of a slot. The answer has 10 numbers.
+    Remove: fn iset_remove, iset_open_remove(
+        count: u64, root: u64,
+        nodes: *mut u64, nodes_len: usize, colours: *mut u8, colours_len: usize,
+        slot: u64,
+        answer: *mut u64, answer_len: usize,
+    );
+
+    /// Adds one entry. The answer has 4 numbers.
+    Insert: fn iset_insert, iset_open_insert(
+        count: u64, root: u64,
+        nodes: *mut u64, nodes_len: usize, colours: *mut u8, colours_len: usize,
+        start: u64, end: u64, value: u64,
+        answer: *mut u64, answer_len: usize,
+    );
+
+    /// Gives the cursor at which an exact lookup begins. The answer has 3 numbers.
+    FreshExact: fn iset_fresh_exact, iset_open_fresh_exact(
+        count: u64, root: u64,
+        nodes: *const u64, nodes_len: usize, colours: *const u8, colours_len: usize,
+        start: u64, end: u64,
+        answer: *mut u64, answer_len: usize,
+    );
+
+    /// Finds the next entry after a cursor that intersects a range. The answer has 5 numbers.
+    Step: fn iset_step, iset_open_step(
+        count: u64, root: u64,
+        nodes: *const u64, nodes_len: usize, colours: *const u8, colours_len: usize,
+        lo_kind: u64, lo: u64, hi_kind: u64, hi: u64,
+        slot: u64, levels: u64, bits: u64,
+        answer: *mut u64, answer_len: usize,
+    );
+
+    /// Finds the next entry after a cursor that is equal to an interval. The answer has 5 numbers.
+    StepExact: fn iset_step_exact, iset_open_step_exact(
+        count: u64, root: u64,
+        nodes: *const u64, nodes_len: usize, colours: *const u8, colours_len: usize,
+        start: u64, end: u64,
+        slot: u64, levels: u64, bits: u64,
+        answer: *mut u64, answer_len: usize,
+    );
+
+    /// Finds entries that intersect a range, up to a limit. The answer has 5 numbers.
+    Drain: fn iset_drain, iset_open_drain(
+        count: u64, root: u64,
+        nodes: *const u64, nodes_len: usize, colours: *const u8, colours_len: usize,
+        lo_kind: u64, lo: u64, hi_kind: u64, hi: u64,
+        slot: u64, levels: u64, bits: u64, limit: u64,
+        out: *mut u64, out_len: usize, answer: *mut u64, answer_len: usize,
+    );
+
+    /// Finds entries that are equal to an interval, up to a limit. The answer has 5 numbers.
+    DrainExact: fn iset_drain_exact, iset_open_drain_exact(
+        count: u64, root: u64,
+        nodes: *const u64, nodes_len: usize, colours: *const u8, colours_len: usize,
+        start: u64, end: u64,
+        slot: u64, levels: u64, bits: u64, limit: u64,
+        out: *mut u64, out_len: usize, answer: *mut u64, answer_len: usize,
+    );
+
+    /// Finds all entries that intersect a range, without pruning. The answer has 2 numbers.
+    Plain: fn iset_plain, iset_open_plain(
+        count: u64, root: u64,
+        nodes: *const u64, nodes_len: usize, colours: *const u8, colours_len: usize,
+        lo_kind: u64, lo: u64, hi_kind: u64, hi: u64,
+        out: *mut u64, out_len: usize, answer: *mut u64, answer_len: usize,
+    );
+
+    /// Finds all entries that are equal to an interval, without pruning. The answer has 2 numbers.
+    PlainExact: fn iset_plain_exact, iset_open_plain_exact(
+        count: u64, root: u64,
+        nodes: *const u64, nodes_len: usize, colours: *const u8, colours_len: usize,
+        start: u64, end: u64,
+        out: *mut u64, out_len: usize, answer: *mut u64, answer_len: usize,
+    );
+}

@@ -1,88 +1,102 @@
-//! All hits of a lookup, one after the other.
-use crate::{Cursor, Map, Query, Refusal, U};
+//! The hits of a lookup, one after the other.
+use core::iter::FusedIterator;
 
-/// An iterator over the slots of the hits: it drains into its buffer, hands that out, and drains on. A refusal is handed out once, and then it
-/// ends. An empty buffer is refused as ShortOutput.
-#[derive(Debug)]
-pub struct Hits<'a> {
-    map: Map,
-    nodes: &'a [u64],
-    colours: &'a [u8],
+use crate::lent::OPENED;
+use crate::{Cursor, Query, Refusal, StoreRef, U};
+
+/// An iterator over the slots of the hits, in the order of the entries. It fetches as many slots as
+/// its buffer holds at a time.
+///
+/// The first fetch can be refused: that is the `Result` of [`Map::hits`](crate::Map::hits) and of
+/// [`Store::hits`](crate::Store::hits). After it the borrow keeps the store as it is, and no fetch
+/// is refused.
+///
+/// # Panics
+///
+/// `next` panics if a later fetch is refused. The archives that belong to this crate never do that:
+/// it is proved. Hits are never left out silently.
+#[derive(Clone, Debug)]
+pub struct Hits<'m, B = &'m mut [u64]> {
+    store: StoreRef<'m>,
     query: Query,
-    buffer: &'a mut [u64],
-    /// Where the next drain begins: `None` before the first one; an ended cursor where none is left.
-    cursor: Option<Cursor>,
-    /// What is not handed out yet: the places of the buffer from `at` up to `end`.
+    /// Where the next fetch begins.
+    next: Cursor,
+    buffer: B,
+    /// The places of the buffer that are not handed out yet: from `at` up to `end`.
     at: usize,
     end: usize,
 }
 
-const ENDED: Cursor = Cursor {
-    slot: U,
-    levels: 0,
-    bits: 0,
-};
-
-impl<'a> Hits<'a> {
+impl<'m, B: AsRef<[u64]> + AsMut<[u64]>> Hits<'m, B> {
+    /// A lookup from its beginning, which has fetched nothing yet.
     pub(crate) fn new(
-        map: Map,
-        nodes: &'a [u64],
-        colours: &'a [u8],
+        store: StoreRef<'m>,
         query: Query,
-        buffer: &'a mut [u64],
-    ) -> Hits<'a> {
+        buffer: B,
+    ) -> Result<Hits<'m, B>, Refusal> {
+        let next = store.lent.begin(&OPENED, query)?;
+        Ok(Hits::from_cursor(store, query, next, buffer))
+    }
+
+    /// A lookup from a cursor, which has fetched nothing yet.
+    pub(crate) fn from_cursor(
+        store: StoreRef<'m>,
+        query: Query,
+        next: Cursor,
+        buffer: B,
+    ) -> Hits<'m, B> {
         Hits {
-            map,
-            nodes,
-            colours,
+            store,
             query,
+            next,
             buffer,
-            cursor: None,
             at: 0,
             end: 0,
         }
     }
 
-    fn refill(&mut self) -> Result<(), Refusal> {
-        let from = match self.cursor {
-            Some(cursor) => cursor,
-            None => self.map.begin(self.nodes, self.colours, self.query)?,
-        };
-        let limit = self.buffer.len() as u64;
-        // A drain with the limit 0 into no place would answer no hits, as if there were none.
-        if limit == 0 {
+    /// Fetches the next slots into the buffer.
+    pub(crate) fn fetch(&mut self) -> Result<(), Refusal> {
+        let out = self.buffer.as_mut();
+        let drained = self
+            .store
+            .lent
+            .drain(&OPENED, self.query, self.next, 0, out)?;
+        // A drain into no place answers no hits, as if there were none.
+        if out.is_empty() {
             return Err(Refusal::ShortOutput);
         }
-        let drained = self.map.drain(
-            self.nodes,
-            self.colours,
-            self.query,
-            from,
-            limit,
-            self.buffer,
-        )?;
-        self.cursor = Some(drained.next);
+        self.next = drained.next;
         self.at = 0;
         self.end = drained.hits as usize;
         Ok(())
     }
-}
 
-impl Iterator for Hits<'_> {
-    type Item = Result<u64, Refusal>;
-
-    fn next(&mut self) -> Option<Result<u64, Refusal>> {
-        if self.at == self.end {
-            if self.cursor == Some(ENDED) {
-                return None;
-            }
-            if let Err(why) = self.refill() {
-                self.cursor = Some(ENDED);
-                return Some(Err(why));
-            }
-        }
-        let slot = *self.buffer[..self.end].get(self.at)?;
-        self.at += 1;
-        Some(Ok(slot))
+    pub(crate) fn store(&self) -> StoreRef<'m> {
+        self.store
     }
 }
+
+/// An answer that cannot be: the query was accepted, or is an address, the store is borrowed, and
+/// the cursor is the last answer's own (the theorem `cursor-accepted` of crate iset).
+#[cold]
+fn refused(why: Refusal) -> ! {
+    panic!("a lookup that had begun was refused: {why}; are the archives of another version?")
+}
+
+impl<B: AsRef<[u64]> + AsMut<[u64]>> Iterator for Hits<'_, B> {
+    type Item = u64;
+
+    fn next(&mut self) -> Option<u64> {
+        if self.at == self.end && self.next.slot != U {
+            if let Err(why) = self.fetch() {
+                refused(why);
+            }
+        }
+        let slot = *self.buffer.as_ref()[..self.end].get(self.at)?;
+        self.at += 1;
+        Some(slot)
+    }
+}
+
+impl<B: AsRef<[u64]> + AsMut<[u64]>> FusedIterator for Hits<'_, B> {}

@@ -1,81 +1,113 @@
 //! Why a call was refused.
 use core::fmt;
 
-/// The refusals, by the numbers that the calls return.
+/// Why a call was refused. A refused call changes nothing that was lent to it.
 ///
 /// ```
-/// use iset_capi::Refusal;
+/// use iset_proved::Refusal;
 ///
 /// assert_eq!(Refusal::from_number(3), Some(Refusal::NoSuch));
+/// assert_eq!(Refusal::NoSuch.to_string(), "no entry in that slot (3)");
 /// assert_eq!(Refusal::ShortOutput.number(), 9);
 /// assert_eq!(Refusal::from_number(0), None);
-/// assert_eq!(Refusal::from_number(77), Some(Refusal::Unknown));
+/// assert_eq!(Refusal::from_number(77), Some(Refusal::Unknown(77)));
 /// ```
 #[derive(Clone, Copy, Debug, PartialEq, Eq, Hash)]
 #[non_exhaustive]
-#[repr(u64)]
 pub enum Refusal {
-    /// The slices do not hold the count, the entries to build, or, at an insertion, one entry more.
-    NoRoom = 1,
+    /// The slices do not hold the count, the entries to build, or, for an insertion, one more
+    /// entry.
+    NoRoom,
     /// The store does not pass the check.
-    Broken = 2,
+    Broken,
     /// The slot is not below the count.
-    NoSuch = 3,
-    /// Neither bound is unbounded, and the lower one is above the upper one, or equal to it unless both are included.
-    BadRange = 4,
+    NoSuch,
+    /// Neither bound is unbounded, and the lower one is above the upper one, or equal to it unless
+    /// both are included.
+    BadRange,
     /// A given interval does not end after its start.
-    BadInterval = 5,
-    /// The list to build falls somewhere, by start, then end.
-    NotSorted = 6,
-    /// The cursor is not one that a lookup of this query in this store could have.
-    BadCursor = 7,
-    /// The length of the list to build is no multiple of 3.
-    BadList = 8,
-    /// The drain's limit is above the output's length, or a plain lookup's output has fewer places than there are entries.
-    ShortOutput = 9,
-    /// Of bit vectors and stacks; none of these calls gives it.
-    BadBit = 10,
-    /// The answer slice does not hold the answer's numbers. The functions of this crate lend one that does.
-    ShortAnswer = 101,
-    /// A bound's kind is none. The functions of this crate give only kinds that are.
-    BadBound = 102,
-    /// A number that is none of these: the archive that was linked is not the one that this crate was written for. The call was refused.
-    Unknown = u64::MAX,
+    BadInterval,
+    /// The list to build is not sorted by start, then end.
+    NotSorted,
+    /// No lookup of this query in this store has this cursor.
+    BadCursor,
+    /// The length of the list to build is not a multiple of 3.
+    BadList,
+    /// The drain's limit is above the output's length, a plain lookup's output has fewer places
+    /// than there are entries, or a buffer for hits is empty.
+    ShortOutput,
+    /// Of bit vectors and stacks. None of these calls returns it.
+    BadBit,
+    /// The answer slice has fewer places than the answer has numbers. This crate never passes such
+    /// a slice.
+    ShortAnswer,
+    /// A bound's kind is not 0, 1 or 2. This crate never passes such a kind.
+    BadBound,
+    /// A number that this crate does not know: the archives belong to another version of the
+    /// library.
+    Unknown(u64),
 }
 
-const ALL: [Refusal; 12] = [
-    Refusal::NoRoom,
-    Refusal::Broken,
-    Refusal::NoSuch,
-    Refusal::BadRange,
-    Refusal::BadInterval,
-    Refusal::NotSorted,
-    Refusal::BadCursor,
-    Refusal::BadList,
-    Refusal::ShortOutput,
-    Refusal::BadBit,
-    Refusal::ShortAnswer,
-    Refusal::BadBound,
+/// Each refusal with its number and its words, which are those of `iset_refusal_name` in
+/// include/iset.h.
+const ALL: [(Refusal, u64, &str); 12] = [
+    (Refusal::NoRoom, 1, "not enough room in the memory"),
+    (Refusal::Broken, 2, "the store does not pass the check"),
+    (Refusal::NoSuch, 3, "no entry in that slot"),
+    (Refusal::BadRange, 4, "the bounds are not in order"),
+    (
+        Refusal::BadInterval,
+        5,
+        "the interval does not end after its start",
+    ),
+    (Refusal::NotSorted, 6, "the list is not sorted"),
+    (
+        Refusal::BadCursor,
+        7,
+        "the cursor does not belong to this lookup",
+    ),
+    (
+        Refusal::BadList,
+        8,
+        "the list's length is not a multiple of 3",
+    ),
+    (Refusal::ShortOutput, 9, "the output is too short"),
+    (Refusal::BadBit, 10, "no such bit"),
+    (Refusal::ShortAnswer, 101, "the answer is too short"),
+    (Refusal::BadBound, 102, "a bound's kind is not 0, 1 or 2"),
 ];
 
 impl Refusal {
-    /// The refusal of a number: `None` for 0 alone, which stands for no refusal; [`Refusal::Unknown`] for a number that no refusal has.
+    /// The refusal of a number that a call returned: `None` for 0 alone, which means that nothing
+    /// was refused, and [`Refusal::Unknown`] for a number that is not listed.
     pub fn from_number(number: u64) -> Option<Refusal> {
         if number == 0 {
             return None;
         }
-        let known = ALL.into_iter().find(|why| why.number() == number);
-        Some(known.unwrap_or(Refusal::Unknown))
+        let known = ALL.iter().find(|row| row.1 == number);
+        Some(known.map_or(Refusal::Unknown(number), |row| row.0))
     }
 
-    /// The number that a call returns for it; of [`Refusal::Unknown`] one that no call returns.
+    /// The number that a call returns for it.
     pub fn number(self) -> u64 {
-        self as u64
+        match self {
+            Refusal::Unknown(number) => number,
+            _ => self.row().map_or(0, |row| row.1),
+        }
+    }
+
+    fn row(self) -> Option<&'static (Refusal, u64, &'static str)> {
+        ALL.iter().find(|row| row.0 == self)
     }
 }
 
 impl fmt::Display for Refusal {
     fn fmt(&self, f: &mut fmt::Formatter<'_>) -> fmt::Result {
-        write!(f, "{self:?} ({})", self.number())
+        let words = self.row().map_or("unknown refusal", |row| row.2);
+        write!(f, "{words} ({})", self.number())
     }
 }
+
+// Rust before 1.81, with which some tests are built, has no such trait in core.
+#[cfg(not(iset_no_core_error))]
+impl core::error::Error for Refusal {}

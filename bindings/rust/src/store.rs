@@ -2,123 +2,158 @@
 use core::iter::FusedIterator;
 use core::ops::{Range, RangeBounds};
 
-use crate::{ffi, Cursor, Inserted, Map, Query, Refusal, Removed, Tally, NODE_WORDS, U};
+use crate::lent::{Lent, LentMut, OPENED};
+use crate::{Hits, Map, Query, Refusal, Removed, Tally, NODE_WORDS};
 
-/// How many hits an iterator fetches at a time. A call that goes on tests its cursor, one link a level, and an exact one searches for its beginning
-/// again, which is felt where few are fetched.
+/// How many hits an iterator fetches at a time. A call that continues tests its cursor, one link a
+/// level, and an exact one searches for its beginning again: that costs if few are fetched.
 const MANY: usize = 64;
 
-/// The same for the entries at an address: they are few, and there the size of the array itself is felt.
+/// The same for the entries at an address: they are few, and there the size of the array itself
+/// costs.
 const FEW: usize = 8;
 
-/// What a slot holds for its user.
+/// An entry of a store.
 #[derive(Clone, Debug, PartialEq, Eq)]
 pub struct Entry {
-    /// Where it stands; good until the next removal, see [`Removed::slot_after`].
+    /// Its slot, which is valid until the next removal: see [`Removed::slot_after`].
     pub slot: u64,
     /// The addresses that it holds.
     pub range: Range<u64>,
-    /// What was given with the range.
+    /// The value that was given with the range.
     pub value: u64,
 }
 
-/// A checked map over memory that nobody writes while it is borrowed.
+/// A checked map over memory that nobody writes while it is borrowed. It can be copied and sent to
+/// other threads.
 #[derive(Clone, Copy, Debug)]
 pub struct StoreRef<'m> {
-    map: Map,
-    nodes: &'m [u64],
-    colours: &'m [u8],
+    pub(crate) lent: Lent<'m>,
 }
 
 impl<'m> StoreRef<'m> {
-    /// Checks the store, once. Refusals: NoRoom, Broken. As for [`Store::open`], the memory must be no other process's to write.
+    /// Checks the store, once. As for [`Store::open`], no other process may write the memory.
+    ///
+    /// # Errors
+    ///
+    /// [`Refusal::NoRoom`], [`Refusal::Broken`].
     pub fn open(map: Map, nodes: &'m [u64], colours: &'m [u8]) -> Result<StoreRef<'m>, Refusal> {
-        map.check(nodes, colours)?;
-        Ok(StoreRef {
+        let lent = Lent {
             map,
             nodes,
             colours,
-        })
+        };
+        lent.check()?;
+        Ok(StoreRef { lent })
     }
 
-    /// How many entries there are, in slots 0 to `len() - 1`.
+    /// The number of entries. They are in slots 0 to `len() - 1`.
+    #[inline]
     pub fn len(self) -> usize {
-        self.map.count as usize
+        self.lent.map.count as usize
     }
 
-    /// Whether there are none.
+    /// Whether there are no entries.
+    #[inline]
     pub fn is_empty(self) -> bool {
-        self.map.count == 0
+        self.lent.map.count == 0
     }
 
-    /// The entry of a slot; `None` where the slot is not below the count.
+    /// The entry of a slot; `None` if the slot is not below the number of entries.
+    #[inline]
     pub fn get(self, slot: u64) -> Option<Entry> {
-        let at = usize::try_from(slot).ok().filter(|&at| at < self.len())?;
-        let words = self.nodes.get(at * NODE_WORDS..)?.get(..NODE_WORDS)?;
-        Some(Entry {
+        (slot < self.lent.map.count).then(|| self.entry(slot))
+    }
+
+    /// The entry of a slot that is below the number of entries.
+    #[inline]
+    fn entry(self, slot: u64) -> Entry {
+        let words = &self.lent.nodes[slot as usize * NODE_WORDS..][..NODE_WORDS];
+        Entry {
             slot,
             range: words[0]..words[1],
             value: words[2],
-        })
+        }
     }
 
-    /// All entries, in tree order: by start, then end, equals in the order in which they came.
+    /// All entries in order: by start, then end, equal ones in the order in which they were added.
+    #[inline]
     pub fn entries(self) -> Entries<'m, MANY> {
-        Entries::new(self, Query::overlap(..), self.fresh())
+        Entries::of_map(self, Query::overlap(..))
     }
 
-    /// The entries that hold an address, in tree order.
+    /// The entries that hold an address, in order.
+    #[inline]
     pub fn at(self, address: u64) -> Entries<'m, FEW> {
-        Entries::new(self, Query::overlap(address..=address), self.fresh())
+        Entries::of_map(self, Query::overlap(address..=address))
     }
 
-    /// The entries that intersect a range, in tree order. Refusal: BadRange.
+    /// The entries that intersect a range, in order.
+    ///
+    /// # Errors
+    ///
+    /// [`Refusal::BadRange`].
     pub fn overlap(self, range: impl RangeBounds<u64>) -> Result<Entries<'m, MANY>, Refusal> {
-        let mut found = Entries::new(self, Query::overlap(range), self.fresh());
-        found.refill()?;
-        Ok(found)
+        Entries::new(self, Query::overlap(range))
     }
 
-    /// The entries equal to a range, in the order in which they came. Refusal: BadInterval.
+    /// The entries equal to a range, in the order in which they were added.
+    ///
+    /// # Errors
+    ///
+    /// [`Refusal::BadInterval`].
     pub fn exact(self, range: Range<u64>) -> Result<Entries<'m, MANY>, Refusal> {
         let Range { start, end } = range;
-        let call = ffi::iset_open_fresh_exact;
-        let from = self
-            .map
-            .fresh_exact_by(call, self.nodes, self.colours, start, end)?;
-        Ok(Entries::new(self, Query::Exact { start, end }, from))
+        Entries::new(self, Query::Exact { start, end })
     }
 
-    /// The slots of all hits, without pruning: as [`Map::plain`]. Refusals: BadRange or BadInterval, ShortOutput.
+    /// The slots of all hits, in order, fetched through a lent buffer: as many at a time as it
+    /// holds.
+    ///
+    /// # Errors
+    ///
+    /// [`Refusal::BadRange`] or [`Refusal::BadInterval`]; [`Refusal::ShortOutput`] if the buffer is
+    /// empty.
+    pub fn hits<'a>(self, query: Query, buffer: &'a mut [u64]) -> Result<Hits<'a>, Refusal>
+    where
+        'm: 'a,
+    {
+        let mut hits = Hits::new(self, query, buffer)?;
+        hits.fetch()?;
+        Ok(hits)
+    }
+
+    /// Writes the slots of all hits to `out`, without pruning: as [`Map::plain`].
+    ///
+    /// # Errors
+    ///
+    /// [`Refusal::BadRange`] or [`Refusal::BadInterval`]; [`Refusal::ShortOutput`].
     pub fn plain(self, query: Query, out: &mut [u64]) -> Result<Tally, Refusal> {
-        let calls = (ffi::iset_open_plain as _, ffi::iset_open_plain_exact as _);
-        self.map
-            .plain_by(calls, self.nodes, self.colours, query, out)
-    }
-
-    /// Where an overlap lookup begins: what [`Map::fresh`] answers, without a call.
-    fn fresh(self) -> Cursor {
-        Cursor {
-            slot: self.map.root,
-            levels: 1,
-            bits: 0,
-        }
+        self.lent.plain(&OPENED, query, out)
     }
 }
 
-/// A checked map and its memory. Nobody else can write that memory while it lives, and its own calls leave a store that passes the check
-/// (the theorem `opened-keeps` of crate iset), so the check is made once. No method lends the words to be written.
+/// A checked map and its memory. While it lives nobody else can write that memory, and its own
+/// calls leave a store that passes the check (the theorem `opened-keeps` of crate iset), so the
+/// check is made once. No method lends out the words to be written.
 ///
 #[cfg_attr(iset_linked, doc = "```")]
 #[cfg_attr(not(iset_linked), doc = "```no_run")]
-/// use iset_capi::{Refusal, Store};
+/// use iset_proved::{Query, Refusal, Store};
 ///
 /// # fn main() -> Result<(), Refusal> {
 /// let (mut nodes, mut colours) = ([0; 4 * 8], [0; 1]);
-/// let mut store = Store::build(&mut nodes, &mut colours, &[10, 20, 1, 10, 30, 2, 25, 40, 3])?;
+/// let list = [[10, 20, 1], [10, 30, 2], [25, 40, 3]];
+/// let mut store = Store::build(&mut nodes, &mut colours, &list)?;
 /// assert_eq!(store.insert(25..40, 4)?, 3);
 /// assert!(store.overlap(20..=25)?.map(|entry| entry.value).eq([2, 3, 4]));
 /// assert!(store.exact(25..40)?.map(|entry| entry.slot).eq([2, 3]));
+///
+/// let mut sum = 0;
+/// for slot in store.hits(Query::overlap(20..=25), &mut [0; 2])? {
+///     sum += slot;
+/// }
+/// assert_eq!(sum, 1 + 2 + 3);
 ///
 /// let removed = store.remove(0)?;
 /// assert_eq!((removed.value, removed.slot_after(0)), (1, None));
@@ -132,159 +167,180 @@ impl<'m> StoreRef<'m> {
 /// ```
 #[derive(Debug)]
 pub struct Store<'m> {
-    map: Map,
-    nodes: &'m mut [u64],
-    colours: &'m mut [u8],
+    lent: LentMut<'m>,
 }
 
 impl<'m> Store<'m> {
-    /// Checks the store, once. Refusals: NoRoom, Broken.
+    /// Checks the store, once.
     ///
-    /// The borrows keep everybody of this program from writing the memory. They do not keep another process from it, where the memory is shared:
-    /// then answers may be wrong and a call may take long, though every call ends and stays inside the memory.
+    /// The borrows keep the rest of this program from writing the memory. They do not keep another
+    /// process from it if the memory is shared. If one writes it, answers may be wrong and a call
+    /// may take long; still every call ends and stays inside the memory.
+    ///
+    /// # Errors
+    ///
+    /// [`Refusal::NoRoom`], [`Refusal::Broken`].
     pub fn open(
         map: Map,
         nodes: &'m mut [u64],
         colours: &'m mut [u8],
     ) -> Result<Store<'m>, Refusal> {
         map.check(nodes, colours)?;
-        Ok(Store {
+        let lent = LentMut {
             map,
             nodes,
             colours,
-        })
+        };
+        Ok(Store { lent })
     }
 
-    /// The map of a sorted list of triples start, end, value; entry k goes to slot k. What was built passes the check. Refusals: BadList, NoRoom,
-    /// BadInterval, NotSorted.
+    /// Builds the map of a sorted list of entries start, end, value. Entry k goes to slot k.
+    ///
+    /// # Errors
+    ///
+    /// [`Refusal::NoRoom`], [`Refusal::BadInterval`], [`Refusal::NotSorted`].
     pub fn build(
         nodes: &'m mut [u64],
         colours: &'m mut [u8],
-        list: &[u64],
+        list: &[[u64; 3]],
     ) -> Result<Store<'m>, Refusal> {
-        let map = Map::build(nodes, colours, list)?;
-        Ok(Store {
+        // SAFETY: n arrays of three numbers are 3 n numbers, one after the other.
+        let flat = unsafe { core::slice::from_raw_parts(list.as_ptr().cast(), list.len() * 3) };
+        let map = Map::build(nodes, colours, flat)?;
+        let lent = LentMut {
             map,
             nodes,
             colours,
-        })
+        };
+        Ok(Store { lent })
     }
 
-    /// The same store for reading: it can be copied and sent to several threads, and nothing writes while one of them lives.
+    /// The same store for reading: it can be copied and sent to other threads, and nothing writes
+    /// while one of them lives.
+    #[inline]
     pub fn read(&self) -> StoreRef<'_> {
         StoreRef {
-            map: self.map,
-            nodes: self.nodes,
-            colours: self.colours,
+            lent: self.lent.read(),
         }
     }
 
-    /// How many entries there are, in slots 0 to `len() - 1`.
+    /// The number of entries. They are in slots 0 to `len() - 1`.
+    #[inline]
     pub fn len(&self) -> usize {
         self.read().len()
     }
 
-    /// Whether there are none.
+    /// Whether there are no entries.
+    #[inline]
     pub fn is_empty(&self) -> bool {
         self.read().is_empty()
     }
 
-    /// The entry of a slot; `None` where the slot is not below the count.
+    /// The entry of a slot; `None` if the slot is not below the number of entries.
+    #[inline]
     pub fn get(&self, slot: u64) -> Option<Entry> {
         self.read().get(slot)
     }
 
-    /// All entries, in tree order: by start, then end, equals in the order in which they came.
+    /// All entries in order: by start, then end, equal ones in the order in which they were added.
+    #[inline]
     pub fn entries(&self) -> Entries<'_, MANY> {
         self.read().entries()
     }
 
-    /// The entries that hold an address, in tree order.
+    /// The entries that hold an address, in order.
+    #[inline]
     pub fn at(&self, address: u64) -> Entries<'_, FEW> {
         self.read().at(address)
     }
 
-    /// The entries that intersect a range, in tree order. Refusal: BadRange.
+    /// The entries that intersect a range, in order.
+    ///
+    /// # Errors
+    ///
+    /// [`Refusal::BadRange`].
     pub fn overlap(&self, range: impl RangeBounds<u64>) -> Result<Entries<'_, MANY>, Refusal> {
         self.read().overlap(range)
     }
 
-    /// The entries equal to a range, in the order in which they came. Refusal: BadInterval.
+    /// The entries equal to a range, in the order in which they were added.
+    ///
+    /// # Errors
+    ///
+    /// [`Refusal::BadInterval`].
     pub fn exact(&self, range: Range<u64>) -> Result<Entries<'_, MANY>, Refusal> {
         self.read().exact(range)
     }
 
-    /// Adds an entry, after those that are equal to it, and answers its slot. No other entry changes slot. Refusals: NoRoom where the memory holds
-    /// no entry more, BadInterval.
+    /// The slots of all hits, in order, fetched through a lent buffer: as many at a time as it
+    /// holds.
+    ///
+    /// # Errors
+    ///
+    /// [`Refusal::BadRange`] or [`Refusal::BadInterval`]; [`Refusal::ShortOutput`] if the buffer is
+    /// empty.
+    pub fn hits<'a>(&'a self, query: Query, buffer: &'a mut [u64]) -> Result<Hits<'a>, Refusal> {
+        self.read().hits(query, buffer)
+    }
+
+    /// Writes the slots of all hits to `out`, without pruning: as [`Map::plain`].
+    ///
+    /// # Errors
+    ///
+    /// [`Refusal::BadRange`] or [`Refusal::BadInterval`]; [`Refusal::ShortOutput`].
+    pub fn plain(&self, query: Query, out: &mut [u64]) -> Result<Tally, Refusal> {
+        self.read().plain(query, out)
+    }
+
+    /// Adds an entry, after those that are equal to it, and returns its slot. No other entry
+    /// changes slot.
+    ///
+    /// # Errors
+    ///
+    /// [`Refusal::NoRoom`] if the memory is full, [`Refusal::BadInterval`].
     pub fn insert(&mut self, range: Range<u64>, value: u64) -> Result<u64, Refusal> {
-        let Range { start, end } = range;
-        let call = ffi::iset_open_insert;
-        let Inserted { map, slot, .. } =
-            self.map
-                .insert_by(call, self.nodes, self.colours, start, end, value)?;
-        self.map = map;
-        Ok(slot)
+        let inserted = self.lent.insert(&OPENED, [range.start, range.end, value])?;
+        Ok(inserted.slot)
     }
 
-    /// Removes the entry of a slot. Up to three others change slot with it: [`Removed::slot_after`]. Refusal: NoSuch.
+    /// Removes the entry of a slot. Up to three others change slot: see [`Removed::slot_after`].
+    ///
+    /// # Errors
+    ///
+    /// [`Refusal::NoSuch`].
     pub fn remove(&mut self, slot: u64) -> Result<Removed, Refusal> {
-        let call = ffi::iset_open_remove;
-        let removed = self.map.remove_by(call, self.nodes, self.colours, slot)?;
-        self.map = removed.map;
-        Ok(removed)
+        self.lent.remove(&OPENED, slot)
     }
 
-    /// The map, and the memory free again.
+    /// Gives the memory back, and returns the map in it.
     pub fn close(self) -> Map {
-        self.map
+        self.lent.map
     }
 }
 
-/// Entries of a checked store in their order, fetched N at a time.
+/// An iterator over entries of a checked store, in order. It fetches N slots at a time.
+///
+/// # Panics
+///
+/// As [`Hits`].
 #[derive(Clone, Debug)]
 pub struct Entries<'m, const N: usize> {
-    store: StoreRef<'m>,
-    query: Query,
-    next: Cursor,
-    /// What is not handed out yet: the places from `at` up to `end`.
-    piece: [u64; N],
-    at: usize,
-    end: usize,
+    hits: Hits<'m, [u64; N]>,
 }
 
 impl<'m, const N: usize> Entries<'m, N> {
-    fn new(store: StoreRef<'m>, query: Query, next: Cursor) -> Entries<'m, N> {
-        Entries {
-            store,
-            query,
-            next,
-            piece: [0; N],
-            at: 0,
-            end: 0,
-        }
+    /// A lookup whose query may be refused.
+    fn new(store: StoreRef<'m>, query: Query) -> Result<Entries<'m, N>, Refusal> {
+        let mut hits = Hits::new(store, query, [0; N])?;
+        hits.fetch()?;
+        Ok(Entries { hits })
     }
 
-    fn refill(&mut self) -> Result<(), Refusal> {
-        let StoreRef {
-            map,
-            nodes,
-            colours,
-        } = self.store;
-        let calls = (ffi::iset_open_drain as _, ffi::iset_open_drain_exact as _);
-        let limit = N as u64;
-        let drained = map.drain_by(
-            calls,
-            nodes,
-            colours,
-            self.query,
-            self.next,
-            limit,
-            &mut self.piece,
-        )?;
-        self.next = drained.next;
-        self.at = 0;
-        self.end = drained.hits as usize;
-        Ok(())
+    /// A lookup whose query is never refused, and which fetches when it is first asked.
+    fn of_map(store: StoreRef<'m>, query: Query) -> Entries<'m, N> {
+        let next = store.lent.map.fresh();
+        let hits = Hits::from_cursor(store, query, next, [0; N]);
+        Entries { hits }
     }
 }
 
@@ -292,24 +348,9 @@ impl<const N: usize> Iterator for Entries<'_, N> {
     type Item = Entry;
 
     fn next(&mut self) -> Option<Entry> {
-        if self.at == self.end && self.next.slot != U {
-            // Nothing is refused: the query was accepted, or is an address, and the cursor is the last answer's own (`cursor-accepted` of crate
-            // iset).
-            self.refill().ok()?;
-        }
-        let slot = *self.piece[..self.end].get(self.at)?;
-        self.at += 1;
-        self.store.get(slot)
+        let slot = self.hits.next()?;
+        Some(self.hits.store().entry(slot))
     }
 }
 
 impl<const N: usize> FusedIterator for Entries<'_, N> {}
-
-/// Threads may share and hand on all of it.
-const _: () = {
-    const fn shared<T: Send + Sync>() {}
-    shared::<Store<'static>>();
-    shared::<StoreRef<'static>>();
-    shared::<Entries<'static, MANY>>();
-    shared::<Entries<'static, FEW>>();
-};

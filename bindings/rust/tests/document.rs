@@ -1,8 +1,9 @@
-//! Document 01's examples through the crate. They need the archive: without ISET_LIB_DIR there is nothing here to run.
+//! Document 01's examples through the crate. They need the archives: without ISET_LIB_DIR there is
+//! nothing here to run.
 #![cfg(iset_linked)]
 use core::ops::Bound;
 
-use iset_capi::{Cursor, Map, Query, Refusal, Step, Tally, U};
+use iset_proved::{Cursor, Map, Query, Refusal, Step, Tally, U};
 
 const LIST_A: [u64; 15] = [10, 20, 1, 10, 30, 2, 25, 40, 3, 40, 50, 4, 45, 60, 5];
 const NONE: (u64, u64) = (U, U);
@@ -31,20 +32,22 @@ impl Store {
 
     /// Inserts the entry start, end, value, and gives its slot.
     fn insert(&mut self, [start, end, value]: [u64; 3]) -> u64 {
-        let added = self
+        let inserted = self
             .map
             .insert(&mut self.nodes, &mut self.colours, start, end, value)
             .unwrap();
-        assert_eq!(added.map.count, self.map.count + 1);
-        assert_eq!(added.map.check(&self.nodes, &self.colours), Ok(()));
-        self.map = added.map;
-        added.slot
+        assert_eq!(inserted.map.count, self.map.count + 1);
+        assert_eq!(inserted.map.check(&self.nodes, &self.colours), Ok(()));
+        self.map = inserted.map;
+        inserted.slot
     }
 
     fn all(&self, query: Query, buffer: usize) -> Result<Vec<u64>, Refusal> {
-        self.map
-            .hits(&self.nodes, &self.colours, query, &mut vec![0; buffer])
-            .collect()
+        let mut buffer = vec![0; buffer];
+        let hits = self
+            .map
+            .hits(&self.nodes, &self.colours, query, &mut buffer)?;
+        Ok(hits.collect())
     }
 
     fn step(&self, query: Query, from: Cursor) -> Result<Step, Refusal> {
@@ -94,13 +97,13 @@ fn removed() {
     ];
     for (slot, value, pairs, colours, reach) in cases {
         let mut a = Store::of(&LIST_A);
-        let gone = a.map.remove(&mut a.nodes, &mut a.colours, slot).unwrap();
+        let removed = a.map.remove(&mut a.nodes, &mut a.colours, slot).unwrap();
         assert_eq!(
-            (gone.value, gone.pairs, a.colours, gone.reach),
+            (removed.value, removed.pairs, a.colours, removed.reach),
             (value, pairs, [colours], reach)
         );
-        assert_eq!(gone.map, Map { count: 4, root: 2 });
-        assert_eq!(gone.map.check(&a.nodes, &a.colours), Ok(()));
+        assert_eq!(removed.map, Map { count: 4, root: 2 });
+        assert_eq!(removed.map.check(&a.nodes, &a.colours), Ok(()));
     }
     let mut a = Store::of(&LIST_A);
     for slot in [5, U] {
@@ -111,12 +114,12 @@ fn removed() {
     }
     let mut b = Store::of(&[5, 9, 1, 5, 9, 2, 5, 9, 3]);
     for (slot, value, root, colours) in [(0, 1, 1, 5), (1, 2, 0, 4), (0, 3, U, 4)] {
-        let gone = b.map.remove(&mut b.nodes, &mut b.colours, slot).unwrap();
+        let removed = b.map.remove(&mut b.nodes, &mut b.colours, slot).unwrap();
         assert_eq!(
-            (gone.value, gone.map.root, b.colours),
+            (removed.value, removed.map.root, b.colours),
             (value, root, [colours])
         );
-        b.map = gone.map;
+        b.map = removed.map;
     }
     assert_eq!(b.map, Map::new());
 }
@@ -147,9 +150,9 @@ fn inserted() {
     // how many hulls changed: none, that of the root, and three of the four of two rotations
     let (mut nodes, mut colours, mut map) = ([0; 3 * 8], [0; 1], Map::new());
     for (start, end, reach) in [(20, 30, 0), (10, 15, 1), (12, 14, 3)] {
-        let added = map.insert(&mut nodes, &mut colours, start, end, 1).unwrap();
-        assert_eq!(added.reach, reach);
-        map = added.map;
+        let inserted = map.insert(&mut nodes, &mut colours, start, end, 1).unwrap();
+        assert_eq!(inserted.reach, reach);
+        map = inserted.map;
     }
 }
 
@@ -260,7 +263,8 @@ fn looked_up_plainly() {
         assert_eq!(out, [7; 6]);
         why.err()
     };
-    let (all, falling) = (Query::overlap(..), Query::overlap(3..=1));
+    let all = Query::overlap(..);
+    let falling = Query::overlap((Bound::Included(3), Bound::Included(1)));
     let empty = Query::Exact { start: 9, end: 9 };
     assert_eq!(refused(a.map, all, 4), Some(Refusal::ShortOutput));
     assert_eq!(refused(a.map, falling, 4), Some(Refusal::BadRange));
@@ -292,13 +296,67 @@ fn hits_in_pieces() {
             Err(Refusal::BadInterval)
         );
     }
-    assert_eq!(a.all(Query::overlap(..), 0), Err(Refusal::ShortOutput));
-    let mut buffer = [0; 1];
-    let mut refused = a
+    for query in [Query::overlap(..), Query::Exact { start: 5, end: 8 }] {
+        assert_eq!(a.all(query, 0), Err(Refusal::ShortOutput));
+    }
+    // the refusals in their order
+    let refused = |map: Map, query, places| {
+        let mut buffer = vec![0; places];
+        let hits = map.hits(&a.nodes, &a.colours, query, &mut buffer);
+        hits.err()
+    };
+    let broken = Map { root: 1, ..a.map };
+    let large = Map { count: 6, ..a.map };
+    let falling = Query::overlap((Bound::Included(25), Bound::Excluded(20)));
+    for places in [0, 1] {
+        assert_eq!(refused(large, falling, places), Some(Refusal::NoRoom));
+        assert_eq!(refused(broken, falling, places), Some(Refusal::Broken));
+        assert_eq!(refused(a.map, falling, places), Some(Refusal::BadRange));
+    }
+}
+
+#[test]
+fn ended_hits_stay_ended() {
+    let a = Store::of(&LIST_A);
+    let mut buffer = [0; 2];
+    let query = Query::overlap(20..=25);
+    let mut hits = a
         .map
-        .hits(&a.nodes, &a.colours, Query::overlap(25..20), &mut buffer);
-    assert_eq!(
-        (refused.next(), refused.next()),
-        (Some(Err(Refusal::BadRange)), None)
-    );
+        .hits(&a.nodes, &a.colours, query, &mut buffer)
+        .unwrap();
+    let found = [hits.next(), hits.next(), hits.next(), hits.next()];
+    assert_eq!(found, [Some(1), Some(2), None, None]);
+}
+
+/// The crate makes the first cursor itself.
+#[test]
+fn fresh_as_the_archive_has_it() {
+    for map in [
+        Map::new(),
+        Map { count: 5, root: 2 },
+        Map { count: 9, root: U },
+    ] {
+        let mut answer = [7; 3];
+        // SAFETY: the answer is an array of three places.
+        let number =
+            unsafe { iset_proved::ffi::iset_fresh(map.count, map.root, answer.as_mut_ptr(), 3) };
+        let Cursor { slot, levels, bits } = map.fresh();
+        assert_eq!((number, answer), (0, [slot, levels, bits]));
+    }
+}
+
+/// `Removed::slot_after` and the archive's own function.
+#[test]
+fn slots_after_as_the_archive_has_them() {
+    for slot in 0..5 {
+        let mut a = Store::of(&LIST_A);
+        let removed = a.map.remove(&mut a.nodes, &mut a.colours, slot).unwrap();
+        let [(b, c), (d, e), (f, g)] = removed.pairs;
+        let answer = [0, 0, 0, b, c, d, e, f, g, 0];
+        for kept in 0..5 {
+            // SAFETY: the answer has ten numbers.
+            let after = unsafe { iset_proved::ffi::iset_slot_after(answer.as_ptr(), slot, kept) };
+            assert_eq!(removed.slot_after(kept).unwrap_or(U), after);
+        }
+    }
 }

@@ -1,8 +1,9 @@
-//! `Store` and `StoreRef` beside a plain list of entries. They need the archives: without ISET_LIB_DIR there is nothing here to run.
+//! `Store` and `StoreRef` beside a plain list of entries. They need the archives: without
+//! ISET_LIB_DIR there is nothing here to run.
 #![cfg(iset_linked)]
 use core::ops::Bound;
 
-use iset_capi::{Entry, Map, Query, Refusal, Store, StoreRef, U};
+use iset_proved::{Entry, Map, Query, Refusal, Store, StoreRef, U};
 
 const SLOTS: usize = 200;
 
@@ -64,17 +65,22 @@ fn remove(store: &mut Store, plain: &mut Plain, chance: &mut Chance) {
     }
 }
 
-/// The plain lookup writes the slots that the other one hands out.
-fn same_slots(store: &Store, query: Query, found: Result<Vec<Entry>, Refusal>) {
-    let mut out = [U; SLOTS];
-    let tally = store.read().plain(query, &mut out);
+/// The plain lookup writes, and `hits` hands out, the slots of the entries.
+fn same_slots(store: &Store, query: Query, found: Result<Vec<Entry>, Refusal>, piece: usize) {
+    let (mut out, mut buffer) = ([U; SLOTS], [U; SLOTS]);
+    let tally = store.plain(query, &mut out);
+    let hits = store.hits(query, &mut buffer[..piece]);
     match (tally, found) {
         (Ok(tally), Ok(found)) => {
+            assert!(hits.unwrap().eq(found.iter().map(|entry| entry.slot)));
             assert_eq!(tally.entered, store.len() as u64);
             let slots = out[..tally.hits as usize].iter().copied();
             assert!(slots.eq(found.iter().map(|entry| entry.slot)));
         }
-        (tally, found) => assert_eq!(tally.err(), found.err()),
+        (tally, found) => {
+            assert_eq!(tally.err(), found.err());
+            assert_eq!(tally.err(), hits.err());
+        }
     }
 }
 
@@ -96,12 +102,14 @@ fn look_up(store: &Store, plain: &Plain, chance: &mut Chance) {
         store,
         Query::overlap(open),
         store.overlap(open).map(Vec::from_iter),
+        1 + chance.below(5) as usize,
     );
     let (start, end) = (a, a + w);
     same_slots(
         store,
         Query::Exact { start, end },
         store.exact(start..end).map(Vec::from_iter),
+        1 + chance.below(5) as usize,
     );
 }
 
@@ -135,8 +143,8 @@ fn as_a_plain_list() {
 #[test]
 fn opened_and_built() {
     let (mut nodes, mut colours) = ([0; 24], [0; 1]);
-    let list = [5, 9, 1, 5, 9, 2, 5, 9, 3];
-    let falling = [5, 9, 1, 4, 9, 2];
+    let list = [[5, 9, 1], [5, 9, 2], [5, 9, 3]];
+    let falling = [[5, 9, 1], [4, 9, 2]];
     let refused = Store::build(&mut nodes, &mut colours, &falling).err();
     assert_eq!(refused, Some(Refusal::NotSorted));
     let map = Store::build(&mut nodes, &mut colours, &list)
@@ -168,13 +176,16 @@ fn opened_and_built() {
 
 #[test]
 fn in_pieces() {
-    let list: Vec<u64> = (0..1000).flat_map(|k| [k / 300, 2000, k]).collect();
+    let list: Vec<[u64; 3]> = (0..1000).map(|k| [k / 300, 2000, k]).collect();
     let (mut nodes, mut colours) = (vec![0; 8000], vec![0; 125]);
     let store = Store::build(&mut nodes, &mut colours, &list).unwrap();
     assert!(store.entries().map(|entry| entry.value).eq(0..1000));
     assert!(store.at(1).map(|entry| entry.value).eq(0..600));
     let third = store.exact(2..2000).unwrap();
     assert!(third.map(|entry| entry.value).eq(600..900));
+    let mut buffer = [0; 7];
+    let hits = store.hits(Query::overlap(..), &mut buffer).unwrap();
+    assert!(hits.eq(0..1000));
     let mut ended = store.overlap(3000..).unwrap();
     assert_eq!((ended.next(), ended.next()), (None, None));
 }

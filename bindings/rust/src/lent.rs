@@ -1,0 +1,256 @@
+//! A map over the two slices that are lent to a call, and the calls.
+use core::ops::Bound;
+
+use crate::{ffi, Cursor, Drained, Inserted, Map, Query, Refusal, Removed, Step, Tally, U};
+
+/// The calls of one kind, public or opened.
+pub(crate) struct Calls {
+    remove: ffi::Remove,
+    insert: ffi::Insert,
+    fresh_exact: ffi::FreshExact,
+    step: ffi::Step,
+    step_exact: ffi::StepExact,
+    drain: ffi::Drain,
+    drain_exact: ffi::DrainExact,
+    plain: ffi::Plain,
+    plain_exact: ffi::PlainExact,
+}
+
+/// They check the store.
+pub(crate) static PUBLIC: Calls = Calls {
+    remove: ffi::iset_remove,
+    insert: ffi::iset_insert,
+    fresh_exact: ffi::iset_fresh_exact,
+    step: ffi::iset_step,
+    step_exact: ffi::iset_step_exact,
+    drain: ffi::iset_drain,
+    drain_exact: ffi::iset_drain_exact,
+    plain: ffi::iset_plain,
+    plain_exact: ffi::iset_plain_exact,
+};
+
+/// They do not.
+pub(crate) static OPENED: Calls = Calls {
+    remove: ffi::iset_open_remove,
+    insert: ffi::iset_open_insert,
+    fresh_exact: ffi::iset_open_fresh_exact,
+    step: ffi::iset_open_step,
+    step_exact: ffi::iset_open_step_exact,
+    drain: ffi::iset_open_drain,
+    drain_exact: ffi::iset_open_drain_exact,
+    plain: ffi::iset_open_plain,
+    plain_exact: ffi::iset_open_plain_exact,
+};
+
+/// A map and slices that a call reads.
+#[derive(Clone, Copy, Debug)]
+pub(crate) struct Lent<'a> {
+    pub map: Map,
+    pub nodes: &'a [u64],
+    pub colours: &'a [u8],
+}
+
+/// A map and slices that a call writes.
+#[derive(Debug)]
+pub(crate) struct LentMut<'a> {
+    pub map: Map,
+    pub nodes: &'a mut [u64],
+    pub colours: &'a mut [u8],
+}
+
+/// Makes a call: over what is lent, by the pointers that `$ptr` gives, with the numbers, and with
+/// further slices that the call writes.
+macro_rules! call {
+    ($call:expr, $lent:expr, $ptr:ident; $($number:expr),*; $($written:expr),*) => {
+        $call(
+            $lent.map.count,
+            $lent.map.root,
+            $lent.nodes.$ptr(),
+            $lent.nodes.len(),
+            $lent.colours.$ptr(),
+            $lent.colours.len(),
+            $($number,)*
+            $($written.as_mut_ptr(), $written.len()),*
+        )
+    };
+}
+
+/// The number that a call returned as a `Result`: every number but 0 is a refusal.
+fn told(number: u64) -> Result<(), Refusal> {
+    match Refusal::from_number(number) {
+        None => Ok(()),
+        Some(why) => Err(why),
+    }
+}
+
+/// A bound as the calls take it: its kind and its number.
+fn numbers(bound: Bound<u64>) -> (u64, u64) {
+    match bound {
+        Bound::Included(x) => (0, x),
+        Bound::Excluded(x) => (1, x),
+        Bound::Unbounded => (2, 0),
+    }
+}
+
+impl LentMut<'_> {
+    #[inline]
+    pub fn read(&self) -> Lent<'_> {
+        Lent {
+            map: self.map,
+            nodes: self.nodes,
+            colours: self.colours,
+        }
+    }
+
+    pub fn build(&mut self, list: &[u64]) -> Result<(), Refusal> {
+        let mut answer = [0; 2];
+        // SAFETY: the slices and the answer are live during the call. Those that it writes are
+        // borrowed by `&mut`, so they overlap nothing and nobody else uses them.
+        told(unsafe {
+            ffi::iset_build(
+                self.nodes.as_mut_ptr(),
+                self.nodes.len(),
+                self.colours.as_mut_ptr(),
+                self.colours.len(),
+                list.as_ptr(),
+                list.len(),
+                answer.as_mut_ptr(),
+                answer.len(),
+            )
+        })?;
+        let [count, root] = answer;
+        self.map = Map { count, root };
+        Ok(())
+    }
+
+    pub fn remove(&mut self, calls: &Calls, slot: u64) -> Result<Removed, Refusal> {
+        let mut answer = [0; 10];
+        // SAFETY: as in `build`.
+        told(unsafe { call!(calls.remove, self, as_mut_ptr; slot; answer) })?;
+        let [value, count, root, a, a_now, b, b_now, c, c_now, reach] = answer;
+        self.map = Map { count, root };
+        Ok(Removed {
+            map: self.map,
+            slot,
+            value,
+            pairs: [(a, a_now), (b, b_now), (c, c_now)],
+            reach,
+        })
+    }
+
+    pub fn insert(&mut self, calls: &Calls, entry: [u64; 3]) -> Result<Inserted, Refusal> {
+        let [start, end, value] = entry;
+        let mut answer = [0; 4];
+        // SAFETY: as in `build`.
+        told(unsafe { call!(calls.insert, self, as_mut_ptr; start, end, value; answer) })?;
+        let [count, root, slot, reach] = answer;
+        self.map = Map { count, root };
+        Ok(Inserted {
+            map: self.map,
+            slot,
+            reach,
+        })
+    }
+}
+
+impl Lent<'_> {
+    pub fn check(self) -> Result<(), Refusal> {
+        // SAFETY: the slices are live during the call, which only reads them.
+        told(unsafe { call!(ffi::iset_check, self, as_ptr;;) })
+    }
+
+    /// Where a lookup begins.
+    pub fn begin(self, calls: &Calls, query: Query) -> Result<Cursor, Refusal> {
+        let (start, end) = match query {
+            Query::Overlap(..) => return Ok(self.map.fresh()),
+            Query::Exact { start, end } => (start, end),
+        };
+        let mut answer = [0; 3];
+        // SAFETY: the slices are live during the call, which only reads them. The answer is
+        // borrowed by `&mut`, so it overlaps nothing and nobody else uses it.
+        told(unsafe { call!(calls.fresh_exact, self, as_ptr; start, end; answer) })?;
+        let [slot, levels, bits] = answer;
+        Ok(Cursor { slot, levels, bits })
+    }
+
+    pub fn step(self, calls: &Calls, query: Query, from: Cursor) -> Result<Step, Refusal> {
+        let Cursor { slot, levels, bits } = from;
+        let mut answer = [0; 5];
+        told(match query {
+            Query::Overlap(lo, hi) => {
+                let ((a, lo), (b, hi)) = (numbers(lo), numbers(hi));
+                // SAFETY: as in `begin`.
+                unsafe { call!(calls.step, self, as_ptr; a, lo, b, hi, slot, levels, bits; answer) }
+            }
+            Query::Exact { start, end } => {
+                // SAFETY: as in `begin`.
+                unsafe {
+                    call!(calls.step_exact, self, as_ptr; start, end, slot, levels, bits; answer)
+                }
+            }
+        })?;
+        let [hit, slot, levels, bits, entered] = answer;
+        let next = Cursor { slot, levels, bits };
+        Ok(match hit {
+            U => Step::End { entered },
+            slot => Step::Hit {
+                slot,
+                next,
+                entered,
+            },
+        })
+    }
+
+    pub fn drain(
+        self,
+        calls: &Calls,
+        query: Query,
+        from: Cursor,
+        limit: u64,
+        out: &mut [u64],
+    ) -> Result<Drained, Refusal> {
+        let Cursor { slot, levels, bits } = from;
+        let mut answer = [0; 5];
+        told(match query {
+            Query::Overlap(lo, hi) => {
+                let ((a, lo), (b, hi)) = (numbers(lo), numbers(hi));
+                // SAFETY: as in `begin`; the output is borrowed by `&mut` too.
+                unsafe {
+                    call!(calls.drain, self, as_ptr; a, lo, b, hi, slot, levels, bits, limit;
+                        out, answer)
+                }
+            }
+            Query::Exact { start, end } => {
+                // SAFETY: as in `begin`; the output is borrowed by `&mut` too.
+                unsafe {
+                    call!(calls.drain_exact, self, as_ptr; start, end, slot, levels, bits, limit;
+                        out, answer)
+                }
+            }
+        })?;
+        let [hits, entered, slot, levels, bits] = answer;
+        let next = Cursor { slot, levels, bits };
+        Ok(Drained {
+            hits,
+            entered,
+            next,
+        })
+    }
+
+    pub fn plain(self, calls: &Calls, query: Query, out: &mut [u64]) -> Result<Tally, Refusal> {
+        let mut answer = [0; 2];
+        told(match query {
+            Query::Overlap(lo, hi) => {
+                let ((a, lo), (b, hi)) = (numbers(lo), numbers(hi));
+                // SAFETY: as in `begin`; the output is borrowed by `&mut` too.
+                unsafe { call!(calls.plain, self, as_ptr; a, lo, b, hi; out, answer) }
+            }
+            Query::Exact { start, end } => {
+                // SAFETY: as in `begin`; the output is borrowed by `&mut` too.
+                unsafe { call!(calls.plain_exact, self, as_ptr; start, end; out, answer) }
+            }
+        })?;
+        let [hits, entered] = answer;
+        Ok(Tally { hits, entered })
+    }
+}

@@ -1,0 +1,225 @@
+//! The map by value: its calls take the memory, and each checks all of it.
+use crate::lent::{Lent, LentMut, PUBLIC};
+use crate::{Cursor, Drained, Hits, Inserted, Query, Refusal, Removed, Step, StoreRef, Tally, U};
+
+/// A map: how many entries it has, in slots 0 to count - 1, and the slot of its root.
+#[derive(Clone, Copy, Debug, PartialEq, Eq)]
+pub struct Map {
+    /// The number of entries.
+    pub count: u64,
+    /// The slot of the root, [`U`] if there are no entries.
+    pub root: u64,
+}
+
+impl Map {
+    /// The map of no entries.
+    pub const fn new() -> Map {
+        Map { count: 0, root: U }
+    }
+
+    fn over<'a>(self, nodes: &'a [u64], colours: &'a [u8]) -> Lent<'a> {
+        Lent {
+            map: self,
+            nodes,
+            colours,
+        }
+    }
+
+    fn over_mut<'a>(self, nodes: &'a mut [u64], colours: &'a mut [u8]) -> LentMut<'a> {
+        LentMut {
+            map: self,
+            nodes,
+            colours,
+        }
+    }
+
+    /// Checks the store.
+    ///
+    /// # Errors
+    ///
+    /// [`Refusal::NoRoom`], [`Refusal::Broken`].
+    pub fn check(self, nodes: &[u64], colours: &[u8]) -> Result<(), Refusal> {
+        self.over(nodes, colours).check()
+    }
+
+    /// Builds the map of a sorted list of triples start, end, value. Entry k goes to slot k.
+    ///
+    /// # Errors
+    ///
+    /// [`Refusal::BadList`], [`Refusal::NoRoom`], [`Refusal::BadInterval`], [`Refusal::NotSorted`].
+    pub fn build(nodes: &mut [u64], colours: &mut [u8], list: &[u64]) -> Result<Map, Refusal> {
+        let mut lent = Map::new().over_mut(nodes, colours);
+        lent.build(list)?;
+        Ok(lent.map)
+    }
+
+    /// Removes the entry of a slot.
+    ///
+    /// # Errors
+    ///
+    /// [`Refusal::NoRoom`], [`Refusal::Broken`], [`Refusal::NoSuch`].
+    pub fn remove(
+        self,
+        nodes: &mut [u64],
+        colours: &mut [u8],
+        slot: u64,
+    ) -> Result<Removed, Refusal> {
+        self.over_mut(nodes, colours).remove(&PUBLIC, slot)
+    }
+
+    /// Adds an entry, after those that are equal to it. No other entry changes slot.
+    ///
+    #[cfg_attr(iset_linked, doc = "```")]
+    #[cfg_attr(not(iset_linked), doc = "```no_run")]
+    /// use iset_proved::{Map, Refusal};
+    ///
+    /// # fn main() -> Result<(), Refusal> {
+    /// let (mut nodes, mut colours) = ([0; 2 * 8], [0; 1]);
+    /// let first = Map::new().insert(&mut nodes, &mut colours, 15, 30, 8)?;
+    /// let second = first.map.insert(&mut nodes, &mut colours, 10, 20, 7)?;
+    /// assert_eq!((first.slot, second.slot), (0, 1));
+    /// assert_eq!(second.map.insert(&mut nodes, &mut colours, 10, 20, 9), Err(Refusal::NoRoom));
+    /// # Ok(())
+    /// # }
+    /// ```
+    ///
+    /// # Errors
+    ///
+    /// [`Refusal::NoRoom`] if the slices hold no more entries than the count, [`Refusal::Broken`],
+    /// [`Refusal::BadInterval`].
+    pub fn insert(
+        self,
+        nodes: &mut [u64],
+        colours: &mut [u8],
+        start: u64,
+        end: u64,
+        value: u64,
+    ) -> Result<Inserted, Refusal> {
+        let mut lent = self.over_mut(nodes, colours);
+        lent.insert(&PUBLIC, [start, end, value])
+    }
+
+    /// Where an overlap lookup begins. The map is tested when the cursor is used.
+    #[inline]
+    pub const fn fresh(self) -> Cursor {
+        Cursor {
+            slot: self.root,
+            levels: 1,
+            bits: 0,
+        }
+    }
+
+    /// Where an exact lookup begins: at the highest entry in the tree that is equal to the
+    /// interval.
+    ///
+    /// # Errors
+    ///
+    /// [`Refusal::NoRoom`], [`Refusal::Broken`], [`Refusal::BadInterval`].
+    pub fn fresh_exact(
+        self,
+        nodes: &[u64],
+        colours: &[u8],
+        start: u64,
+        end: u64,
+    ) -> Result<Cursor, Refusal> {
+        self.begin(nodes, colours, Query::Exact { start, end })
+    }
+
+    /// Where a lookup of a query begins.
+    ///
+    /// # Errors
+    ///
+    /// None for an overlap; for an exact lookup those of [`Map::fresh_exact`].
+    pub fn begin(self, nodes: &[u64], colours: &[u8], query: Query) -> Result<Cursor, Refusal> {
+        self.over(nodes, colours).begin(&PUBLIC, query)
+    }
+
+    /// The next hit after a cursor, or the end.
+    ///
+    /// # Errors
+    ///
+    /// [`Refusal::NoRoom`], [`Refusal::Broken`], [`Refusal::BadRange`] or [`Refusal::BadInterval`],
+    /// [`Refusal::BadCursor`].
+    pub fn step(
+        self,
+        nodes: &[u64],
+        colours: &[u8],
+        query: Query,
+        from: Cursor,
+    ) -> Result<Step, Refusal> {
+        self.over(nodes, colours).step(&PUBLIC, query, from)
+    }
+
+    /// Steps until the end, or until `limit` slots are written to `out`. A limit of 0 means
+    /// `out.len()`: as many as fit. Places past the slots are unchanged.
+    ///
+    /// # Errors
+    ///
+    /// Those of [`Map::step`], then [`Refusal::ShortOutput`].
+    pub fn drain(
+        self,
+        nodes: &[u64],
+        colours: &[u8],
+        query: Query,
+        from: Cursor,
+        limit: u64,
+        out: &mut [u64],
+    ) -> Result<Drained, Refusal> {
+        let lent = self.over(nodes, colours);
+        lent.drain(&PUBLIC, query, from, limit, out)
+    }
+
+    /// Finds all hits without pruning: it visits every entry in order, tests each, and writes the
+    /// slots of the hits to `out`, which has a place for every entry. They are the slots that
+    /// [`Map::hits`] hands out.
+    ///
+    #[cfg_attr(iset_linked, doc = "```")]
+    #[cfg_attr(not(iset_linked), doc = "```no_run")]
+    /// use iset_proved::{Map, Query, Refusal};
+    ///
+    /// # fn main() -> Result<(), Refusal> {
+    /// let (mut nodes, mut colours, mut out) = ([0; 3 * 8], [0; 1], [7; 3]);
+    /// let map = Map::build(&mut nodes, &mut colours, &[10, 20, 1, 10, 30, 2, 25, 40, 3])?;
+    /// let found = map.plain(&nodes, &colours, Query::overlap(20..30), &mut out)?;
+    /// assert_eq!((found.hits, found.entered, out), (2, 3, [1, 2, 7]));
+    /// # Ok(())
+    /// # }
+    /// ```
+    ///
+    /// # Errors
+    ///
+    /// [`Refusal::NoRoom`], [`Refusal::Broken`], [`Refusal::BadRange`] or [`Refusal::BadInterval`],
+    /// [`Refusal::ShortOutput`].
+    pub fn plain(
+        self,
+        nodes: &[u64],
+        colours: &[u8],
+        query: Query,
+        out: &mut [u64],
+    ) -> Result<Tally, Refusal> {
+        self.over(nodes, colours).plain(&PUBLIC, query, out)
+    }
+
+    /// The slots of all hits, in order, fetched through a lent buffer: as many at a time as it
+    /// holds. The store is checked once, here: the borrow keeps it as it is.
+    ///
+    /// # Errors
+    ///
+    /// [`Refusal::NoRoom`], [`Refusal::Broken`], [`Refusal::BadRange`] or [`Refusal::BadInterval`];
+    /// [`Refusal::ShortOutput`] if the buffer is empty.
+    pub fn hits<'a>(
+        self,
+        nodes: &'a [u64],
+        colours: &'a [u8],
+        query: Query,
+        buffer: &'a mut [u64],
+    ) -> Result<Hits<'a>, Refusal> {
+        StoreRef::open(self, nodes, colours)?.hits(query, buffer)
+    }
+}
+
+impl Default for Map {
+    fn default() -> Map {
+        Map::new()
+    }
+}

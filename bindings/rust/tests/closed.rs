@@ -1,0 +1,95 @@
+//! An archive of another version, which refuses every call with a number that this crate does not
+//! know, 11 a public call and 12 an opened one: no call may pass that off as an answer. The archive is the functions below, so the real
+//! one is not linked.
+#![cfg(not(iset_linked))]
+use std::panic::{catch_unwind, AssertUnwindSafe};
+
+use iset_proved::{Cursor, Map, Query, Refusal, Store, StoreRef};
+
+/// The functions take more arguments than are named here, and look at none of them.
+macro_rules! refusing {
+    ($number:literal: $($name:ident)*) => {
+        $(#[no_mangle]
+        extern "C" fn $name() -> u64 {
+            $number
+        })*
+    };
+}
+
+refusing! {
+    11: iset_build iset_remove iset_insert iset_fresh_exact iset_step iset_step_exact iset_drain
+    iset_drain_exact iset_plain iset_plain_exact
+}
+
+refusing! {
+    12: iset_open_remove iset_open_insert iset_open_fresh_exact iset_open_step iset_open_step_exact
+    iset_open_drain iset_open_drain_exact iset_open_plain iset_open_plain_exact
+}
+
+/// The check passes the map of no entries, so that a store can be opened, and no other.
+#[no_mangle]
+extern "C" fn iset_check(count: u64) -> u64 {
+    if count == 0 {
+        0
+    } else {
+        11
+    }
+}
+
+/// By a public call, and by an opened one.
+const PUBLIC: Option<Refusal> = Some(Refusal::Unknown(11));
+const OPENED: Option<Refusal> = Some(Refusal::Unknown(12));
+const QUERIES: [Query; 2] = [
+    Query::Overlap(core::ops::Bound::Unbounded, core::ops::Bound::Unbounded),
+    Query::Exact { start: 1, end: 2 },
+];
+const FROM: Cursor = Cursor {
+    slot: 0,
+    levels: 1,
+    bits: 0,
+};
+
+#[test]
+fn maps() {
+    let (mut nodes, mut colours, mut out) = ([0; 16], [0; 1], [0; 2]);
+    let map = Map { count: 1, root: 0 };
+    assert_eq!(map.check(&nodes, &colours).err(), PUBLIC);
+    assert_eq!(Map::build(&mut nodes, &mut colours, &[]).err(), PUBLIC);
+    assert_eq!(map.remove(&mut nodes, &mut colours, 0).err(), PUBLIC);
+    assert_eq!(map.insert(&mut nodes, &mut colours, 1, 2, 3).err(), PUBLIC);
+    assert_eq!(map.fresh_exact(&nodes, &colours, 1, 2).err(), PUBLIC);
+    assert_eq!(map.begin(&nodes, &colours, QUERIES[1]).err(), PUBLIC);
+    for query in QUERIES {
+        assert_eq!(map.step(&nodes, &colours, query, FROM).err(), PUBLIC);
+        let drained = map.drain(&nodes, &colours, query, FROM, 0, &mut out);
+        assert_eq!(drained.err(), PUBLIC);
+        assert_eq!(map.plain(&nodes, &colours, query, &mut out).err(), PUBLIC);
+        assert_eq!(map.hits(&nodes, &colours, query, &mut out).err(), PUBLIC);
+        let hits = Map::new().hits(&nodes, &colours, query, &mut out);
+        assert_eq!(hits.err(), OPENED);
+    }
+    assert_eq!((nodes, colours, out), ([0; 16], [0; 1], [0; 2]));
+}
+
+/// Lookups that a sound archive never refuses have no `Result`. They panic rather than end early.
+#[test]
+fn stores() {
+    let (mut nodes, mut colours, mut out) = ([0; 16], [0; 1], [0; 2]);
+    let map = Map { count: 1, root: 0 };
+    assert_eq!(StoreRef::open(map, &nodes, &colours).err(), PUBLIC);
+    assert_eq!(Store::open(map, &mut nodes, &mut colours).err(), PUBLIC);
+    assert_eq!(Store::build(&mut nodes, &mut colours, &[]).err(), PUBLIC);
+    // a map that the check passes, with a root, so that lookups begin
+    let rooted = Map { count: 0, root: 0 };
+    let mut store = Store::open(rooted, &mut nodes, &mut colours).unwrap();
+    assert_eq!(store.insert(1..2, 3).err(), OPENED);
+    assert_eq!(store.remove(0).err(), OPENED);
+    assert_eq!(store.overlap(1..2).err(), OPENED);
+    assert_eq!(store.exact(1..2).err(), OPENED);
+    for query in QUERIES {
+        assert_eq!(store.hits(query, &mut out).err(), OPENED);
+        assert_eq!(store.plain(query, &mut out).err(), OPENED);
+    }
+    assert!(catch_unwind(AssertUnwindSafe(|| store.at(1).count())).is_err());
+    assert!(catch_unwind(AssertUnwindSafe(|| store.entries().count())).is_err());
+}
