@@ -13,9 +13,9 @@ import sys
 TOP = pathlib.Path(__file__).resolve().parent.parent
 
 # Here every public function is a public call.
-CALLS = {'iset', 'capi', 'iset_c_open', 'slots', 'lines'}
+CALLS = {'iset', 'iset_c', 'iset_c_open', 'slotlist_core', 'lines'}
 # But these modules hold what one face of the exports lends to the other: inner functions.
-INNER = {('capi', 'answer'), ('capi', 'range')}
+INNER = {('iset_c', 'answer'), ('iset_c', 'range')}
 # Here the public calls are those that answer one of these types, and `new`; the others are inner functions, as in all other crates.
 ANSWERS = {'bitvec': {'Answer'}, 'stack': {'Answer', 'Outcome', 'After'}}
 # The whole tree has more; a reading that finds fewer has gone wrong.

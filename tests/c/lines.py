@@ -1,5 +1,5 @@
 #!/usr/bin/env python3
-"""lines.py REQUESTS ANSWERS: takes from the recorded lines of the programs drive and vectors those
+"""lines.py REQUESTS ANSWERS: takes from the recorded lines of the programs drive and test_vectors those
 that the opened calls take and whose store passes the check. It writes them, each after a line
 `store`, to REQUESTS, and the recorded answers to ANSWERS."""
 import pathlib
@@ -40,7 +40,7 @@ def taken(program):
 def main():
     sys.setrecursionlimit(100000)
     requests, answers, last = [], [], ''
-    for program in 'drive', 'vectors':
+    for program in 'drive', 'test_vectors':
         for store, request, answer in taken(program):
             if store != last:
                 requests.append(store)
