@@ -1,5 +1,8 @@
--- The check's rule: what one pass over the links finds, from the leaves up. proofs/Decides shows that it says yes exactly
--- to the stores that pass.
+-- The check's rule: what one pass over the links finds, from the leaves up. proofs/Decides shows
+-- that it says yes exactly to the stores that pass.
+-- Letters: W words, C colours, n count, s slot, b ok (right so far), d interval of the parent,
+--   x node, p parent, k link, l left hull or left subtree, r right hull or right subtree or root,
+--   a found
 use mathlib.Core.Bool.{Bool, true, false, cond, not, _&&_, _||_}
 use mathlib.Core.List.{List}
 use Prim.Native.Nat.{ℕ, zero, suc, _+_}
@@ -14,7 +17,7 @@ use Rattle.audit.specs.declared.Node.{Node}
 use Rattle.audit.specs.declared.Found.{Found}
 
 -- what the check reads of a slot
-abbrev pub nodeAt : List ℕ → List ℕ → ℕ → Node
+abbrev pub nodeAt : (words colours : List ℕ) (slot : ℕ) → Node
 nodeAt W C s =
     record {
       interval = interval W s;
@@ -25,35 +28,38 @@ nodeAt W C s =
       red = red C s;
     }
 
--- a subtree without nodes: right, or broken. The interval above it stands for its first, its last and its hull.
-abbrev pub noNodes : Bool → Interval → Found
+-- a subtree without nodes: right, or broken. The interval above it stands for its first, its last
+-- and its hull.
+abbrev pub noNodes : (ok : Bool) (interval : Interval) → Found
 noNodes b d = record { ok = b; size = 0; blacks = 0; red = false; first = d; last = d; hull = d }
 
--- "child and parent links agree"; and the links differ unless they are undefined, so that no slot is reached twice
-abbrev pub tied : Node → ℕ → Bool
+-- "child and parent links agree"; and the links differ unless they are undefined, so that no slot
+-- is reached twice
+abbrev pub tied : (node : Node) (parent : ℕ) → Bool
 tied x p = eqb (x .parent) p && (not (eqb (x .left) (x .right)) || eqb (x .left) U)
 
--- "start < end; entries in tree order never fall": with the last interval of the left subtree and the first of the right
-abbrev pub ordered : Interval → Interval → Interval → Bool
+-- "start < end; entries in tree order never fall": with the last interval of the left subtree and
+-- the first of the right
+abbrev pub ordered : (own last first : Interval) → Bool
 ordered own last first = proper own && le last own && le own first
 
 -- the hull, from the node's own interval and the hulls of its children
-abbrev pub hulled : Node → Interval → Interval → Bool
+abbrev pub hulled : (node : Node) (left right : Interval) → Bool
 hulled x l r = eq (x .hull) (extended (extended (x .interval) l) r)
 
 -- "no red node has a red child; every way down to U passes equally many blacks"
-abbrev pub coloured : Node → Found → Found → Bool
+abbrev pub coloured : (node : Node) (left right : Found) → Bool
 coloured x l r = eqb (l .blacks) (r .blacks) && (not (x .red) || not (l .red || r .red))
 
 -- a node is right where its subtrees are
-abbrev pub suits : Node → Found → Found → Bool
+abbrev pub suits : (node : Node) (left right : Found) → Bool
 suits x l r = ordered (x .interval) (l .last) (r .first) && hulled x (l .hull) (r .hull) && coloured x l r
 
-abbrev pub fits : Node → Found → Found → Bool
+abbrev pub fits : (node : Node) (left right : Found) → Bool
 fits x l r = l .ok && r .ok && suits x l r
 
 -- what is found of a node, with what was found of its subtrees
-abbrev pub combined : Node → Found → Found → Found
+abbrev pub combined : (node : Node) (left right : Found) → Found
 combined x l r =
     cond (fits x l r)
     (record {
@@ -67,16 +73,19 @@ combined x l r =
     })
     (noNodes false (x .interval))
 
--- the link k below p leads to a slot that knows its parent and has no children, and the height allows for the two ways past it
-abbrev pub childless : List ℕ → ℕ → ℕ → ℕ → ℕ → Bool
+-- the link k below p leads to a slot that knows its parent and has no children, and the height
+-- allows for the two ways past it
+abbrev pub childless : (words : List ℕ) (count height parent link : ℕ) → Bool
 childless W n height p k = ltb k n && (eqb (par W k) p && eqb (kid W true k) U && eqb (kid W false k) U && not (eqb k U) && ltb 1 height)
 
 -- the slot k, below p, is entered
-abbrev pub enters : List ℕ → List ℕ → ℕ → ℕ → ℕ → Bool
+abbrev pub enters : (words colours : List ℕ) (count parent link : ℕ) → Bool
 enters W C n p k = ltb k n && tied (nodeAt W C k) p
 
--- the subtree at the link k, below the slot p whose interval is d, with fewer than `height` nodes on its ways down
-unfoldable pub survey : List ℕ → List ℕ → ℕ → ℕ → ℕ → Interval → ℕ → Found
+-- the subtree at the link k, below the slot p whose interval is d, with fewer than `height` nodes
+-- on its ways down
+unfoldable pub survey : (words colours : List ℕ) (count height parent : ℕ) (interval : Interval)
+    (link : ℕ) → Found
 survey W C n zero p d k = noNodes false d
 survey W C n (suc height) p d k =
     let l : Found = survey W C n height k (interval W k) (kid W true k) in
@@ -84,9 +93,9 @@ survey W C n (suc height) p d k =
     cond (eqb k U) (noNodes true d) (cond (enters W C n p k) (combined (nodeAt W C k) l r) (noNodes false d))
 
 -- what is found below the root, in a store of n entries
-abbrev pub isWhole : ℕ → Found → Bool
+abbrev pub isWhole : (count : ℕ) (found : Found) → Bool
 isWhole n a = a .ok && eqb (a .size) n && not (a .red)
 
 -- the whole store: no tree that passes is higher than 32, and the root's parent is U
-unfoldable pub wholeOf : List ℕ → List ℕ → ℕ → ℕ → Bool
+unfoldable pub wholeOf : (words colours : List ℕ) (count root : ℕ) → Bool
 wholeOf W C n r = isWhole n (survey W C n 33 U (record { start = 0; end = 0 }) r)

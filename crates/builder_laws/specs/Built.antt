@@ -1,4 +1,7 @@
 -- What a build leaves.
+-- Letters: n count, S triples, W words before, C colours before, X words afterwards, K red? (which
+--   slots are) or colours afterwards, D deepest level that is black, d depth of the root, a first
+--   slot, s slot, k any number, r right subtree or root, l left subtree
 use mathlib.Core.Path.{_≡_}
 use mathlib.Core.Bool.{Bool, cond}
 use mathlib.Core.List.{List, [], _∷_, map}
@@ -13,11 +16,11 @@ use Rattle.tree.specs.Passes.{Passes}
 use Rattle.builder.specs.Input.{entryOf}
 
 -- the n slots from a on, and those below n
-abbrev pub range : ℕ → ℕ → List ℕ
+abbrev pub range : (first count : ℕ) → List ℕ
 range a zero = []
 range a (suc n) = a ∷ range (suc a) n
 
-abbrev pub upTo : ℕ → List ℕ
+abbrev pub upTo : (count : ℕ) → List ℕ
 upTo n = range 0 n
 
 -- "With D the greatest number such that 2^D <= n + 1"
@@ -26,11 +29,12 @@ pub record Greatest (D n : ℕ) : Type 0 where
   pub most : (k : ℕ) → 2 ^ k ≤ n + 1 → k ≤ D
 
 -- "nodes at depth above D are red (root depth 1)", and no others: in a tree whose root has depth d
-abbrev pub Depths : (ℕ → Bool) → ℕ → ℕ → Tree → Type 0
+abbrev pub Depths : (red? : ℕ → Bool) (deepest depth : ℕ) (tree : Tree) → Type 0
 Depths K D d leaf = Unit {0}
 Depths K D d (node l s r) = (K s ≡ ltb D d) × Depths K D (suc d) l × Depths K D (suc d) r
 
--- X and K are the words and the colours of the first n triples of S, built in the words W and the colours C; r is the root
+-- X and K are the words and the colours of the first n triples of S, built in the words W and the
+-- colours C; r is the root
 pub record Built (S W C : List ℕ) (n : ℕ) (X K : List ℕ) (r : ℕ) : Type 0 where
   pub passes : Passes X K n r
   -- "count 0, root U"; else the middle

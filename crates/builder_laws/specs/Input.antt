@@ -1,4 +1,5 @@
 -- What may be built.
+-- Letters: n count, S triples, k index of a triple
 use mathlib.Core.List.{List}
 use Prim.Native.Nat.{ℕ, suc, _<_}
 use Rattle.tree.specs.Order.{NotAfter}

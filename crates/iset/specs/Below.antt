@@ -1,4 +1,6 @@
--- "Slots from count up are not read": two stores for one map, as long as one another, that agree in each slot below the count and in its colour.
+-- "Slots from count up are not read": two stores for one map, as long as one another, that agree in
+-- each slot below the count and in its colour.
+-- Letters: W words, C colours, n count, X other words, D other colours, x interval, y refusal
 use mathlib.Core.Path.{_≡_}
 use mathlib.Core.List.{List}
 use Prim.Native.Nat.{ℕ}

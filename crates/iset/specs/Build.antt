@@ -1,4 +1,6 @@
 -- "build 8, 1, 5, 6", each over the whole input
+-- Letters: W words, C colours, n count, m map that was built, S triples, k number of a refusal,
+--   y refusal
 use mathlib.Core.Bool.{cond}
 use mathlib.Core.List.{List}
 use Prim.Native.Nat.{ℕ, _/_, _%_}
@@ -15,7 +17,7 @@ use Rattle.iset.specs.declared.build.Built.{Built}
 use Rattle.iset.specs.declared.build.Built.the-variants.{Done, Refused}
 
 -- the refusal's number, 0 for none, of the list S for so many words and bytes
-unfoldable pub buildNumber : ℕ → ℕ → List ℕ → ℕ
+unfoldable pub buildNumber : (words bytes : ℕ) (triples : List ℕ) → ℕ
 buildNumber words bytes S =
     cond (eqb (length S % 3) 0)
     (cond (ltb (capacity words bytes) (length S / 3)) 1 (cond (allProper S) (cond (sorted S) 0 6) 5))
@@ -27,22 +29,22 @@ pub record BuildAnswer : Type 0 where
   pub map : Map
 
 -- "a refused build: count 0, root U"
-abbrev pub refusedBuild : ℕ → BuildAnswer
+abbrev pub refusedBuild : (number : ℕ) → BuildAnswer
 refusedBuild k = record { no = k; map = emptyMap }
 
 -- what the code's answer stands for
-abbrev pub buildAnswer : Built → BuildAnswer
+abbrev pub buildAnswer : (built : Built) → BuildAnswer
 buildAnswer (Done m) = record { no = 0; map = m }
 buildAnswer (Refused y) = refusedBuild (refusalNumber y)
 
 -- a list that is accepted
-abbrev pub buildList : List ℕ → List ℕ → List ℕ → Change BuildAnswer
+abbrev pub buildList : (words colours triples : List ℕ) → Change BuildAnswer
 buildList W C S =
     let n : ℕ = length S / 3 in
     change (record { no = 0; map = mapOf n (buildRoot n) }) (buildWords S n W) (buildColours n C)
 
 -- the call: in the words W and the colours C, from the list S
-unfoldable pub buildCall : List ℕ → List ℕ → List ℕ → Change BuildAnswer
+unfoldable pub buildCall : (words colours triples : List ℕ) → Change BuildAnswer
 buildCall W C S =
     let k : ℕ = buildNumber (length W) (length C) S in
     cond (eqb k 0) (buildList W C S) (change (refusedBuild k) W C)

@@ -1,4 +1,5 @@
 -- What a call answers and leaves, said once.
+-- Letters: W words, C colours, a answer, A any type
 use mathlib.Core.List.{List}
 use Prim.Native.Nat.{ℕ}
 
@@ -8,7 +9,7 @@ pub record Change (A : Type 0) : Type 0 where
   pub words : List ℕ
   pub colours : List ℕ
 
-abbrev pub change : {A : Type 0} → A → List ℕ → List ℕ → Change A
+abbrev pub change : {A : Type 0} → (answer : A) (words colours : List ℕ) → Change A
 change a W C = record { answer = a; words = W; colours = C }
 
 -- a call that writes an output: its answer, and the output that it leaves
@@ -16,5 +17,5 @@ pub record Output (A : Type 0) : Type 0 where
   pub answer : A
   pub output : List ℕ
 
-abbrev pub output : {A : Type 0} → A → List ℕ → Output A
+abbrev pub output : {A : Type 0} → (answer : A) (out : List ℕ) → Output A
 output a out = record { answer = a; output = out }

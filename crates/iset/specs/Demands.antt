@@ -1,5 +1,9 @@
--- The three demands, and document 02's item 9, each as one statement about what the public calls answer and leave. A call's rule (specs/Check to Lookup) is
--- what its code is proved to answer and leave on every input, so a statement about the rules is one about the calls. `proofs/Demands` proves them.
+-- The three demands, and document 02's item 9, each as one statement about what the public calls
+-- answer and leave. A call's rule (specs/Check to Lookup) is what its code is proved to answer and
+-- leave on every input, so a statement about the rules is one about the calls. `proofs/Demands`
+-- proves them.
+-- Letters: m map, W words, C colours, r root, S triples, a slot, s slot, e entry, x interval,
+--   q query or range, c cursor, P proof that the store passes, l calls
 use mathlib.Core.Path.{_≡_}
 use mathlib.Core.Logic.{_≢_}
 use mathlib.Core.List.{List}
@@ -33,9 +37,10 @@ use Rattle.iset.specs.Refusals.{BadRange, BadInterval, Exactly, checkRow
 use Rattle.iset.specs.Runs.{Ask, OverlapRun, ExactRun}
 use Rattle.iset.specs.declared.Map.{Map}
 
--- Demand 1: "Every public call .. tests everything itself, gives the first refusal in document 01's order, and then nothing lent has changed." `Exactly` is
--- both directions: a call gives a row's number exactly if that row's condition holds, and that of no row before it. That a call ends, on any numbers and
--- any lent memory, is part of what the prover shows of its code.
+-- Demand 1: "Every public call .. tests everything itself, gives the first refusal in document 01's
+-- order, and then nothing lent has changed." `Exactly` is both directions: a call gives a row's
+-- number exactly if that row's condition holds, and that of no row before it. That a call ends, on
+-- any numbers and any lent memory, is part of what the prover shows of its code.
 pub record Demand1 (m : Map) (W C : List ℕ) : Type 0 where
   pub check : Exactly (checkRows m W C) (checkRule m W C)
   pub build : (S : List ℕ) → Exactly (buildRows W C S) (buildCall W C S .answer .no)
@@ -45,7 +50,8 @@ pub record Demand1 (m : Map) (W C : List ℕ) : Type 0 where
   pub step : (q : Query) (c : Cursor) → Exactly (stepRows m W C q c) (stepCall m W C q c .no)
   pub drain : (q : Query) (c : Cursor) (limit : ℕ) (out : List ℕ) → Exactly (drainRows m W C q c limit (length out)) (drainCall m W C q c limit out .answer .no)
   pub plain : (q : Query) (out : List ℕ) → Exactly (plainRows m W C q (length out)) (plainCall m W C q out .answer .no)
-  -- a refused call answers its number with the map or the cursor as given ("a refused build: count 0, root U"), and leaves what was lent
+  -- a refused call answers its number with the map or the cursor as given ("a refused build: count
+  -- 0, root U"), and leaves what was lent
   pub build-leaves : (S : List ℕ) → (buildCall W C S .answer .no ≡ 0 → ⊥) → buildCall W C S ≡ change (refusedBuild (buildCall W C S .answer .no)) W C
   pub remove-leaves : (s : ℕ) → (removeCall m W C s .answer .no ≡ 0 → ⊥)
       → removeCall m W C s ≡ change (refusedRemoval m (removeCall m W C s .answer .no)) W C
@@ -58,26 +64,30 @@ pub record Demand1 (m : Map) (W C : List ℕ) : Type 0 where
   pub plain-leaves : (q : Query) (out : List ℕ) → (plainCall m W C q out .answer .no ≡ 0 → ⊥)
       → plainCall m W C q out ≡ output (refusedPlain (plainCall m W C q out .answer .no)) out
 
--- What `Map::remove` answers and leaves, in the form of the rule of removal; what `Map::insert` leaves, in that of insertion.
-abbrev pub removal : Map → List ℕ → List ℕ → ℕ → Removed
+-- What `Map::remove` answers and leaves, in the form of the rule of removal; what `Map::insert`
+-- leaves, in that of insertion.
+abbrev pub removal : (map : Map) (words colours : List ℕ) (slot : ℕ) → Removed
 removal m W C s =
     let r : Change RemoveAnswer = removeCall m W C s in
     record { store = store (r .words) (r .colours) (r .answer .map .root); value = r .answer .value; pairs = r .answer .pairs }
 
-abbrev pub insertion : Map → List ℕ → List ℕ → Entry → Store
+abbrev pub insertion : (map : Map) (words colours : List ℕ) (entry : Entry) → Store
 insertion m W C e = let r : Change InsertAnswer = insertCall m W C e in store (r .words) (r .colours) (r .answer .map .root)
 
--- Demand 2, of calls that are not refused; P is the tree of the store before, the only one (`unique`, tree/proofs/Checked). "On stores that pass the check,
--- removal, insertion .. are proved equal to document 01's rules. Each removal names exactly the entries that changed slot."
+-- Demand 2, of calls that are not refused; P is the tree of the store before, the only one
+-- (`unique`, tree/proofs/Checked). "On stores that pass the check, removal, insertion .. are proved
+-- equal to document 01's rules. Each removal names exactly the entries that changed slot."
 pub record Demand2 (m : Map) (W C : List ℕ) : Type 0 where
   -- a build's store passes, with entry k in slot k
   pub builds : (S : List ℕ) → buildCall W C S .answer .no ≡ 0
       → (buildCall W C S .answer .map .count ≡ length S / 3)
       × Built S W C (length S / 3) (buildCall W C S .words) (buildCall W C S .colours) (buildCall W C S .answer .map .root)
-  -- a removal's store passes, with the other entries in their order; value and pairs are those of the removed and of the moved entries
+  -- a removal's store passes, with the other entries in their order; value and pairs are those of
+  -- the removed and of the moved entries
   pub removes : (s : ℕ) → removeCall m W C s .answer .no ≡ 0 → (P : Passes W C (m .count) (m .root))
       → (removeCall m W C s .answer .map .count ≡ m .count - 1) × RemovalGuarantee W C (m .count) (m .root) s P (removal m W C s)
-  -- an insertion's store passes, with every old entry in its slot and the new one, after its equals, in the slot that is named: the old count
+  -- an insertion's store passes, with every old entry in its slot and the new one, after its
+  -- equals, in the slot that is named: the old count
   pub inserts : (e : Entry) → insertCall m W C e .answer .no ≡ 0 → (P : Passes W C (m .count) (m .root))
       → (insertCall m W C e .answer .slot ≡ m .count)
       × (entry (insertCall m W C e .words) (insertCall m W C e .answer .slot) ≡ e)
@@ -89,18 +99,20 @@ pub record Demand2 (m : Map) (W C : List ℕ) : Type 0 where
   pub insert-enough : (e : Entry) → insertCall m W C e .answer .no ≡ 0 → (levels rounds hulls : ℕ) → 32 ≤ levels → 32 ≤ rounds → 32 ≤ hulls
       → insertion m W C e ≡ insertWith levels rounds hulls W C (m .count) (m .root) e
 
--- Demand 3, of any lookup by `Map::step` and `Map::drain` from the fresh cursor, in any mixture and with any limits, on an unchanged store that passes; the
--- range is no BadRange, the interval no BadInterval. specs/Runs has the two records.
+-- Demand 3, of any lookup by `Map::step` and `Map::drain` from the fresh cursor, in any mixture and
+-- with any limits, on an unchanged store that passes; the range is no BadRange, the interval no
+-- BadInterval. specs/Runs has the two records.
 pub record Demand3 (m : Map) (W C : List ℕ) : Type 0 where
   pub overlap : checkRule m W C ≡ 0 → (q : Span) → (BadRange (q .lo) (q .hi) → ⊥) → (P : Passes W C (m .count) (m .root)) (l : List Ask)
       → OverlapRun m W C q (P .tree) l
   pub exact : checkRule m W C ≡ 0 → (x : Interval) → (BadInterval (x .start) (x .end) → ⊥) → (P : Passes W C (m .count) (m .root)) (l : List Ask)
       → ExactRun m W C x (P .tree) l
 
--- Document 02, item 9: "removal and insertion return the sum, a refusal 0 .. Prove the sum equal to the changes in document 01's and item 1's steps."
--- `removeHulls` and `insertHulls` list the hulls that are worked out, each with the words that it is worked out in; `changes` counts those of them of which
--- either end changes. `Follows` ties such a list to what is left: from the first words to the last these hulls are worked out, in this order, and no hull
--- changes in between.
+-- Document 02, item 9: "removal and insertion return the sum, a refusal 0 .. Prove the sum equal to
+-- the changes in document 01's and item 1's steps." `removeHulls` and `insertHulls` list the hulls
+-- that are worked out, each with the words that it is worked out in; `changes` counts those of them
+-- of which either end changes. `Follows` ties such a list to what is left: from the first words to
+-- the last these hulls are worked out, in this order, and no hull changes in between.
 pub record Request9 (m : Map) (W C : List ℕ) : Type 0 where
   pub remove-sum : (s : ℕ) → removeCall m W C s .answer .no ≡ 0 → removeCall m W C s .answer .reach ≡ changes (m .count) (removeHulls W C (m .count) (m .root) s)
   -- up to the words in which the last slot moves, with its hull, into the emptied one
@@ -111,7 +123,8 @@ pub record Request9 (m : Map) (W C : List ℕ) : Type 0 where
       ≡ lastStep (cutFrom W C (m .count) (m .root) s (vacated (m .count) W s)) W C (m .count) (m .root) s (vacated (m .count) W s)
   pub remove-none : (s : ℕ) → (removeCall m W C s .answer .no ≡ 0 → ⊥) → removeCall m W C s .answer .reach ≡ 0
   pub insert-sum : (e : Entry) → insertCall m W C e .answer .no ≡ 0 → insertCall m W C e .answer .reach ≡ changes (m .count + 1) (insertHulls W C (m .count) (m .root) e)
-  -- from the words in which the new node hangs: its first hull is set and not worked out, and every other hull is as it was
+  -- from the words in which the new node hangs: its first hull is set and not worked out, and every
+  -- other hull is as it was
   pub insert-hangs : (e : Entry) → insertCall m W C e .answer .no ≡ 0
       → (hull (hungWords W (m .count) e (under (m .count) W (m .root) (own e))) (m .count) ≡ own e)
       × ((a : ℕ) → a ≢ m .count → hull (hungWords W (m .count) e (under (m .count) W (m .root) (own e))) a ≡ hull W a)

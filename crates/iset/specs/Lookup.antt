@@ -1,4 +1,8 @@
--- "overlap step 1, 2, 4, 7; exact step 1, 2, 5, 7; drain as its step, then 9": the check, then what an opened lookup tests
+-- "overlap step 1, 2, 4, 7; exact step 1, 2, 5, 7; drain as its step, then 9": the check, then what
+-- an opened lookup tests
+-- Letters: m map, W words, C colours, a lower number or answer, b higher number, h hit?, s step,
+--   d drained, y high bound or refusal, x interval, q range or query, c cursor, k number of a
+--   refusal
 use mathlib.Core.Bool.{Bool, true, false, cond}
 use mathlib.Core.List.{List}
 use Prim.Native.Nat.{ℕ}
@@ -33,7 +37,7 @@ use Rattle.iset.specs.declared.lookup.Drain.{Drain}
 use Rattle.iset.specs.declared.lookup.Drain.the-variants as drain
 
 -- not BadRange: a bound is Unbounded, or lo < hi, or lo = hi and both are Included
-abbrev pub ordered : Bound → Bound → Bool
+abbrev pub ordered : (low high : Bound) → Bool
 ordered (Included a) (Included b) = leb a b
 ordered (Included a) (Excluded b) = ltb a b
 ordered (Included a) Unbounded = true
@@ -43,40 +47,45 @@ ordered (Excluded a) Unbounded = true
 ordered Unbounded y = true
 
 -- 4: BadRange; 5: "a given interval has start >= end"
-abbrev pub queryNumber : Query → ℕ
+abbrev pub queryNumber : (query : Query) → ℕ
 queryNumber (Overlap q) = cond (ordered (q .lo) (q .hi)) 0 4
 queryNumber (Exact x) = cond (proper x) 0 5
 
 -- where a lookup begins: the root, or "the highest equal node, U if none"
-abbrev pub beginning : Map → List ℕ → Query → ℕ
+abbrev pub beginning : (map : Map) (words : List ℕ) (query : Query) → ℕ
 beginning m W (Overlap q) = m .root
 beginning m W (Exact x) = findFrom W (m .count) x (m .root)
 
 -- 7: "cursor has no form below"
-abbrev pub formNumber : Form → ℕ
+abbrev pub formNumber : (form : Form) → ℕ
 formNumber form.Fresh = 0
 formNumber form.Held = 0
 formNumber form.Ended = 0
 formNumber form.Bad = 7
 
--- the first refusal's number, 0 for none, in an opened store: of a query alone; of one with a cursor; of a drain
-unfoldable pub openStartNumber : Map → List ℕ → List ℕ → Query → ℕ
+-- the first refusal's number, 0 for none, in an opened store: of a query alone; of one with a
+-- cursor; of a drain
+unfoldable pub openStartNumber : (map : Map) (words colours : List ℕ) (query : Query) → ℕ
 openStartNumber m W C q = first (countNumber m W C) (queryNumber q)
 
-unfoldable pub openStepNumber : Map → List ℕ → List ℕ → Query → Cursor → ℕ
+unfoldable pub openStepNumber : (map : Map) (words colours : List ℕ) (query : Query)
+    (cursor : Cursor) → ℕ
 openStepNumber m W C q c = first (openStartNumber m W C q) (formNumber (formOf W (m .count) (beginning m W q) c))
 
-unfoldable pub openDrainNumber : Map → List ℕ → List ℕ → Query → Cursor → ℕ → ℕ → ℕ
+unfoldable pub openDrainNumber : (map : Map) (words colours : List ℕ) (query : Query)
+    (cursor : Cursor) (limit places : ℕ) → ℕ
 openDrainNumber m W C q c limit places = first (openStepNumber m W C q c) (cond (ltb places (drains.limitOf limit places)) 9 0)
 
 -- and of the public calls
-unfoldable pub startNumber : Map → List ℕ → List ℕ → Query → ℕ
+unfoldable pub startNumber : (map : Map) (words colours : List ℕ) (query : Query) → ℕ
 startNumber m W C q = first (checkRule m W C) (openStartNumber m W C q)
 
-unfoldable pub stepNumber : Map → List ℕ → List ℕ → Query → Cursor → ℕ
+unfoldable pub stepNumber : (map : Map) (words colours : List ℕ) (query : Query) (cursor : Cursor)
+    → ℕ
 stepNumber m W C q c = first (checkRule m W C) (openStepNumber m W C q c)
 
-unfoldable pub drainNumber : Map → List ℕ → List ℕ → Query → Cursor → ℕ → ℕ → ℕ
+unfoldable pub drainNumber : (map : Map) (words colours : List ℕ) (query : Query) (cursor : Cursor)
+    (limit places : ℕ) → ℕ
 drainNumber m W C q c limit places = first (checkRule m W C) (openDrainNumber m W C q c limit places)
 
 -- What the calls answer. A refusal has the cursor as given, slot U, counts 0; a fresh cursor that
@@ -86,20 +95,21 @@ pub record StartAnswer : Type 0 where
   pub no : ℕ
   pub cursor : Cursor
 
-abbrev pub refusedStart : ℕ → StartAnswer
+abbrev pub refusedStart : (number : ℕ) → StartAnswer
 refusedStart k = record { no = k; cursor = ended }
 
-abbrev pub startAnswer : Started → StartAnswer
+abbrev pub startAnswer : (started : Started) → StartAnswer
 startAnswer (started.Done c) = record { no = 0; cursor = c }
 startAnswer (started.Refused y) = refusedStart (refusalNumber y)
 
-abbrev pub startBy : Map → List ℕ → Interval → ℕ → StartAnswer
+abbrev pub startBy : (map : Map) (words : List ℕ) (interval : Interval) (number : ℕ) → StartAnswer
 startBy m W x k = cond (eqb k 0) (record { no = 0; cursor = fresh (beginning m W (Exact x)) }) (refusedStart k)
 
-unfoldable pub openStartCall : Map → List ℕ → List ℕ → Interval → StartAnswer
+unfoldable pub openStartCall : (map : Map) (words colours : List ℕ) (interval : Interval)
+    → StartAnswer
 openStartCall m W C x = startBy m W x (openStartNumber m W C (Exact x))
 
-unfoldable pub startCall : Map → List ℕ → List ℕ → Interval → StartAnswer
+unfoldable pub startCall : (map : Map) (words colours : List ℕ) (interval : Interval) → StartAnswer
 startCall m W C x = startBy m W x (startNumber m W C (Exact x))
 
 -- a step: a hit with its slot, or the end, the next cursor and the nodes entered
@@ -110,25 +120,28 @@ pub record StepAnswer : Type 0 where
   pub next : Cursor
   pub entered : ℕ
 
-abbrev pub stepDone : Bool → Answer → StepAnswer
+abbrev pub stepDone : (hit? : Bool) (answer : Answer) → StepAnswer
 stepDone h a = record { no = 0; hit = h; slot = a .slot; next = a .next; entered = a .entered }
 
-abbrev pub refusedStep : Cursor → ℕ → StepAnswer
+abbrev pub refusedStep : (cursor : Cursor) (number : ℕ) → StepAnswer
 refusedStep c k = record { no = k; hit = false; slot = U; next = c; entered = 0 }
 
-abbrev pub stepAnswer : Cursor → Stepped → StepAnswer
+abbrev pub stepAnswer : (cursor : Cursor) (stepped : Stepped) → StepAnswer
 stepAnswer c (stepped.Done s) = stepDone (isHit s) (answer s)
 stepAnswer c (stepped.Refused y) = refusedStep c (refusalNumber y)
 
-abbrev pub stepBy : Map → List ℕ → Query → Cursor → ℕ → StepAnswer
+abbrev pub stepBy : (map : Map) (words : List ℕ) (query : Query) (cursor : Cursor) (number : ℕ)
+    → StepAnswer
 stepBy m W q c k =
     let a : Answer = step W (m .count) (rules W (m .count) q) c in
     cond (eqb k 0) (stepDone (ltb (a .slot) (m .count)) a) (refusedStep c k)
 
-unfoldable pub openStepCall : Map → List ℕ → List ℕ → Query → Cursor → StepAnswer
+unfoldable pub openStepCall : (map : Map) (words colours : List ℕ) (query : Query) (cursor : Cursor)
+    → StepAnswer
 openStepCall m W C q c = stepBy m W q c (openStepNumber m W C q c)
 
-unfoldable pub stepCall : Map → List ℕ → List ℕ → Query → Cursor → StepAnswer
+unfoldable pub stepCall : (map : Map) (words colours : List ℕ) (query : Query) (cursor : Cursor)
+    → StepAnswer
 stepCall m W C q c = stepBy m W q c (stepNumber m W C q c)
 
 -- a drain: the hits written, the nodes entered, the next cursor
@@ -138,24 +151,27 @@ pub record DrainAnswer : Type 0 where
   pub entered : ℕ
   pub next : Cursor
 
-abbrev pub drainDone : drains.Drained → DrainAnswer
+abbrev pub drainDone : (drained : drains.Drained) → DrainAnswer
 drainDone d = record { no = 0; hits = length (d .slots); entered = d .entered; next = d .next }
 
-abbrev pub refusedDrain : Cursor → ℕ → DrainAnswer
+abbrev pub refusedDrain : (cursor : Cursor) (number : ℕ) → DrainAnswer
 refusedDrain c k = record { no = k; hits = 0; entered = 0; next = c }
 
-abbrev pub drainAnswer : Cursor → Drain → DrainAnswer
+abbrev pub drainAnswer : (cursor : Cursor) (drain : Drain) → DrainAnswer
 drainAnswer c (drain.Done d) = record { no = 0; hits = d .hits; entered = d .entered; next = d .next }
 drainAnswer c (drain.Refused y) = refusedDrain c (refusalNumber y)
 
 -- "Places past the hits written stay."
-abbrev pub drainBy : Map → List ℕ → Query → Cursor → ℕ → List ℕ → ℕ → Output DrainAnswer
+abbrev pub drainBy : (map : Map) (words : List ℕ) (query : Query) (cursor : Cursor) (limit : ℕ)
+    (out : List ℕ) (number : ℕ) → Output DrainAnswer
 drainBy m W q c limit out k =
     let d : drains.Drained = drains.drain W (m .count) (rules W (m .count) q) (drains.limitOf limit (length out)) c in
     cond (eqb k 0) (output (drainDone d) (drains.filled (d .slots) out)) (output (refusedDrain c k) out)
 
-unfoldable pub openDrainCall : Map → List ℕ → List ℕ → Query → Cursor → ℕ → List ℕ → Output DrainAnswer
+unfoldable pub openDrainCall : (map : Map) (words colours : List ℕ) (query : Query)
+    (cursor : Cursor) (limit : ℕ) (out : List ℕ) → Output DrainAnswer
 openDrainCall m W C q c limit out = drainBy m W q c limit out (openDrainNumber m W C q c limit (length out))
 
-unfoldable pub drainCall : Map → List ℕ → List ℕ → Query → Cursor → ℕ → List ℕ → Output DrainAnswer
+unfoldable pub drainCall : (map : Map) (words colours : List ℕ) (query : Query) (cursor : Cursor)
+    (limit : ℕ) (out : List ℕ) → Output DrainAnswer
 drainCall m W C q c limit out = drainBy m W q c limit out (drainNumber m W C q c limit (length out))

@@ -3,7 +3,7 @@ use Prim.Native.Nat.{ℕ}
 use Rattle.words.specs.Ix.{U}
 use Rattle.iset.specs.declared.Map.{Map}
 
-abbrev pub mapOf : ℕ → ℕ → Map
+abbrev pub mapOf : (count root : ℕ) → Map
 mapOf count root = record { count = count; root = root }
 
 -- no entries: count 0, root U

@@ -1,5 +1,8 @@
--- Document 01's table of refusals, and document 02's items 1 and 5: for each public call its rows, a refusal's number and when it is given, in the order in
--- which the first is given.
+-- Document 01's table of refusals, and document 02's items 1 and 5: for each public call its rows,
+-- a refusal's number and when it is given, in the order in which the first is given.
+-- Letters: m map, W words, C colours, k number that is answered or limit, P condition or proof that
+--   the store passes, a lower number, b higher number, y high bound, s slot or stack, i place of a
+--   bit, h highest equal node, S triples, e entry, x interval, q range, c cursor
 use mathlib.Core.Path.{_≡_}
 use mathlib.Core.Logic.{_↔_, _⊎_}
 use mathlib.Core.List.{List}
@@ -27,28 +30,28 @@ use Rattle.iset.specs.declared.Map.{Map}
 -- rows of a table; after the last one a call is accepted
 pub data Rows : Type 1 where
   accept : Rows
-  refuse : ℕ → Type 0 → Rows → Rows
+  refuse : (number : ℕ) (condition : Type 0) (rows : Rows) → Rows
 
--- A call that answers the number k, 0 where it is not refused, does so exactly as the rows say: it answers a row's number exactly if the row's
--- condition holds and that of no row before it.
-abbrev pub Exactly : Rows → ℕ → Type 0
+-- A call that answers the number k, 0 where it is not refused, does so exactly as the rows say: it
+-- answers a row's number exactly if the row's condition holds and that of no row before it.
+abbrev pub Exactly : (rows : Rows) (number : ℕ) → Type 0
 Exactly accept k = k ≡ 0
 Exactly (refuse number P rows) k = ((k ≡ number) ↔ P) × ((P → ⊥) → Exactly rows k)
 
 -- 1: "count .. above capacity"
-abbrev pub NoRoom : Map → List ℕ → List ℕ → Type 0
+abbrev pub NoRoom : (map : Map) (words colours : List ℕ) → Type 0
 NoRoom m W C = capacity (length W) (length C) < m .count
 
 -- 2: "the check fails"
-abbrev pub Broken : Map → List ℕ → List ℕ → Type 0
+abbrev pub Broken : (map : Map) (words colours : List ℕ) → Type 0
 Broken m W C = Passes W C (m .count) (m .root) → ⊥
 
 -- 3: "slot is not below count (U included)"
-abbrev pub NoSuch : Map → ℕ → Type 0
+abbrev pub NoSuch : (map : Map) (slot : ℕ) → Type 0
 NoSuch m s = m .count ≤ s
 
 -- 4: "neither bound is Unbounded, and lo > hi, or lo = hi unless both are Included"
-abbrev pub BadRange : Bound → Bound → Type 0
+abbrev pub BadRange : (low high : Bound) → Type 0
 BadRange (Included a) (Included b) = b < a
 BadRange (Included a) (Excluded b) = b ≤ a
 BadRange (Included a) Unbounded = ⊥
@@ -58,11 +61,13 @@ BadRange (Excluded a) Unbounded = ⊥
 BadRange Unbounded y = ⊥
 
 -- 5: "a given interval has start >= end"
-abbrev pub BadInterval : ℕ → ℕ → Type 0
+abbrev pub BadInterval : (start stop : ℕ) → Type 0
 BadInterval start stop = stop ≤ start
 
--- 7: "cursor has no form below"; a lookup for an interval begins at the highest equal node, and has no held form where there is none
-abbrev pub BadCursor : Map → List ℕ → List ℕ → Query → Cursor → Type 0
+-- 7: "cursor has no form below"; a lookup for an interval begins at the highest equal node, and has
+-- no held form where there is none
+abbrev pub BadCursor : (map : Map) (words colours : List ℕ) (query : Query) (cursor : Cursor)
+    → Type 0
 BadCursor m W C (Overlap q) c =
     (c ≡ fresh (m .root) → ⊥) × (c ≡ ended → ⊥) × ((P : Passes W C (m .count) (m .root)) → Held (P .tree) c → ⊥)
 BadCursor m W C (Exact x) c =
@@ -70,17 +75,19 @@ BadCursor m W C (Exact x) c =
     × ((P : Passes W C (m .count) (m .root)) (h : Highest W x (P .tree) (beginning m W (Exact x)))
     → Held (node (h .left) (beginning m W (Exact x)) (h .right)) c → ⊥)
 
--- 9: "drain limit above the output's length"; and document 02, item 8: "0 means the output's length, so 9 cannot occur for it"
-abbrev pub ShortOutput : ℕ → ℕ → Type 0
+-- 9: "drain limit above the output's length"; and document 02, item 8: "0 means the output's
+-- length, so 9 cannot occur for it"
+abbrev pub ShortOutput : (limit places : ℕ) → Type 0
 ShortOutput zero places = ⊥
 ShortOutput (suc k) places = places < suc k
 
 -- "the check by itself 1, 2"
-abbrev pub checkRows : Map → List ℕ → List ℕ → Rows
+abbrev pub checkRows : (map : Map) (words colours : List ℕ) → Rows
 checkRows m W C = refuse 1 (NoRoom m W C) (refuse 2 (Broken m W C) accept)
 
--- "build 8, 1, 5, 6"; 8: "build input length not a multiple of 3"; 1: "entries to build .. above capacity"; 6: "build input falls somewhere"
-abbrev pub buildRows : List ℕ → List ℕ → List ℕ → Rows
+-- "build 8, 1, 5, 6"; 8: "build input length not a multiple of 3"; 1: "entries to build .. above
+-- capacity"; 6: "build input falls somewhere"
+abbrev pub buildRows : (words colours triples : List ℕ) → Rows
 buildRows W C S =
     refuse 8 (length S % 3 ≡ 0 → ⊥)
     (refuse 1 (capacity (length W) (length C) < length S / 3)
@@ -88,27 +95,29 @@ buildRows W C S =
     (refuse 6 ((k : ℕ) × (suc k < length S / 3) × (NotAfter (intervalOf S k) (intervalOf S (suc k)) → ⊥)) accept)))
 
 -- "remove 1, 2, 3"
-abbrev pub removeRows : Map → List ℕ → List ℕ → ℕ → Rows
+abbrev pub removeRows : (map : Map) (words colours : List ℕ) (slot : ℕ) → Rows
 removeRows m W C s = refuse 1 (NoRoom m W C) (refuse 2 (Broken m W C) (refuse 3 (NoSuch m s) accept))
 
--- document 02: "NoRoom now when count has reached capacity, .. with a count above capacity also 1", then 2, 5
-abbrev pub insertRows : Map → List ℕ → List ℕ → Entry → Rows
+-- document 02: "NoRoom now when count has reached capacity, .. with a count above capacity also 1",
+-- then 2, 5
+abbrev pub insertRows : (map : Map) (words colours : List ℕ) (entry : Entry) → Rows
 insertRows m W C e =
     refuse 1 (capacity (length W) (length C) ≤ m .count) (refuse 2 (Broken m W C) (refuse 5 (BadInterval (e .start) (e .end)) accept))
 
 -- the fresh cursor of an exact lookup: 1, 2, 5
-abbrev pub startRows : Map → List ℕ → List ℕ → Interval → Rows
+abbrev pub startRows : (map : Map) (words colours : List ℕ) (interval : Interval) → Rows
 startRows m W C x = refuse 1 (NoRoom m W C) (refuse 2 (Broken m W C) (refuse 5 (BadInterval (x .start) (x .end)) accept))
 
 -- "overlap step 1, 2, 4, 7; exact step 1, 2, 5, 7"
-abbrev pub stepRows : Map → List ℕ → List ℕ → Query → Cursor → Rows
+abbrev pub stepRows : (map : Map) (words colours : List ℕ) (query : Query) (cursor : Cursor) → Rows
 stepRows m W C (Overlap q) c =
     refuse 1 (NoRoom m W C) (refuse 2 (Broken m W C) (refuse 4 (BadRange (q .lo) (q .hi)) (refuse 7 (BadCursor m W C (Overlap q) c) accept)))
 stepRows m W C (Exact x) c =
     refuse 1 (NoRoom m W C) (refuse 2 (Broken m W C) (refuse 5 (BadInterval (x .start) (x .end)) (refuse 7 (BadCursor m W C (Exact x) c) accept)))
 
 -- "drain as its step, then 9"
-abbrev pub drainRows : Map → List ℕ → List ℕ → Query → Cursor → ℕ → ℕ → Rows
+abbrev pub drainRows : (map : Map) (words colours : List ℕ) (query : Query) (cursor : Cursor)
+    (limit places : ℕ) → Rows
 drainRows m W C (Overlap q) c limit places =
     refuse 1 (NoRoom m W C) (refuse 2 (Broken m W C) (refuse 4 (BadRange (q .lo) (q .hi)) (refuse 7 (BadCursor m W C (Overlap q) c)
     (refuse 9 (ShortOutput limit places) accept))))
@@ -116,59 +125,62 @@ drainRows m W C (Exact x) c limit places =
     refuse 1 (NoRoom m W C) (refuse 2 (Broken m W C) (refuse 5 (BadInterval (x .start) (x .end)) (refuse 7 (BadCursor m W C (Exact x) c)
     (refuse 9 (ShortOutput limit places) accept))))
 
--- document 02, item 5: "as the drain without 7, and 9 last where the output is shorter than the map's count"
-abbrev pub plainRows : Map → List ℕ → List ℕ → Query → ℕ → Rows
+-- document 02, item 5: "as the drain without 7, and 9 last where the output is shorter than the
+-- map's count"
+abbrev pub plainRows : (map : Map) (words colours : List ℕ) (query : Query) (places : ℕ) → Rows
 plainRows m W C (Overlap q) places =
     refuse 1 (NoRoom m W C) (refuse 2 (Broken m W C) (refuse 4 (BadRange (q .lo) (q .hi)) (refuse 9 (places < m .count) accept)))
 plainRows m W C (Exact x) places =
     refuse 1 (NoRoom m W C) (refuse 2 (Broken m W C) (refuse 5 (BadInterval (x .start) (x .end)) (refuse 9 (places < m .count) accept)))
 
 -- 10, BadBit, one by one. "length (or `from_elem` length) above bytes × 8"
-abbrev pub TooLong : List ℕ → ℕ → Type 0
+abbrev pub TooLong : (bytes : List ℕ) (len : ℕ) → Type 0
 TooLong bytes len = bitsOf (length bytes) < len
 
 -- "bit at or past the length"
-abbrev pub PastLength : ℕ → ℕ → Type 0
+abbrev pub PastLength : (len place : ℕ) → Type 0
 PastLength len i = len ≤ i
 
--- "push with no byte left"; and a length of 2^64 - 1 has no next one that is a 64-bit number (docs/DECISIONS.md, Bits)
-abbrev pub NoByteLeft : List ℕ → ℕ → Type 0
+-- "push with no byte left"; and a length of 2^64 - 1 has no next one that is a 64-bit number
+-- (docs/DECISIONS.md, Bits)
+abbrev pub NoByteLeft : (bytes : List ℕ) (len : ℕ) → Type 0
 NoByteLeft bytes len = bitsOf (length bytes) ≤ len
 
-abbrev pub NoNextLength : ℕ → Type 0
+abbrev pub NoNextLength : (len : ℕ) → Type 0
 NoNextLength len = 18446744073709551615 ≤ len
 
 -- "pop or state mark of nothing; .. a state test of nothing", by the length or the levels
-abbrev pub Nothing : ℕ → Type 0
+abbrev pub Nothing : (number : ℕ) → Type 0
 Nothing k = k ≡ 0
 
 -- "push .. on a stack of 32 levels"; "any stack call on more than 32 levels"
-abbrev pub Full : ActionStack → Type 0
+abbrev pub Full : (stack : ActionStack) → Type 0
 Full s = s .levels ≡ 32
 
-abbrev pub TooDeep : ActionStack → Type 0
+abbrev pub TooDeep : (stack : ActionStack) → Type 0
 TooDeep s = 32 < s .levels
 
 -- a bit vector's `get`, `set` and `swap_remove` of bit i; its `push`; its `pop`; `from_elem`
-abbrev pub bitRows : List ℕ → ℕ → ℕ → Rows
+abbrev pub bitRows : (bytes : List ℕ) (len place : ℕ) → Rows
 bitRows bytes len i = refuse 10 (TooLong bytes len ⊎ PastLength len i) accept
 
-abbrev pub pushRows : List ℕ → ℕ → Rows
+abbrev pub pushRows : (bytes : List ℕ) (len : ℕ) → Rows
 pushRows bytes len = refuse 10 (TooLong bytes len ⊎ (NoByteLeft bytes len ⊎ NoNextLength len)) accept
 
-abbrev pub popRows : List ℕ → ℕ → Rows
+abbrev pub popRows : (bytes : List ℕ) (len : ℕ) → Rows
 popRows bytes len = refuse 10 (TooLong bytes len ⊎ Nothing len) accept
 
-abbrev pub fromElemRows : List ℕ → ℕ → Rows
+abbrev pub fromElemRows : (bytes : List ℕ) (len : ℕ) → Rows
 fromElemRows bytes len = refuse 10 (TooLong bytes len) accept
 
--- a stack's `push`; its `pop`, its marks (`go_left`, `make_match`, `go_right`) and its tests (`can_go_left`, `can_match`, `can_go_right`);
--- `is_empty`. The calls on the record have the same rules.
-abbrev pub stackPushRows : ActionStack → Rows
+-- a stack's `push`; its `pop`, its marks (`go_left`, `make_match`, `go_right`) and its tests
+-- (`can_go_left`, `can_match`, `can_go_right`); `is_empty`. The calls on the record have the same
+-- rules.
+abbrev pub stackPushRows : (stack : ActionStack) → Rows
 stackPushRows s = refuse 10 (Full s ⊎ TooDeep s) accept
 
-abbrev pub topRows : ActionStack → Rows
+abbrev pub topRows : (stack : ActionStack) → Rows
 topRows s = refuse 10 (Nothing (s .levels) ⊎ TooDeep s) accept
 
-abbrev pub isEmptyRows : ActionStack → Rows
+abbrev pub isEmptyRows : (stack : ActionStack) → Rows
 isEmptyRows s = refuse 10 (TooDeep s) accept

@@ -1,5 +1,8 @@
--- A lookup on an unchanged store, by public calls one after the other, each from the cursor that the last one answered: steps and drains in any
--- mixture, drains with any limit and any output.
+-- A lookup on an unchanged store, by public calls one after the other, each from the cursor that
+-- the last one answered: steps and drains in any mixture, drains with any limit and any output.
+-- Letters: m map, W words, C colours, n count, x call or interval, r rest, i moves, h highest equal
+--   node, k slot, s slot, q query or range, c cursor, a answer, t tree, p test of a slot, l calls,
+--   d output
 use mathlib.Core.Path.{_≡_}
 use mathlib.Core.Bool.{Bool, cond}
 use mathlib.Core.List.{List, [], _∷_, _++_}
@@ -31,10 +34,11 @@ use Rattle.iset.specs.declared.Map.{Map}
 -- a call of a lookup: `Map::step`, or `Map::drain` with a limit and an output
 pub data Ask : Type 0 where
   step : Ask
-  drain : ℕ → List ℕ → Ask
+  drain : (limit : ℕ) (out : List ℕ) → Ask
 
--- What a call gives: its refusal's number, 0 for none; the slots handed out, in order, for a drain the first places of its output, as many as it
--- answers hits; the nodes entered, in order, read off the list of its states; the count that it answers; the next cursor.
+-- What a call gives: its refusal's number, 0 for none; the slots handed out, in order, for a drain
+-- the first places of its output, as many as it answers hits; the nodes entered, in order, read off
+-- the list of its states; the count that it answers; the next cursor.
 pub record Given : Type 0 where
   pub no : ℕ
   pub slots : List ℕ
@@ -42,7 +46,8 @@ pub record Given : Type 0 where
   pub entered : ℕ
   pub next : Cursor
 
-abbrev pub given : Map → List ℕ → List ℕ → Query → Cursor → Ask → Given
+abbrev pub given : (map : Map) (words colours : List ℕ) (query : Query) (cursor : Cursor)
+    (call : Ask) → Given
 given m W C q c step =
     let a : StepAnswer = stepCall m W C q c in
     record {
@@ -63,14 +68,16 @@ given m W C q c (drain limit out) =
       next = a .next;
     }
 
--- the calls of a list, from the cursor c: all slots handed out, all nodes entered, the sum of the counts, the last cursor
+-- the calls of a list, from the cursor c: all slots handed out, all nodes entered, the sum of the
+-- counts, the last cursor
 pub record Run : Type 0 where
   pub slots : List ℕ
   pub nodes : List ℕ
   pub entered : ℕ
   pub next : Cursor
 
-abbrev pub run : Map → List ℕ → List ℕ → Query → Cursor → List Ask → Run
+abbrev pub run : (map : Map) (words colours : List ℕ) (query : Query) (cursor : Cursor)
+    (calls : List Ask) → Run
 run m W C q c [] = record { slots = []; nodes = []; entered = 0; next = c }
 run m W C q c (x ∷ l) =
     let a : Given = given m W C q c x in
@@ -78,16 +85,16 @@ run m W C q c (x ∷ l) =
     record { slots = a .slots ++ r .slots; nodes = a .nodes ++ r .nodes; entered = a .entered + r .entered; next = r .next }
 
 -- 9 for a drain whose output does not hold its limit, else 0
-abbrev pub short : Ask → ℕ
+abbrev pub short : (call : Ask) → ℕ
 short step = 0
 short (drain limit out) = cond (ltb (length out) (limitOf limit (length out))) 9 0
 
 -- how many hits a call may hand out
-abbrev pub wanted : Ask → ℕ
+abbrev pub wanted : (call : Ask) → ℕ
 wanted step = 1
 wanted (drain limit out) = cond (ltb (length out) (limitOf limit (length out))) 0 (limitOf limit (length out))
 
-abbrev pub total : List Ask → ℕ
+abbrev pub total : (calls : List Ask) → ℕ
 total [] = 0
 total (x ∷ l) = wanted x + total l
 
@@ -103,31 +110,36 @@ pub record Sound (m : Map) (W C : List ℕ) (q : Query) (c : Cursor) (x : Ask) :
   pub low : (i : ℕ) → after W (m .count) (rules W (m .count) q) i c .levels ≤ 32
 
 -- of each call of a list
-abbrev pub AllSound : Map → List ℕ → List ℕ → Query → Cursor → List Ask → Type 0
+abbrev pub AllSound : (map : Map) (words colours : List ℕ) (query : Query) (cursor : Cursor)
+    (calls : List Ask) → Type 0
 AllSound m W C q c [] = Unit {0}
 AllSound m W C q c (x ∷ l) = Sound m W C q c x × AllSound m W C q (given m W C q c x .next) l
 
 -- each output of a list holds its drain's limit
-abbrev pub Hold : List Ask → Type 0
+abbrev pub Hold : (calls : List Ask) → Type 0
 Hold [] = Unit {0}
 Hold (step ∷ l) = Hold l
 Hold (drain limit out ∷ l) = (limitOf limit (length out) ≤ length out) × Hold l
 
 -- and no call is refused
-abbrev pub NoneRefused : Map → List ℕ → List ℕ → Query → Cursor → List Ask → Type 0
+abbrev pub NoneRefused : (map : Map) (words colours : List ℕ) (query : Query) (cursor : Cursor)
+    (calls : List Ask) → Type 0
 NoneRefused m W C q c [] = Unit {0}
 NoneRefused m W C q c (x ∷ l) = (given m W C q c x .no ≡ 0) × NoneRefused m W C q (given m W C q c x .next) l
 
--- A lookup for q by the calls of l, one after the other from the cursor c. `found` lists the slots that are looked for, in tree order; `named` lists
--- the nodes that the entered rule names, in the order in which the walk enters them.
+-- A lookup for q by the calls of l, one after the other from the cursor c. `found` lists the slots
+-- that are looked for, in tree order; `named` lists the nodes that the entered rule names, in the
+-- order in which the walk enters them.
 pub record Lookup (m : Map) (W C : List ℕ) (q : Query) (c : Cursor) (found named : List ℕ) (l : List Ask) : Type 0 where
   -- each call as above; none is refused if every output holds its drain's limit
   pub sound : AllSound m W C q c l
   pub none-refused : Hold l → NoneRefused m W C q c l
-  -- the hits of all calls together: before the end the first of `found`, at the end exactly all of them
+  -- the hits of all calls together: before the end the first of `found`, at the end exactly all of
+  -- them
   pub slots-first : run m W C q c l .slots ≡ take (total l) found
   pub slots-all : run m W C q c l .next ≡ ended → run m W C q c l .slots ≡ found
-  -- the nodes entered in all calls together: before the end the first of `named`, at the end exactly all of them
+  -- the nodes entered in all calls together: before the end the first of `named`, at the end
+  -- exactly all of them
   pub nodes-first : (rest : List ℕ) × (run m W C q c l .nodes ++ rest ≡ named)
   pub nodes-all : run m W C q c l .next ≡ ended → run m W C q c l .nodes ≡ named
   -- the sum of the answered counts is the number of these nodes
@@ -136,11 +148,12 @@ pub record Lookup (m : Map) (W C : List ℕ) (q : Query) (c : Cursor) (found nam
   pub ends : length found < total l → run m W C q c l .next ≡ ended
 
 -- each slot below n stands in `found` once if p says so, and else not at all
-abbrev pub OnceEach : ℕ → (ℕ → Bool) → List ℕ → Type 0
+abbrev pub OnceEach : (count : ℕ) (test : ℕ → Bool) (found : List ℕ) → Type 0
 OnceEach n p found = (s : ℕ) → s < n → times s found ≡ cond (p s) 1 0
 
--- Demand 3: "An overlap lookup from fresh to end on an unchanged checked store of height h hands out exactly the intersecting entries, in tree order,
--- once each; the nodes it enters are exactly those the pruning rules name, at most h + t·h·(h-1)/2, t the entries that meet or touch; h ≤ 32".
+-- Demand 3: "An overlap lookup from fresh to end on an unchanged checked store of height h hands
+-- out exactly the intersecting entries, in tree order, once each; the nodes it enters are exactly
+-- those the pruning rules name, at most h + t·h·(h-1)/2, t the entries that meet or touch; h ≤ 32".
 -- The tree of the store is t.
 pub record OverlapRun (m : Map) (W C : List ℕ) (q : Span) (t : Tree) (l : List Ask) : Type 0 where
   pub lookup : Lookup m W C (Overlap q) (fresh (m .root)) (filter (meets W q) (tree.slots t)) (entered (overlapRule W q) t) l
@@ -149,12 +162,14 @@ pub record OverlapRun (m : Map) (W C : List ℕ) (q : Span) (t : Tree) (l : List
   pub bound : length (run m W C (Overlap q) (fresh (m .root)) l .nodes) ≤ height t + touching W q t * (height t * (height t - 1)) / 2
   pub low : height t ≤ 32
 
--- "Exact lookup starts at the highest equal node, U if none": it starts at the slot k and goes through the tree u.
+-- "Exact lookup starts at the highest equal node, U if none": it starts at the slot k and goes
+-- through the tree u.
 pub data Begins (W : List ℕ) (x : Interval) (t : Tree) (k : ℕ) : Tree → Type 0 where
   at-highest : (h : Highest W x t k) → Begins W x t k (node (h .left) k (h .right))
   no-equal : k ≡ U → filter (equals W x) (tree.slots t) ≡ [] → Begins W x t k leaf
 
--- The same of an exact lookup, from the cursor that `Map::fresh_exact` answers: the equal entries, and the nodes from the highest equal one on.
+-- The same of an exact lookup, from the cursor that `Map::fresh_exact` answers: the equal entries,
+-- and the nodes from the highest equal one on.
 pub record ExactRun (m : Map) (W C : List ℕ) (x : Interval) (t : Tree) (l : List Ask) : Type 0 where
   pub below : Tree
   pub begins : Begins W x t (beginning m W (Exact x)) below

@@ -1,4 +1,5 @@
 -- Public calls one after the other, each on the map that the last one answered.
+-- Letters: S state, x call, l triples or calls, s slot, e entry, c change, a answer
 use mathlib.Core.List.{List, [], _∷_}
 use Prim.Native.Nat.{ℕ}
 use Rattle.words.specs.declared.node.Entry.{Entry}
@@ -10,9 +11,9 @@ use Rattle.iset.specs.declared.Map.{Map}
 
 -- the calls that write: of any list, any slot, any entry
 pub data Call : Type 0 where
-  build : List ℕ → Call
-  remove : ℕ → Call
-  insert : Entry → Call
+  build : (triples : List ℕ) → Call
+  remove : (slot : ℕ) → Call
+  insert : (entry : Entry) → Call
 
 -- a map with the words and the colours that it stands in
 pub record State : Type 0 where
@@ -21,34 +22,34 @@ pub record State : Type 0 where
   pub colours : List ℕ
 
 -- the map that a call answers, with what it leaves
-abbrev pub left : {A : Type 0} → (A → Map) → Change A → State
+abbrev pub left : {A : Type 0} → (map : A → Map) (change : Change A) → State
 left map c = record { map = map (c .answer); words = c .words; colours = c .colours }
 
-abbrev pub built : Change BuildAnswer → State
+abbrev pub built : (change : Change BuildAnswer) → State
 built = left (λ (a : BuildAnswer). a .map)
 
-abbrev pub removed : Change RemoveAnswer → State
+abbrev pub removed : (change : Change RemoveAnswer) → State
 removed = left (λ (a : RemoveAnswer). a .map)
 
-abbrev pub inserted : Change InsertAnswer → State
+abbrev pub inserted : (change : Change InsertAnswer) → State
 inserted = left (λ (a : InsertAnswer). a .map)
 
 -- after a call, refused or not
-abbrev pub answered : State → Call → State
+abbrev pub answered : (state : State) (call : Call) → State
 answered S (build l) = built (buildCall (S .words) (S .colours) l)
 answered S (remove s) = removed (removeCall (S .map) (S .words) (S .colours) s)
 answered S (insert e) = inserted (insertCall (S .map) (S .words) (S .colours) e)
 
-abbrev pub allAnswered : State → List Call → State
+abbrev pub allAnswered : (state : State) (calls : List Call) → State
 allAnswered S [] = S
 allAnswered S (x ∷ l) = allAnswered (answered S x) l
 
 -- the same by the opened calls, which do not run the check; a build has none
-abbrev pub openAnswered : State → Call → State
+abbrev pub openAnswered : (state : State) (call : Call) → State
 openAnswered S (build l) = answered S (build l)
 openAnswered S (remove s) = removed (openRemoveCall (S .map) (S .words) (S .colours) s)
 openAnswered S (insert e) = inserted (openInsertCall (S .map) (S .words) (S .colours) e)
 
-abbrev pub allOpenAnswered : State → List Call → State
+abbrev pub allOpenAnswered : (state : State) (calls : List Call) → State
 allOpenAnswered S [] = S
 allOpenAnswered S (x ∷ l) = allOpenAnswered (openAnswered S x) l

@@ -1,6 +1,9 @@
 -- What a caller in another language gets of a public call: the number that an export returns, its
 -- answer's numbers, in the order in which docs/DRIVE.md prints them, and what it leaves in each
 -- lent slice.
+-- Letters: m map, W words, C colours, A places of the answer, a answer of the call, R reply,
+--   s step, p pairs, n number, b known (whether each bound has a kind), k change or output,
+--   l slices, S triples, e entry, x interval, q query, c cursor
 use mathlib.Core.Bool.{Bool, true, cond}
 use mathlib.Core.List.{List, [], _∷_}
 use Prim.Native.Nat.{ℕ}
@@ -34,55 +37,61 @@ pub record Exit : Type 0 where
   pub answer : List ℕ
   pub slices : List (List ℕ)
 
-abbrev pub exit : ℕ → List ℕ → List (List ℕ) → Exit
+abbrev pub exit : (number : ℕ) (places : List ℕ) (slices : List (List ℕ)) → Exit
 exit n A l = record { number = n; answer = A; slices = l }
 
 -- An export has two refusals of its own, before those of the call, which is not made then. 101,
 -- ShortAnswer: the answer A has fewer places than there are numbers. 102, BadBound: a bound has no
 -- kind. So b says whether each bound has one; without a range it is true.
-unfoldable pub number : Bool → List ℕ → Reply → ℕ
+unfoldable pub number : (known : Bool) (places : List ℕ) (reply : Reply) → ℕ
 number b A R = cond (ltb (length A) (length (R .numbers))) 101 (cond b (R .no) 102)
 
--- the answer at exit: "Nothing lent changes" where anything is refused; places past the numbers stay
-unfoldable pub handed : Bool → List ℕ → Reply → List ℕ
+-- the answer at exit: "Nothing lent changes" where anything is refused; places past the numbers
+-- stay
+unfoldable pub handed : (known : Bool) (places : List ℕ) (reply : Reply) → List ℕ
 handed b A R = cond (eqb (number b A R) 0) (filled (R .numbers) A) A
 
 -- the other slices at exit: as the call leaves them, or as they were where it is not made
-unfoldable pub left : Bool → List ℕ → Reply → List (List ℕ) → List (List ℕ) → List (List ℕ)
+unfoldable pub left : (known : Bool) (places : List ℕ) (reply : Reply) (old new : List (List ℕ))
+    → List (List ℕ)
 left b A R old new = cond (ltb (length A) (length (R .numbers))) old (cond b new old)
 
-abbrev pub exitOf : Bool → List ℕ → Reply → List (List ℕ) → List (List ℕ) → Exit
+abbrev pub exitOf : (known : Bool) (places : List ℕ) (reply : Reply) (old new : List (List ℕ))
+    → Exit
 exitOf b A R old new = exit (number b A R) (handed b A R) (left b A R old new)
 
 -- of a call that writes nothing but its answer; of one that writes the store; of one that writes an
 -- output
-abbrev pub answerExit : Bool → List ℕ → Reply → Exit
+abbrev pub answerExit : (known : Bool) (places : List ℕ) (reply : Reply) → Exit
 answerExit b A R = exitOf b A R [] []
 
-abbrev pub changeExit : {K : Type 0} → (K → Reply) → List ℕ → List ℕ → List ℕ → Change K → Exit
+abbrev pub changeExit : {K : Type 0} → (reply : K → Reply) (places words colours : List ℕ)
+    (change : Change K) → Exit
 changeExit reply A W C k = exitOf true A (reply (k .answer)) (W ∷ C ∷ []) (k .words ∷ k .colours ∷ [])
 
-abbrev pub outputExit : {K : Type 0} → (K → Reply) → Bool → List ℕ → List ℕ → Output K → Exit
+abbrev pub outputExit : {K : Type 0} → (reply : K → Reply) (known : Bool) (places out : List ℕ)
+    (output : Output K) → Exit
 outputExit reply b A out k = exitOf b A (reply (k .answer)) (out ∷ []) (k .output ∷ [])
 
-abbrev pub cursorOf : ℕ → ℕ → ℕ → Cursor
+abbrev pub cursorOf : (slot levels bits : ℕ) → Cursor
 cursorOf slot levels bits = record { slot = slot; levels = levels; bits = bits }
 
 -- a build: the new map
-abbrev pub mapNumbers : Map → List ℕ
+abbrev pub mapNumbers : (map : Map) → List ℕ
 mapNumbers m = m .count ∷ m .root ∷ []
 
-abbrev pub buildReply : BuildAnswer → Reply
+abbrev pub buildReply : (answer : BuildAnswer) → Reply
 buildReply a = record { no = a .no; numbers = mapNumbers (a .map) }
 
--- a removal: "removed value, new map, and up to three pairs (old slot, new slot)", and how many hulls changed
-abbrev pub removedNumbers : ℕ → Map → Pairs → ℕ → List ℕ
+-- a removal: "removed value, new map, and up to three pairs (old slot, new slot)", and how many
+-- hulls changed
+abbrev pub removedNumbers : (value : ℕ) (map : Map) (pairs : Pairs) (reach : ℕ) → List ℕ
 removedNumbers value m p reach =
     value ∷ m .count ∷ m .root
     ∷ p .first .old ∷ p .first .new ∷ p .second .old ∷ p .second .new ∷ p .third .old ∷ p .third .new ∷ reach ∷ []
 
 -- the pairs among those numbers
-abbrev pub pairsOf : List ℕ → Pairs
+abbrev pub pairsOf : (places : List ℕ) → Pairs
 pairsOf A =
     record {
       first = record { old = getD A 3 0; new = getD A 4 0 };
@@ -90,68 +99,74 @@ pairsOf A =
       third = record { old = getD A 7 0; new = getD A 8 0 };
     }
 
-abbrev pub removeReply : RemoveAnswer → Reply
+abbrev pub removeReply : (answer : RemoveAnswer) → Reply
 removeReply a = record { no = a .no; numbers = removedNumbers (a .value) (a .map) (a .pairs) (a .reach) }
 
 -- an insertion: the new map, the slot of the new entry, and how many hulls changed
-abbrev pub insertedNumbers : Map → ℕ → ℕ → List ℕ
+abbrev pub insertedNumbers : (map : Map) (slot reach : ℕ) → List ℕ
 insertedNumbers m slot reach = m .count ∷ m .root ∷ slot ∷ reach ∷ []
 
-abbrev pub insertReply : InsertAnswer → Reply
+abbrev pub insertReply : (answer : InsertAnswer) → Reply
 insertReply a = record { no = a .no; numbers = insertedNumbers (a .map) (a .slot) (a .reach) }
 
 -- a cursor: slot, levels, bits
-abbrev pub cursorNumbers : Cursor → List ℕ
+abbrev pub cursorNumbers : (cursor : Cursor) → List ℕ
 cursorNumbers c = c .slot ∷ c .levels ∷ c .bits ∷ []
 
-abbrev pub freshReply : Cursor → Reply
+abbrev pub freshReply : (cursor : Cursor) → Reply
 freshReply c = record { no = 0; numbers = cursorNumbers c }
 
-abbrev pub startReply : StartAnswer → Reply
+abbrev pub startReply : (answer : StartAnswer) → Reply
 startReply a = record { no = a .no; numbers = cursorNumbers (a .cursor) }
 
--- a step: "a hit with its slot, or the end", whose slot is U, "with the next cursor and the nodes entered in this call"
-abbrev pub stepNumbers : ℕ → Cursor → ℕ → List ℕ
+-- a step: "a hit with its slot, or the end", whose slot is U, "with the next cursor and the nodes
+-- entered in this call"
+abbrev pub stepNumbers : (slot : ℕ) (next : Cursor) (entered : ℕ) → List ℕ
 stepNumbers slot next entered = slot ∷ next .slot ∷ next .levels ∷ next .bits ∷ entered ∷ []
 
-abbrev pub foundNumbers : Step → List ℕ
+abbrev pub foundNumbers : (step : Step) → List ℕ
 foundNumbers s = stepNumbers (answer s .slot) (answer s .next) (answer s .entered)
 
-abbrev pub stepReply : StepAnswer → Reply
+abbrev pub stepReply : (answer : StepAnswer) → Reply
 stepReply a = record { no = a .no; numbers = stepNumbers (a .slot) (a .next) (a .entered) }
 
 -- a drain: "the hits written, the sum entered and the next cursor"
-abbrev pub drainNumbers : ℕ → ℕ → Cursor → List ℕ
+abbrev pub drainNumbers : (hits entered : ℕ) (next : Cursor) → List ℕ
 drainNumbers hits entered next = hits ∷ entered ∷ cursorNumbers next
 
-abbrev pub drainReply : DrainAnswer → Reply
+abbrev pub drainReply : (answer : DrainAnswer) → Reply
 drainReply a = record { no = a .no; numbers = drainNumbers (a .hits) (a .entered) (a .next) }
 
 -- a plain lookup: the hits written, the entries gone through
-abbrev pub plainNumbers : ℕ → ℕ → List ℕ
+abbrev pub plainNumbers : (hits entered : ℕ) → List ℕ
 plainNumbers hits entered = hits ∷ entered ∷ []
 
-abbrev pub plainReply : PlainAnswer → Reply
+abbrev pub plainReply : (answer : PlainAnswer) → Reply
 plainReply a = record { no = a .no; numbers = plainNumbers (a .hits) (a .entered) }
 
 -- the exports of the public calls
-abbrev pub buildExit : List ℕ → List ℕ → List ℕ → List ℕ → Exit
+abbrev pub buildExit : (places words colours triples : List ℕ) → Exit
 buildExit A W C S = changeExit buildReply A W C (buildCall W C S)
 
-abbrev pub removeExit : List ℕ → Map → List ℕ → List ℕ → ℕ → Exit
+abbrev pub removeExit : (places : List ℕ) (map : Map) (words colours : List ℕ) (slot : ℕ) → Exit
 removeExit A m W C slot = changeExit removeReply A W C (removeCall m W C slot)
 
-abbrev pub insertExit : List ℕ → Map → List ℕ → List ℕ → Entry → Exit
+abbrev pub insertExit : (places : List ℕ) (map : Map) (words colours : List ℕ) (entry : Entry)
+    → Exit
 insertExit A m W C e = changeExit insertReply A W C (insertCall m W C e)
 
-abbrev pub startExit : List ℕ → Map → List ℕ → List ℕ → Interval → Exit
+abbrev pub startExit : (places : List ℕ) (map : Map) (words colours : List ℕ) (interval : Interval)
+    → Exit
 startExit A m W C x = answerExit true A (startReply (startCall m W C x))
 
-abbrev pub stepExit : Bool → List ℕ → Map → List ℕ → List ℕ → Query → Cursor → Exit
+abbrev pub stepExit : (known : Bool) (places : List ℕ) (map : Map) (words colours : List ℕ)
+    (query : Query) (cursor : Cursor) → Exit
 stepExit b A m W C q c = answerExit b A (stepReply (stepCall m W C q c))
 
-abbrev pub drainExit : Bool → List ℕ → Map → List ℕ → List ℕ → Query → Cursor → ℕ → List ℕ → Exit
+abbrev pub drainExit : (known : Bool) (places : List ℕ) (map : Map) (words colours : List ℕ)
+    (query : Query) (cursor : Cursor) (limit : ℕ) (out : List ℕ) → Exit
 drainExit b A m W C q c limit out = outputExit drainReply b A out (drainCall m W C q c limit out)
 
-abbrev pub plainExit : Bool → List ℕ → Map → List ℕ → List ℕ → Query → List ℕ → Exit
+abbrev pub plainExit : (known : Bool) (places : List ℕ) (map : Map) (words colours : List ℕ)
+    (query : Query) (out : List ℕ) → Exit
 plainExit b A m W C q out = outputExit plainReply b A out (plainCall m W C q out)

@@ -1,4 +1,6 @@
 -- What the exports of the calls on an opened store return and leave, in the form of crate capi's.
+-- Letters: m map, W words, C colours, A places of the answer, b known (whether each bound has a
+--   kind), q query, c cursor, e entry, x interval
 use mathlib.Core.Bool.{Bool, true}
 use mathlib.Core.List.{List}
 use Prim.Native.Nat.{ℕ}
@@ -13,20 +15,25 @@ use Rattle.iset.specs.Plain.{openPlainCall}
 use Rattle.iset.specs.declared.Map.{Map}
 use Rattle.iset_c.specs.Replies.{Exit, answerExit, changeExit, outputExit, removeReply, insertReply, startReply, stepReply, drainReply, plainReply}
 
-abbrev pub openRemoveExit : List ℕ → Map → List ℕ → List ℕ → ℕ → Exit
+abbrev pub openRemoveExit : (places : List ℕ) (map : Map) (words colours : List ℕ) (slot : ℕ) → Exit
 openRemoveExit A m W C slot = changeExit removeReply A W C (openRemoveCall m W C slot)
 
-abbrev pub openInsertExit : List ℕ → Map → List ℕ → List ℕ → Entry → Exit
+abbrev pub openInsertExit : (places : List ℕ) (map : Map) (words colours : List ℕ) (entry : Entry)
+    → Exit
 openInsertExit A m W C e = changeExit insertReply A W C (openInsertCall m W C e)
 
-abbrev pub openStartExit : List ℕ → Map → List ℕ → List ℕ → Interval → Exit
+abbrev pub openStartExit : (places : List ℕ) (map : Map) (words colours : List ℕ)
+    (interval : Interval) → Exit
 openStartExit A m W C x = answerExit true A (startReply (openStartCall m W C x))
 
-abbrev pub openStepExit : Bool → List ℕ → Map → List ℕ → List ℕ → Query → Cursor → Exit
+abbrev pub openStepExit : (known : Bool) (places : List ℕ) (map : Map) (words colours : List ℕ)
+    (query : Query) (cursor : Cursor) → Exit
 openStepExit b A m W C q c = answerExit b A (stepReply (openStepCall m W C q c))
 
-abbrev pub openDrainExit : Bool → List ℕ → Map → List ℕ → List ℕ → Query → Cursor → ℕ → List ℕ → Exit
+abbrev pub openDrainExit : (known : Bool) (places : List ℕ) (map : Map) (words colours : List ℕ)
+    (query : Query) (cursor : Cursor) (limit : ℕ) (out : List ℕ) → Exit
 openDrainExit b A m W C q c limit out = outputExit drainReply b A out (openDrainCall m W C q c limit out)
 
-abbrev pub openPlainExit : Bool → List ℕ → Map → List ℕ → List ℕ → Query → List ℕ → Exit
+abbrev pub openPlainExit : (known : Bool) (places : List ℕ) (map : Map) (words colours : List ℕ)
+    (query : Query) (out : List ℕ) → Exit
 openPlainExit b A m W C q out = outputExit plainReply b A out (openPlainCall m W C q out)

@@ -1,4 +1,6 @@
 -- One move of the Rust's `move_to_next`, by the stack's calls alone.
+-- Letters: W words, s stack, t told (what a stack call answers) or stack, k slot, Q rules of the
+--   lookup, c cursor
 use mathlib.Core.Bool.{Bool, true, false, cond, _&&_}
 use mathlib.Core.List.{List}
 use Prim.Native.Nat.{ℕ}
@@ -13,27 +15,29 @@ use Rattle.iter.specs.declared.Cursor.{Cursor}
 
 -- the cursor after a move; or the refusal of a stack call, by its number
 pub data Moved : Type 0 where
-  to : Cursor → Moved
-  refused : ℕ → Moved
+  to : (cursor : Cursor) → Moved
+  refused : (number : ℕ) → Moved
 
 -- what a stack call answered, taken apart: what it tested; or the stack after it
-abbrev pub asking : Told → (Bool → Moved) → Moved
+abbrev pub asking : (told : Told) (rest : Bool → Moved) → Moved
 asking t rest = cond (eqb (t .no) 0) (rest (t .yes)) (refused (t .no))
 
-abbrev pub having : Told → (ActionStack → Moved) → Moved
+abbrev pub having : (told : Told) (rest : ActionStack → Moved) → Moved
 having t rest = cond (eqb (t .no) 0) (rest (t .stack)) (refused (t .no))
 
--- a level is pushed, and the walk goes to the slot k; or it is popped, and the walk goes to the slot k, to U where the stack is empty then
-abbrev pub pushTo : ℕ → ActionStack → Moved
+-- a level is pushed, and the walk goes to the slot k; or it is popped, and the walk goes to the
+-- slot k, to U where the stack is empty then
+abbrev pub pushTo : (slot : ℕ) (stack : ActionStack) → Moved
 pushTo k s = having (pushRule s) (λ t. to (cursor k t))
 
-abbrev pub popTo : ℕ → ActionStack → Moved
+abbrev pub popTo : (slot : ℕ) (stack : ActionStack) → Moved
 popTo k s = having (popRule s) (λ t. asking (isEmptyRule t) (λ empty. to (cursor (cond empty U k) t)))
 
--- `if stack.can_go_left()`: `go_left`, and if the left rule says so, `push`, and to the left child. `if stack.can_match()`: `make_match`.
--- `if stack.can_go_right() && should_go_right(..)`: `go_right`, `push`, and to the right child; `else`: `pop`, and to the parent. A rule says so only
+-- `if stack.can_go_left()`: `go_left`, and if the left rule says so, `push`, and to the left child.
+-- `if stack.can_match()`: `make_match`. `if stack.can_go_right() && should_go_right(..)`:
+-- `go_right`, `push`, and to the right child; `else`: `pop`, and to the parent. A rule says so only
 -- where the stack takes one more level (`deeper`).
-unfoldable pub moveByCalls : List ℕ → Rules → Cursor → Moved
+unfoldable pub moveByCalls : (words : List ℕ) (rules : Rules) (cursor : Cursor) → Moved
 moveByCalls W Q c =
     let s : ActionStack = stackOf c in
     let goLeft : Moved = having (goLeftRule s) (λ t. cond (deeper Q true c) (pushTo (kid W true (c .slot)) t) (to (cursor (c .slot) t))) in

@@ -1,4 +1,5 @@
 -- Overlap lookup: the entries that intersect a range.
+-- Letters: W words, n count, b bound, a child of s, s slot, q range
 use mathlib.Core.Bool.{Bool, true, false}
 use mathlib.Core.List.{List}
 use Prim.Native.Nat.{ℕ}
@@ -10,21 +11,22 @@ use Rattle.words.specs.declared.interval.Span.{Span}
 use Rattle.iter.specs.Walk.{Rules}
 
 -- the entry of slot s intersects the range
-unfoldable pub meets : List ℕ → Span → ℕ → Bool
+unfoldable pub meets : (words : List ℕ) (range : Span) (slot : ℕ) → Bool
 meets W q s = intersects q (interval W s)
 
 -- `should_go_left`: "if the child's hull end >= lo .. or lo is Unbounded"
-abbrev pub shouldGoLeft : List ℕ → ℕ → Bound → ℕ → Bool
+abbrev pub shouldGoLeft : (words : List ℕ) (count : ℕ) (bound : Bound) (slot : ℕ) → Bool
 shouldGoLeft W n b s = onLink n (kid W true s) (λ a. reached b (hi W a)) false
 
 -- `should_go_right`: "if its hull start is <= hi, < hi, or hi is Unbounded, in that order of kinds"
-abbrev pub shouldGoRight : List ℕ → ℕ → Bound → ℕ → Bool
+abbrev pub shouldGoRight : (words : List ℕ) (count : ℕ) (bound : Bound) (slot : ℕ) → Bool
 shouldGoRight W n b s = onLink n (kid W false s) (λ a. admits b (lo W a)) false
 
 -- at `true` the left side
-unfoldable pub shouldGo : List ℕ → ℕ → Span → Bool → ℕ → Bool
+unfoldable pub shouldGo : (words : List ℕ) (count : ℕ) (range : Span) (side : Bool) (slot : ℕ)
+    → Bool
 shouldGo W n q true s = shouldGoLeft W n (q .lo) s
 shouldGo W n q false s = shouldGoRight W n (q .hi) s
 
-abbrev pub overlap : List ℕ → ℕ → Span → Rules
+abbrev pub overlap : (words : List ℕ) (count : ℕ) (range : Span) → Rules
 overlap W n q = record { go = shouldGo W n q; match = meets W q }

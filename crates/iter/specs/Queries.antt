@@ -1,4 +1,5 @@
 -- What is looked for, and what a walk for it goes by.
+-- Letters: W words, n count, x interval asked for, q range
 use mathlib.Core.List.{List}
 use Prim.Native.Nat.{ℕ}
 use Rattle.iter.specs.declared.rules.Query.{Query}
@@ -7,6 +8,6 @@ use Rattle.iter.specs.Walk.{Rules}
 use Rattle.iter.specs.Overlap.{overlap}
 use Rattle.iter.specs.Exact.{exact}
 
-unfoldable pub rules : List ℕ → ℕ → Query → Rules
+unfoldable pub rules : (words : List ℕ) (count : ℕ) (query : Query) → Rules
 rules W n (Overlap q) = overlap W n q
 rules W n (Exact x) = exact W n x

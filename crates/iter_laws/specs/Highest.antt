@@ -1,4 +1,5 @@
 -- "Exact lookup starts at the highest equal node".
+-- Letters: W words, x interval asked for, t tree, k slot
 use mathlib.Core.Path.{_≡_}
 use mathlib.Core.Bool.{true}
 use mathlib.Core.List.{List, []}

@@ -1,4 +1,6 @@
 -- The input byte by byte.
+-- Letters: W words, C colours, s state or piece of the input, E entries (their numbers), b byte,
+--   d desk, t turn
 use mathlib.Core.Bool.{cond}
 use mathlib.Core.List.{List, foldl}
 use Prim.Native.Nat.{ℕ}
@@ -18,32 +20,32 @@ pub record Turn : Type 0 where
   pub line : Line
   pub desk : Desk
 
-abbrev pub turn : State → List ℕ → List ℕ → List ℕ → Turn
+abbrev pub turn : (state : State) (words colours entries : List ℕ) → Turn
 turn s W C E = record { line = s .line; desk = desk (s .work) W C E }
 
 abbrev pub begun : State
 begun = record { line = Start; work = Listing 0 }
 
 -- a line is complete
-abbrev pub lined : Turn → Desk
+abbrev pub lined : (turn : Turn) → Desk
 lined t = lineIn (endRule (t .line)) (t .desk)
 
 -- one byte, and a piece of the input
-unfoldable pub stepped : Turn → ℕ → Turn
+unfoldable pub stepped : (turn : Turn) (byte : ℕ) → Turn
 stepped t b = cond (eqb b 10) (record { line = Start; desk = lined t }) (record { line = byteRule (t .line) b; desk = t .desk })
 
-unfoldable pub fed : Turn → List ℕ → Turn
+unfoldable pub fed : (turn : Turn) (piece : List ℕ) → Turn
 fed t s = foldl stepped t s
 
 -- "the input's last LF may be missing"
-unfoldable pub lastLine : Turn → Desk
+unfoldable pub lastLine : (turn : Turn) → Desk
 lastLine t = cond (newRule (t .line)) (t .desk) (lined t)
 
 -- the end of the input
-abbrev pub settledDesk : Desk → Desk
+abbrev pub settledDesk : (desk : Desk) → Desk
 settledDesk d = onDesk (settledIn (d .entries) (change (d .work) (d .nodes) (d .colours))) (d .entries)
 
-abbrev pub ended : Turn → Desk
+abbrev pub ended : (turn : Turn) → Desk
 ended t = settledDesk (lastLine t)
 
 -- what is printed, in the lent buffer, with the memory as it is then
@@ -53,12 +55,12 @@ pub record End : Type 0 where
   pub colours : List ℕ
   pub entries : List ℕ
 
-abbrev pub finished : ℕ → List ℕ → List ℕ → List ℕ → List ℕ → End
+abbrev pub finished : (at : ℕ) (words colours entries out : List ℕ) → End
 finished at W C E out = record { page = page at out; nodes = W; colours = C; entries = E }
 
-abbrev pub printedOn : List ℕ → Desk → End
+abbrev pub printedOn : (out : List ℕ) (desk : Desk) → End
 printedOn out d =
     record { page = puts (page 0 out) (workText (d .work) (d .nodes)); nodes = d .nodes; colours = d .colours; entries = d .entries }
 
-abbrev pub finish : Turn → List ℕ → End
+abbrev pub finish : (turn : Turn) (out : List ℕ) → End
 finish t out = printedOn out (ended t)

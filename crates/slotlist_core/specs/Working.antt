@@ -1,4 +1,6 @@
 -- The lines' work in lent memory: node words, colour bytes, and the numbers of the entries.
+-- Letters: m map, W words, C colours, n count, r root, b end, E entries (their numbers), k slot,
+--   a start, c value, d desk, w work, h shelf, S triples
 use mathlib.Core.Bool.{Bool, false, cond}
 use mathlib.Core.List.{List, [], _∷_}
 use Prim.Native.Nat.{ℕ, _+_, _*_, _/_, min}
@@ -21,72 +23,72 @@ pub record Desk : Type 0 where
   pub colours : List ℕ
   pub entries : List ℕ
 
-abbrev pub desk : Work → List ℕ → List ℕ → List ℕ → Desk
+abbrev pub desk : (work : Work) (words colours entries : List ℕ) → Desk
 desk w W C E = record { work = w; nodes = W; colours = C; entries = E }
 
 -- "at most 256"; no more than the slice holds
-unfoldable pub roomFor : ℕ → ℕ → Bool
+unfoldable pub roomFor : (count len : ℕ) → Bool
 roomFor n len = cond (ltb n 256) (leb (n * 3 + 3) len) false
 
 -- an entry
-abbrev pub enteredWork : Work → ℕ → Work
+abbrev pub enteredWork : (work : Work) (len : ℕ) → Work
 enteredWork (Listing n) len = cond (roomFor n len) (Listing (n + 1)) (Refused 1)
 enteredWork (Held m) len = Refused 8
 enteredWork (Refused why) len = Refused why
 
-abbrev pub enteredList : Work → ℕ → ℕ → ℕ → List ℕ → List ℕ
+abbrev pub enteredList : (work : Work) (start end value : ℕ) (entries : List ℕ) → List ℕ
 enteredList (Listing n) a b c E = cond (roomFor n (length E)) (sets E (n * 3) (a ∷ b ∷ c ∷ [])) E
 enteredList (Held m) a b c E = E
 enteredList (Refused why) a b c E = E
 
 -- the numbers of n entries, of so many as the slice holds
-unfoldable pub listedIn : ℕ → List ℕ → List ℕ
+unfoldable pub listedIn : (count : ℕ) (entries : List ℕ) → List ℕ
 listedIn n E = take (min n (length E / 3) * 3) E
 
 -- what a call leads to, by its number and the map that it answered
-abbrev pub workLeft : ℕ → Map → Work
+abbrev pub workLeft : (why : ℕ) (map : Map) → Work
 workLeft why m = cond (eqb why 0) (Held m) (Refused why)
 
-abbrev pub buildLeft : Change BuildAnswer → Change Work
+abbrev pub buildLeft : (root : Change BuildAnswer) → Change Work
 buildLeft r = change (workLeft (r .answer .no) (r .answer .map)) (r .words) (r .colours)
 
-abbrev pub removeLeft : Change RemoveAnswer → Change Work
+abbrev pub removeLeft : (root : Change RemoveAnswer) → Change Work
 removeLeft r = change (workLeft (r .answer .no) (r .answer .map)) (r .words) (r .colours)
 
 -- the build of the list S; the removal of slot k
-unfoldable pub builtIn : List ℕ → List ℕ → List ℕ → Change Work
+unfoldable pub builtIn : (words colours triples : List ℕ) → Change Work
 builtIn W C S = buildLeft (buildCall W C S)
 
-unfoldable pub removalIn : Map → List ℕ → List ℕ → ℕ → Change Work
+unfoldable pub removalIn : (map : Map) (words colours : List ℕ) (slot : ℕ) → Change Work
 removalIn m W C k = removeLeft (removeCall m W C k)
 
-abbrev pub settledBy : List ℕ → Work → List ℕ → List ℕ → Change Work
+abbrev pub settledBy : (entries : List ℕ) (work : Work) (words colours : List ℕ) → Change Work
 settledBy E (Listing n) W C = builtIn W C (listedIn n E)
 settledBy E (Held m) W C = change (Held m) W C
 settledBy E (Refused why) W C = change (Refused why) W C
 
-abbrev pub settledIn : List ℕ → Change Work → Change Work
+abbrev pub settledIn : (entries : List ℕ) (shelf : Change Work) → Change Work
 settledIn E h = settledBy E (h .answer) (h .words) (h .colours)
 
-abbrev pub removedBy : ℕ → Work → List ℕ → List ℕ → Change Work
+abbrev pub removedBy : (slot : ℕ) (work : Work) (words colours : List ℕ) → Change Work
 removedBy k (Listing n) W C = change (Listing n) W C
 removedBy k (Held m) W C = removalIn m W C k
 removedBy k (Refused why) W C = change (Refused why) W C
 
-abbrev pub removedIn : ℕ → Change Work → Change Work
+abbrev pub removedIn : (slot : ℕ) (shelf : Change Work) → Change Work
 removedIn k h = removedBy k (h .answer) (h .words) (h .colours)
 
 -- any other line
-abbrev pub wrongIn : Work → Work
+abbrev pub wrongIn : (work : Work) → Work
 wrongIn (Listing n) = Refused 8
 wrongIn (Held m) = Refused 8
 wrongIn (Refused why) = Refused why
 
 -- one line more
-abbrev pub onDesk : Change Work → List ℕ → Desk
+abbrev pub onDesk : (shelf : Change Work) (entries : List ℕ) → Desk
 onDesk h E = desk (h .answer) (h .words) (h .colours) E
 
-unfoldable pub lineIn : Said → Desk → Desk
+unfoldable pub lineIn : (said : Said) (desk : Desk) → Desk
 lineIn (Entry a b c) d =
     desk (enteredWork (d .work) (length (d .entries))) (d .nodes) (d .colours) (enteredList (d .work) a b c (d .entries))
 lineIn (Remove k) d = onDesk (removedIn k (settledIn (d .entries) (change (d .work) (d .nodes) (d .colours)))) (d .entries)

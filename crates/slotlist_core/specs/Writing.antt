@@ -1,4 +1,5 @@
 -- Text in a lent buffer.
+-- Letters: m map, W words, n count, p page, b byte, s text
 use mathlib.Core.Bool.{cond}
 use mathlib.Core.List.{List, [], foldl}
 use Prim.Native.Nat.{ℕ, _+_, _/_}
@@ -11,18 +12,18 @@ use Rattle.slotlist_core.specs.declared.working.Work.{Work}
 use Rattle.slotlist_core.specs.declared.working.Work.the-variants.{Listing, Held, Refused}
 
 -- a byte, where there is room; a text
-unfoldable pub putByte : Page → ℕ → Page
+unfoldable pub putByte : (page : Page) (byte : ℕ) → Page
 putByte p b = cond (ltb (p .at) (length (p .out))) (page (p .at + 1) (set (p .out) (p .at) b)) p
 
-unfoldable pub puts : Page → List ℕ → Page
+unfoldable pub puts : (page : Page) (text : List ℕ) → Page
 puts p s = foldl putByte p s
 
 -- 1: "count .. above capacity"
-unfoldable pub heldText : Map → List ℕ → List ℕ
+unfoldable pub heldText : (map : Map) (words : List ℕ) → List ℕ
 heldText m W = cond (ltb (length W / 8) (m .count)) (refusalText 1) (mapText (m .count) (m .root) W)
 
 -- what is printed at the end, with the map's words W
-abbrev pub workText : Work → List ℕ → List ℕ
+abbrev pub workText : (work : Work) (words : List ℕ) → List ℕ
 workText (Listing n) W = []
 workText (Held m) W = heldText m W
 workText (Refused why) W = refusalText why

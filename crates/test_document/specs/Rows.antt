@@ -1,4 +1,7 @@
 -- A row of the table: what is asked of the public calls' rules, and what they tell.
+-- Letters: t store, s slot, e entry, q query, c pair or cursor or call, x interval, S triples,
+--   a old slot or pair or answer, d answer, k steps at most or slot, r row, b new slot or pair or
+--   byte, l pairs
 use mathlib.Core.Path.{_≡_}
 use mathlib.Core.Bool.{false, cond}
 use mathlib.Core.List.{List, [], _∷_}
@@ -29,44 +32,46 @@ use Rattle.test_document.specs.Stores.{buildIn, _plus_, treeOf, touched,
 
 -- a pair (old slot, new slot)
 infix 70 _to_
-abbrev pub _to_ : ℕ → ℕ → Pair
+abbrev pub _to_ : (old new : ℕ) → Pair
 _to_ a b = record { old = a; new = b }
 
 -- the three pairs from those that are used: "unused pairs are (U, U)"
-abbrev pub moved : List Pair → Pairs
+abbrev pub moved : (pairs : List Pair) → Pairs
 moved [] = record { first = none; second = none; third = none }
 moved (a ∷ []) = record { first = a; second = none; third = none }
 moved (a ∷ b ∷ []) = record { first = a; second = b; third = none }
 moved (a ∷ b ∷ c ∷ l) = record { first = a; second = b; third = c }
 
 -- the colour bytes, where there is one
-abbrev pub colours : ℕ → List ℕ
+abbrev pub colours : (byte : ℕ) → List ℕ
 colours b = b ∷ []
 
--- "Each step answers a hit with its slot, or the end, with .. the nodes entered in this call"; or it is refused, with the refusal's number
+-- "Each step answers a hit with its slot, or the end, with .. the nodes entered in this call"; or
+-- it is refused, with the refusal's number
 pub data Outcome : Type 0 where
-  hit : ℕ → Outcome
+  hit : (slot : ℕ) → Outcome
   end : Outcome
-  refused : ℕ → Outcome
+  refused : (number : ℕ) → Outcome
 
 infix 70 _entering_
 pub data Step : Type 0 where
-  _entering_ : Outcome → ℕ → Step
+  _entering_ : (outcome : Outcome) (count : ℕ) → Step
 
--- What is asked. A build has so many words and so many bytes, all of them 0. `rootRight` asks for the root's right link, `slot` for the eight
--- words of a slot. A lookup runs from its fresh cursor to the end; a step is its first step; a drain is one call, from a cursor, with a limit and
--- an output.
+-- What is asked. A build has so many words and so many bytes, all of them 0. `rootRight` asks for
+-- the root's right link, `slot` for the eight words of a slot. A lookup runs from its fresh cursor
+-- to the end; a step is its first step; a drain is one call, from a cursor, with a limit and an
+-- output.
 pub data Call : Type 0 where
-  build : ℕ → ℕ → List ℕ → Call
-  remove : State → ℕ → Call
-  insert : State → Entry → Call
-  rootRight : State → Call
-  slot : State → ℕ → Call
-  overlap : State → Bound → Bound → Call
-  step : State → Bound → Bound → Call
-  drain : State → Bound → Bound → Cursor → ℕ → List ℕ → Call
-  exact : State → Interval → Call
-  plain : State → Query → List ℕ → Call
+  build : (words bytes : ℕ) (triples : List ℕ) → Call
+  remove : (store : State) (slot : ℕ) → Call
+  insert : (store : State) (entry : Entry) → Call
+  rootRight : (store : State) → Call
+  slot : (store : State) (slot : ℕ) → Call
+  overlap : (store : State) (lo hi : Bound) → Call
+  step : (store : State) (lo hi : Bound) → Call
+  drain : (store : State) (lo hi : Bound) (cursor : Cursor) (limit : ℕ) (out : List ℕ) → Call
+  exact : (store : State) (interval : Interval) → Call
+  plain : (store : State) (query : Query) (out : List ℕ) → Call
 
 -- what a build or an insertion leaves; the tree says which node has which children
 pub record Left : Type 0 where
@@ -75,7 +80,8 @@ pub record Left : Type 0 where
   pub h : ℕ
   pub words : List ℕ
 
--- what a lookup finds: step by step, and by a drain with the limit 0, the slots that it writes and the nodes that it enters
+-- what a lookup finds: step by step, and by a drain with the limit 0, the slots that it writes and
+-- the nodes that it enters
 pub record Found : Type 0 where
   pub steps : List Step
   pub hits : List ℕ
@@ -86,31 +92,32 @@ pub record Limits : Type 0 where
   pub t : ℕ
   pub bound : ℕ
 
--- What is told. Of a build, a removal and an insertion: the answer, and what it leaves, of a removal the colour bytes. Of an overlap lookup: what is
--- found, t and the bound; of its first step: the whole answer; of a drain and of a plain lookup: the answer and the output. Of an exact lookup: the answer of
--- `fresh_exact`, and what is found from its cursor on.
+-- What is told. Of a build, a removal and an insertion: the answer, and what it leaves, of a
+-- removal the colour bytes. Of an overlap lookup: what is found, t and the bound; of its first
+-- step: the whole answer; of a drain and of a plain lookup: the answer and the output. Of an exact
+-- lookup: the answer of `fresh_exact`, and what is found from its cursor on.
 pub data Told : Type 0 where
-  built : BuildAnswer → Left → Told
-  removed : RemoveAnswer → List ℕ → Told
-  inserted : InsertAnswer → Left → Told
-  link : ℕ → Told
-  holds : List ℕ → Told
-  found : Found → Limits → Told
-  stepped : StepAnswer → Told
-  drained : DrainAnswer → List ℕ → Told
-  started : StartAnswer → Found → Told
-  looked : PlainAnswer → List ℕ → Told
+  built : (answer : BuildAnswer) (left : Left) → Told
+  removed : (answer : RemoveAnswer) (colours : List ℕ) → Told
+  inserted : (answer : InsertAnswer) (left : Left) → Told
+  link : (link : ℕ) → Told
+  holds : (words : List ℕ) → Told
+  found : (found : Found) (limits : Limits) → Told
+  stepped : (answer : StepAnswer) → Told
+  drained : (answer : DrainAnswer) (output : List ℕ) → Told
+  started : (answer : StartAnswer) (found : Found) → Told
+  looked : (answer : PlainAnswer) (output : List ℕ) → Told
 
 infix 68 _gives_
 pub data Row : Type 0 where
-  _gives_ : Call → Told → Row
+  _gives_ : (call : Call) (told : Told) → Row
 
 -- of a step's answer: what it is
-unfoldable pub outcome : StepAnswer → Outcome
+unfoldable pub outcome : (answer : StepAnswer) → Outcome
 outcome a = cond (eqb (a .no) 0) (cond (a .hit) (hit (a .slot)) end) (refused (a .no))
 
 -- the steps from a cursor on, up to the first that is no hit, and k at the most
-unfoldable pub stepsFrom : State → Query → ℕ → Cursor → List Step
+unfoldable pub stepsFrom : (store : State) (query : Query) (steps : ℕ) (cursor : Cursor) → List Step
 stepsFrom t q zero c = []
 stepsFrom t q (suc k) c =
     let a : StepAnswer = stepCall (t .map) (t .words) (t .colours) q c in
@@ -118,19 +125,19 @@ stepsFrom t q (suc k) c =
     (outcome a entering a .entered) ∷ cond (a .hit) rest []
 
 -- from a cursor on, with the limit 0 and an output of 64 places, more than the stores have entries
-unfoldable pub foundFrom : State → Query → Cursor → Found
+unfoldable pub foundFrom : (store : State) (query : Query) (cursor : Cursor) → Found
 foundFrom t q c =
     let d : Output DrainAnswer = drainCall (t .map) (t .words) (t .colours) q c 0 (replicate 64 0) in
     record { steps = stepsFrom t q (suc (t .map .count)) c; hits = take (d .answer .hits) (d .output); entered = d .answer .entered }
 
-abbrev pub span : Bound → Bound → Span
+abbrev pub span : (lo hi : Bound) → Span
 span lo hi = record { lo = lo; hi = hi }
 
-unfoldable pub leftIn : State → Left
+unfoldable pub leftIn : (store : State) → Left
 leftIn t = record { tree = treeOf t; bytes = t .colours; h = height (treeOf t); words = t .words }
 
 -- what the rules of the public calls tell
-unfoldable pub tell : Call → Told
+unfoldable pub tell : (call : Call) → Told
 tell (build words bytes S) = built (buildCall (replicate words 0) (replicate bytes 0) S .answer) (leftIn (buildIn words bytes S))
 tell (remove t s) =
     let r : Change RemoveAnswer = removeCall (t .map) (t .words) (t .colours) s in
@@ -154,9 +161,9 @@ tell (plain t q out) =
     looked (d .answer) (d .output)
 
 -- a row holds if the rules tell what it says; a table, if each of its rows holds
-abbrev pub Holds : Row → Type 0
+abbrev pub Holds : (row : Row) → Type 0
 Holds (c gives a) = tell c ≡ a
 
-abbrev pub Each : List Row → Type 0
+abbrev pub Each : (rows : List Row) → Type 0
 Each [] = Unit {0}
 Each (r ∷ rows) = Holds r × Each rows

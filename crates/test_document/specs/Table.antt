@@ -1,5 +1,7 @@
--- "Examples to hold it against": every case that is marked (*), in the document's order and beside its words, and what document 02 adds; and after
--- them cases of our own for what those leave open, worked out from the documents' words by tests/model.py.
+-- "Examples to hold it against": every case that is marked (*), in the document's order and beside
+-- its words, and what document 02 adds; and after them cases of our own for what those leave open,
+-- worked out from the documents' words by tests/model.py.
+-- Letters: a start, b end, v value, k count, s slot
 use mathlib.Core.Bool.{false}
 use mathlib.Core.List.{List, [], _∷_, _++_}
 use Prim.Native.Nat.{ℕ, zero, suc}
@@ -19,7 +21,8 @@ use Rattle.iset.specs.Sequence.{State}
 use Rattle.test_document.specs.Stores.{buildIn, _minus_, _plus_}
 use Rattle.test_document.specs.Rows.{Row, _gives_, _to_, moved, colours, _entering_, hit, end, build, remove, insert, rootRight, slot, overlap, step, drain, exact, plain, span, built, removed, inserted, link, holds, found, stepped, drained, started, looked}
 
--- "Store A, built from [10,20) 1, [10,30) 2, [25,40) 3, [40,50) 4, [45,60) 5", in 40 words and a byte
+-- "Store A, built from [10,20) 1, [10,30) 2, [25,40) 3, [40,50) 4, [45,60) 5", in 40 words and a
+-- byte
 abbrev pub listA : List ℕ
 listA = 10 ∷ 20 ∷ 1 ∷ 10 ∷ 30 ∷ 2 ∷ 25 ∷ 40 ∷ 3 ∷ 40 ∷ 50 ∷ 4 ∷ 45 ∷ 60 ∷ 5 ∷ []
 
@@ -38,7 +41,7 @@ unfoldable pub storeB : State
 storeB = buildIn 24 1 listB
 
 -- Store C, built from the 65 entries [0,1) 0, [1,2) 1, .. [64,65) 64
-abbrev pub units : ℕ → ℕ → List ℕ
+abbrev pub units : (start count : ℕ) → List ℕ
 units a zero = []
 units a (suc k) = a ∷ suc a ∷ a ∷ units (suc a) k
 
@@ -46,29 +49,30 @@ unfoldable pub storeC : State
 storeC = buildIn 520 9 (units 0 65)
 
 -- the slots from a on, k of them
-abbrev pub from : ℕ → ℕ → List ℕ
+abbrev pub from : (start count : ℕ) → List ℕ
 from a zero = []
 from a (suc k) = a ∷ from (suc a) k
 
 -- a node without children
-abbrev pub only : ℕ → Tree
+abbrev pub only : (slot : ℕ) → Tree
 only s = node leaf s leaf
 
 -- the interval [a, b)
 infix 70 _until_
-abbrev pub _until_ : ℕ → ℕ → Interval
+abbrev pub _until_ : (start end : ℕ) → Interval
 _until_ a b = record { start = a; end = b }
 
 -- the entry [a, b) v
-abbrev pub entry : ℕ → ℕ → ℕ → Entry
+abbrev pub entry : (start end value : ℕ) → Entry
 entry a b v = record { start = a; end = b; value = v }
 
-abbrev pub held : ℕ → ℕ → ℕ → Cursor
+abbrev pub held : (slot levels bits : ℕ) → Cursor
 held s levels bits = record { slot = s; levels = levels; bits = bits }
 
 abbrev pub table : List Row
 table =
-    -- "root 2; 2 has 1 and 4; 1 has left 0; 4 has left 3; colours 9; h = 3." A line of words a slot.
+    -- "root 2; 2 has 1 and 4; 1 has left 0; 4 has left 3; colours 9; h = 3." A line of words a
+    -- slot.
     build 40 1 listA gives built (record { no = 0; map = mapOf 5 2 }) (record {
       tree = node (node (only 0) 1 leaf) 2 (node (only 3) 4 leaf);
       bytes = colours 9;
@@ -89,7 +93,8 @@ table =
     -- "remove 4: value 5, no pairs, colours 1, the root's right link is 3."
     remove storeA 4 gives removed (record { no = 0; value = 5; map = mapOf 4 2; pairs = moved []; reach = 2 }) (colours 1) ∷
     rootRight (storeA minus 4) gives link 3 ∷
-    -- document 02, item 2: "The left, right and parent words of that slot become U; the other five stay 0."
+    -- document 02, item 2: "The left, right and parent words of that slot become U; the other five
+    -- stay 0."
     slot (storeA minus 4) 4 gives holds (0 ∷ 0 ∷ 0 ∷ 0 ∷ 0 ∷ U ∷ U ∷ U ∷ []) ∷
     -- "remove 5 or U: NoSuch."
     remove storeA 5 gives removed (record { no = refusalNumber NoSuch; value = 0; map = mapOf 5 2; pairs = moved []; reach = 0 }) (colours 9) ∷
@@ -149,7 +154,8 @@ table =
       h = 0;
       words = 0 ∷ 0 ∷ 0 ∷ 0 ∷ 0 ∷ 0 ∷ 0 ∷ 0 ∷ 0 ∷ 0 ∷ 0 ∷ 0 ∷ 0 ∷ 0 ∷ 0 ∷ 0 ∷ [];
     }) ∷
-    -- a drain of 2 into 3 places, and the next one: from [10,30) 2, which is held, was left, then returned
+    -- a drain of 2 into 3 places, and the next one: from [10,30) 2, which is held, was left, then
+    -- returned
     drain storeA Unbounded Unbounded (fresh 2) 2 (7 ∷ 7 ∷ 7 ∷ []) gives
     drained (record { no = 0; hits = 2; entered = 3; next = held 1 2 6 }) (0 ∷ 1 ∷ 7 ∷ []) ∷
     drain storeA Unbounded Unbounded (held 1 2 6) 4 (7 ∷ 7 ∷ 7 ∷ 7 ∷ []) gives
@@ -183,10 +189,12 @@ table =
           45 ∷ 60 ∷ 5 ∷ 40 ∷ 60 ∷ 3 ∷ U ∷ 2 ∷
           5 ∷ 6 ∷ 6 ∷ 5 ∷ 6 ∷ U ∷ U ∷ 0 ∷ [];
     }) ∷
-    -- "Its colour bit keeps what the repair left in it": the emptied slot 5 was red, and its bit stays 1
+    -- "Its colour bit keeps what the repair left in it": the emptied slot 5 was red, and its bit
+    -- stays 1
     remove (storeA′ plus entry 25 30 6) 5 gives removed (record { no = 0; value = 6; map = mapOf 5 2; pairs = moved []; reach = 0 }) (colours 41) ∷
-    -- document 02, item 8: "0 means the output's length, so 9 cannot occur for it"; it stops at the third hit, which is the root, and comes to
-    -- the end where there is a place more than there are hits
+    -- document 02, item 8: "0 means the output's length, so 9 cannot occur for it"; it stops at the
+    -- third hit, which is the root, and comes to the end where there is a place more than there are
+    -- hits
     drain storeA Unbounded Unbounded (fresh 2) 0 (7 ∷ 7 ∷ 7 ∷ []) gives
     drained (record { no = 0; hits = 3; entered = 3; next = held 2 1 1 }) (0 ∷ 1 ∷ 2 ∷ []) ∷
     drain storeA Unbounded Unbounded (fresh 2) 0 (replicate 6 7) gives
@@ -194,15 +202,18 @@ table =
     -- "An output of length 0 gets no hits and its cursor back unmoved."
     drain storeA Unbounded Unbounded (fresh 2) 0 [] gives drained (record { no = 0; hits = 0; entered = 0; next = fresh 2 }) [] ∷
     drain storeA Unbounded Unbounded (held 1 2 6) 0 [] gives drained (record { no = 0; hits = 0; entered = 0; next = held 1 2 6 }) [] ∷
-    -- "a lookup with 70 hits looked complete": with 65 hits 0 hands out all of them; 64 stops at the 64th, in slot 63, as 0 did before
+    -- "a lookup with 70 hits looked complete": with 65 hits 0 hands out all of them; 64 stops at
+    -- the 64th, in slot 63, as 0 did before
     drain storeC Unbounded Unbounded (fresh 32) 0 (replicate 66 7) gives
     drained (record { no = 0; hits = 65; entered = 65; next = ended }) (from 0 65 ++ (7 ∷ [])) ∷
     drain storeC Unbounded Unbounded (fresh 32) 64 (replicate 66 7) gives
     drained (record { no = 0; hits = 64; entered = 64; next = held 63 5 511 }) (from 0 64 ++ (7 ∷ 7 ∷ [])) ∷
-    -- document 02, item 5: the plain lookup goes through all five entries, and has the one hit that the pruned one has
+    -- document 02, item 5: the plain lookup goes through all five entries, and has the one hit that
+    -- the pruned one has
     plain storeA (Overlap (span (Included 20) (Excluded 25))) (7 ∷ 7 ∷ 7 ∷ 7 ∷ 7 ∷ 7 ∷ []) gives
     looked (record { no = 0; hits = 1; entered = 5 }) (1 ∷ 7 ∷ 7 ∷ 7 ∷ 7 ∷ 7 ∷ []) ∷
-    -- three equal entries, in tree order; and 9, "where the output is shorter than the map's count", though no entry is equal
+    -- three equal entries, in tree order; and 9, "where the output is shorter than the map's
+    -- count", though no entry is equal
     plain storeB (Exact (5 until 9)) (7 ∷ 7 ∷ 7 ∷ []) gives looked (record { no = 0; hits = 3; entered = 3 }) (0 ∷ 1 ∷ 2 ∷ []) ∷
     plain storeB (Exact (5 until 8)) (7 ∷ 7 ∷ []) gives looked (record { no = refusalNumber ShortOutput; hits = 0; entered = 0 }) (7 ∷ 7 ∷ []) ∷
     []

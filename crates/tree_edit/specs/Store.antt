@@ -1,4 +1,5 @@
 -- A store: what a change of the map works on.
+-- Letters: W words, C colours, r root
 use mathlib.Core.List.{List}
 use Prim.Native.Nat.{ℕ}
 
@@ -8,5 +9,5 @@ pub record Store : Type 0 where
   pub colours : List ℕ
   pub root : ℕ
 
-abbrev pub store : List ℕ → List ℕ → ℕ → Store
+abbrev pub store : (words colours : List ℕ) (root : ℕ) → Store
 store W C r = record { words = W; colours = C; root = r }

@@ -1,4 +1,6 @@
 -- What the insertion of an entry owes, to a store that passes the check and has room.
+-- Letters: W words, C colours, n count, r root, e entry, x interval, S store, p parent link,
+--   t store, s slot, a slot, l slots
 use mathlib.Core.Path.{_≡_}
 use mathlib.Core.Logic.{_≢_}
 use mathlib.Core.Bool.{true, not}
@@ -20,18 +22,20 @@ use Rattle.tree_in_rule.specs.Descent.{descend}
 use Rattle.tree_in_rule.specs.InsertRepair.{insertRepair}
 use Rattle.tree_in_rule.specs.Insert.{own, hungWords, hungRoot}
 
--- those whose interval is not greater than x, by start, then end; and those whose interval is greater
-abbrev pub notGreater : List ℕ → Interval → List ℕ → List ℕ
+-- those whose interval is not greater than x, by start, then end; and those whose interval is
+-- greater
+abbrev pub notGreater : (words : List ℕ) (interval : Interval) (slots : List ℕ) → List ℕ
 notGreater W x l = filter (λ a. le (interval W a) x) l
 
-abbrev pub greater : List ℕ → Interval → List ℕ → List ℕ
+abbrev pub greater : (words : List ℕ) (interval : Interval) (slots : List ℕ) → List ℕ
 greater W x l = filter (λ a. not (le (interval W a) x)) l
 
 pub record InsertionGuarantee (W C : List ℕ) (n r : ℕ) (e : Entry) (before : Passes W C n r) (S : Store) : Type 0 where
   -- the store passes again, with one entry more
   pub passes : Passes (S .words) (S .colours) (n + 1) (S .root)
-  -- in tree order the old slots are those of entries that are not greater than the new one and then those of the greater ones; slot n, which
-  -- the new one is in, comes in between, after all its equals
+  -- in tree order the old slots are those of entries that are not greater than the new one and then
+  -- those of the greater ones; slot n, which the new one is in, comes in between, after all its
+  -- equals
   pub slots-were : slots (before .tree) ≡ notGreater W (own e) (slots (before .tree)) ++ greater W (own e) (slots (before .tree))
   pub slots-are : slots (passes .tree) ≡ notGreater W (own e) (slots (before .tree)) ++ (n ∷ greater W (own e) (slots (before .tree)))
   -- and so the entries
@@ -41,8 +45,10 @@ pub record InsertionGuarantee (W C : List ℕ) (n r : ℕ) (e : Entry) (before :
   pub entries-kept : (a : ℕ) → a ≢ n → entry (S .words) a ≡ entry W a
   pub entry-new : entry (S .words) n ≡ e
 
--- the rule with other numbers: so many links down at the most, so many rounds of the repair, so many hulls up
-unfoldable pub insertWith : ℕ → ℕ → ℕ → List ℕ → List ℕ → ℕ → ℕ → Entry → Store
+-- the rule with other numbers: so many links down at the most, so many rounds of the repair, so
+-- many hulls up
+unfoldable pub insertWith : (levels rounds height : ℕ) (words colours : List ℕ) (count root : ℕ)
+    (entry : Entry) → Store
 insertWith levels rounds height W C n r e =
     let p : ℕ = onLink n r (λ s. descend n levels W (own e) s) U in
     let t : Store = ending (insertRepair (n + 1) rounds (hungWords W n e p) (paint C n true) (hungRoot n r p) n) in

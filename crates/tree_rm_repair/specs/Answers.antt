@@ -3,7 +3,7 @@ use Rattle.tree_rm_rule.specs.Repair as rule
 use Rattle.tree_rm_repair.specs.declared.Case.{Case}
 use Rattle.tree_rm_repair.specs.declared.Case.the-variants.{One, Two, Three, Four, Five}
 
-abbrev pub caseOf : Case → rule.Case
+abbrev pub caseOf : (case : Case) → rule.Case
 caseOf One = rule.one
 caseOf Two = rule.two
 caseOf Three = rule.three

@@ -1,4 +1,5 @@
 -- What the removal of the entry of slot s owes, to a store that passes the check.
+-- Letters: W words, C colours, n count, r root, s slot asked for, R removal
 use mathlib.Core.Path.{_≡_}
 use mathlib.Core.List.{List, map}
 use Prim.Native.Nat.{ℕ, _-_}

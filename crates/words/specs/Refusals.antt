@@ -3,7 +3,7 @@ use Prim.Native.Nat.{ℕ}
 use Rattle.words.specs.declared.refusal.Refusal.{Refusal}
 use Rattle.words.specs.declared.refusal.Refusal.the-variants.{NoRoom, Broken, NoSuch, BadRange, BadInterval, NotSorted, BadCursor, BadList, ShortOutput, BadBit}
 
-abbrev pub refusalNumber : Refusal → ℕ
+abbrev pub refusalNumber : (refusal : Refusal) → ℕ
 refusalNumber NoRoom = 1
 refusalNumber Broken = 2
 refusalNumber NoSuch = 3
