@@ -33,7 +33,7 @@ def prose(text):
             continue
         code = line.startswith('    ') and (blank or code)
         blank = not line.strip()
-        if not (fenced or code or line.startswith('|')):
+        if not (fenced or code or line.lstrip().startswith('|')):
             yield number, line
 
 
