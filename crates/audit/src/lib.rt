@@ -29,15 +29,21 @@ pub struct Node {
     pub red: bool,
 }
 
-// What the check finds of a subtree: whether it is right, its nodes, the blacks on its way down to the left, whether its
-// root is red, its first and its last interval, the hull of its root.
+// What the check finds of a subtree.
 pub struct Found {
+    // every clause holds in the subtree
     pub ok: bool,
+    // number of nodes
     pub size: u64,
+    // black nodes on the leftmost path
     pub blacks: u64,
+    // the subtree's root is red
     pub red: bool,
+    // the first interval in tree order
     pub first: Interval,
+    // the last interval in tree order
     pub last: Interval,
+    // the hull that the root has
     pub hull: Interval,
 }
 
