@@ -59,7 +59,7 @@ impl Map {
         Checked::sound_if(slot < self.count, Refusal::NoSuch)
     }
 
-    // The removal of a slot that is there.
+    // The removal of a slot below the count.
     fn remove_slot(self, nodes: &mut [u64], colours: &mut [u8], slot: u64) -> Removal
         requires { ⌜ (self .count * 8 ≤ length (now nodes)) × (self .count ≤ length (now colours) * 8) × (slot < self .count) ⌝ }
         ensures { λ r. ⌜ (removePaper self r ≡ removeDone self (removeRule (now (nodes .entry)) (now (colours .entry)) (self .count) (self .root) slot) (removeReach self (now (nodes .entry)) (now (colours .entry)) slot))

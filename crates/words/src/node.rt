@@ -17,7 +17,7 @@ pub struct Entry {
     pub value: u64,
 }
 
-// How many entries so many node words and colour bytes can hold.
+// How many entries `words` node words and `bytes` colour bytes can hold.
 pub fn capacity(words: usize, bytes: usize) -> u64
     ensures { λ r. ⌜ r ≡ room words bytes ⌝ }
 {
