@@ -5,8 +5,8 @@ use lines::output;
 use slots::State;
 use slots::memory;
 
-// Reads to the end of the input. The loop is bounded by 2^64 rounds, so that the proof can show that
-// it ends.
+// Reads to the end of the input. The loop is bounded by 2^64 rounds, so that the proof can show
+// that it ends.
 fn feed_all(input: &mut [u8], nodes: &mut [u64], colours: &mut [u8], entries: &mut [u64]) -> State {
     let mut state = State::new();
     let mut turns = u64::MAX;
