@@ -70,7 +70,7 @@ pub fn put_bit(bytes: &mut [u8], i: usize, v: bool)
     bytes[at] = with_bit(bytes[at], i % 8, v);
 }
 
-// How many bytes so many bits take.
+// How many bytes `bit_len` bits take.
 fn get_byte_len(bit_len: usize) -> usize
     ensures { λ r. ⌜ r ≡ bytesFor «bit_len» ⌝ }
 {

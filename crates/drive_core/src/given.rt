@@ -1,7 +1,7 @@
 // The numbers of a line, and whether a line fits a request.
 ghost use Prim.Native.Nat.{_≤_};
 
-// Number k of the line, 0 where there is none.
+// Number k of the line, 0 if there is none.
 pub(crate) fn number(numbers: &[u64], k: usize) -> u64 {
     if k < numbers.len() { numbers[k] } else { 0 }
 }
@@ -10,7 +10,8 @@ pub(crate) fn place(numbers: &[u64], k: usize) -> usize {
     number(numbers, k) as usize
 }
 
-// Number k as the length of a list. No line has as many as 65,536 numbers, so that any greater one fits as little.
+// Number k as the length of a list. A line has fewer than 65,536 numbers, so a larger length can
+// never match.
 pub(crate) fn size(numbers: &[u64], k: usize) -> usize
     ensures { λ r. ⌜ r ≤ 65536 ⌝ }
 {
@@ -46,7 +47,8 @@ fn matched(name: &[u8], k: usize, b: u8) -> usize {
     usize::MAX
 }
 
-// Which of the names it is, each of which ends in a semicolon; how many there are where it is none.
+// Which of the names it is, each of which ends in a semicolon; how many there are if it is not one
+// of them.
 pub(crate) fn which(name: &[u8], names: &[u8]) -> usize {
     let mut n = 0;
     let mut k = 0;

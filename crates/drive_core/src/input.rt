@@ -83,7 +83,7 @@ fn complete(line: Line, b: Byte, name: &[u8], numbers: &mut [u64]) -> Asked {
 }
 
 // Reads a line, and leaves its numbers. The last one may lack its end; an empty line asks for nothing, so that one is always
-// there. A proved loop has to end, so it counts its turns down from a number that no run uses up.
+// there. The loop is bounded by 2^64 rounds, so that the proof can show that it ends.
 fn line(input: &mut [u8], p: Place, name: &mut [u8], numbers: &mut [u64]) -> Asked {
     let mut line = Line::new();
     let mut b = next(input, p.at, p.end);

@@ -47,8 +47,8 @@ fn answered(s: State, call: Call, numbers: &[u64], words: &mut [u64], out: &mut 
     }
 }
 
-// Answers line after line to the end of the input, and says how much of the output is still in its buffer. As in
-// input::line, the turns are counted down.
+// Answers line after line to the end of the input, and returns how much of the output is still in
+// its buffer. The loop is bounded by 2^64 rounds, so that the proof can show that it ends.
 fn session(input: &mut [u8], numbers: &mut [u64], words: &mut [u64], out: &mut [u8]) -> usize {
     let mut s = State::new();
     let mut place = Place { at: 0, end: 0 };

@@ -17,7 +17,8 @@ pub enum Built {
     Refused(Refusal),
 }
 
-// The first refusal of a list that is to be built into so many words and bytes. Each test looks at the whole list.
+// The first refusal of a list that is to be built into `words` node words and `bytes` colour bytes.
+// Each test visits the whole list.
 fn test_list(list: &[u64], words: usize, bytes: usize) -> Checked
     ensures { λ r. ⌜ checkNumber r ≡ buildNumber words bytes (now (list .entry)) ⌝ }
 {

@@ -59,7 +59,7 @@ impl Map {
         Checked::sound_if(slot < self.count, Refusal::NoSuch)
     }
 
-    // The removal of a slot that is there.
+    // The removal of a slot below the count.
     fn remove_slot(self, nodes: &mut [u64], colours: &mut [u8], slot: u64) -> Removal
         requires { ⌜ Holds (now nodes) (self .count) × HoldsBits (now colours) (self .count) × (slot < self .count) ⌝ }
         ensures { λ r. ⌜ change (removeAnswer self r) (now (nodes .exit)) (now (colours .exit))

@@ -37,7 +37,8 @@ fn is_on_side(nodes: &[u64], state: u64, parent: u64, slot: u64) -> bool
     ((state == WAS_LEFT) & (left == slot)) | ((state == WAS_RIGHT) & (right == slot))
 }
 
-// So many links up from the slot is `start`, and each level says by which side the way comes.
+// Whether `start` is `links` links up from the slot, and each level says by which side the way
+// comes.
 fn is_way(nodes: &[u64], count: u64, start: u64, bits: u64, links: u64, slot: u64) -> bool
     requires { ⌜ Holds (now nodes) count × (slot < count) × (links ≤ 32) ⌝ }
     ensures { λ r. ⌜ r ≡ formed (now (nodes .entry)) count start bits links slot ⌝ }

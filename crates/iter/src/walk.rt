@@ -30,7 +30,7 @@ fn side_mark(left_side: bool) -> u64
     if left_side { WAS_LEFT } else { WAS_RIGHT }
 }
 
-// Where the walk goes up to with so many levels.
+// Where the walk goes up to: nowhere from the last level.
 fn slot_above(levels: u64, parent: u64) -> u64
     ensures { λ r. ⌜ r ≡ cond (eqb levels 1) U parent ⌝ }
 {
@@ -156,7 +156,7 @@ impl Cursor {
         self.state() == ENTERED
     }
 
-    // What the place counts among the nodes entered.
+    // 1 if this move entered a node, else 0.
     pub fn counted(self, count: u64) -> u64
         requires { ⌜ Placed count self ⌝ }
         ensures { λ r. ⌜ (r ≡ counts count self) × (r ≤ 1) ⌝ }

@@ -1,10 +1,12 @@
-// Prints the map of the entries and removals on standard input, slot by slot, or the first refusal (document 01, `slotlist`).
+// Prints the map of the entries and removals on standard input by slot, or the first refusal.
+// docs/RULES.md has the rule of its input and output.
 use libc::STDIN_FILENO;
 use lines::output;
 use slotlist_core::State;
 use slotlist_core::memory;
 
-// Reads to the end of the input. A proved loop has to end, so it counts its turns down from a number that no run uses up.
+// Reads to the end of the input. The loop is bounded by 2^64 rounds, so that the proof can show
+// that it ends.
 fn feed_all(input: &mut [u8], nodes: &mut [u64], colours: &mut [u8], entries: &mut [u64]) -> State {
     let mut state = State::new();
     let mut turns = u64::MAX;

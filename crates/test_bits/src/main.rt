@@ -49,7 +49,7 @@ fn show(a: Answer, given: usize, bytes: &[u8]) {
     }
 }
 
-// Each call, with the first n bytes lent to it; there are at least so many.
+// Each call, with the first n bytes lent to it, if there are that many.
 fn get_of(bytes: &[u8], n: usize, v: BitVec, i: usize) -> Answer {
     if n <= bytes.len() {
         v.get(&bytes[..n], i)

@@ -1,5 +1,5 @@
-// Many inputs of `slotlist` in one run. Each is a line `LENGTH PIECE`, then so many bytes, which are fed in pieces of so many;
-// what slotlist prints of them is printed.
+// Runs many inputs of `slotlist` and prints what slotlist prints of each. An input is a line
+// `LENGTH PIECE`, then LENGTH bytes, which are fed in pieces of PIECE bytes.
 use libc::STDIN_FILENO;
 use lines::input::Digit;
 use lines::input::digit_of;

@@ -46,8 +46,8 @@ fn rotate(
     }
 }
 
-// The parent, on that side of the grandparent, comes up over it: the parent becomes black and the grandparent red. So many
-// hulls as `before` says changed in this round already.
+// The parent, on that side of the grandparent, comes up over it: the parent becomes black and the
+// grandparent red. In this round `before` hulls changed already.
 fn rotate_outer(
     nodes: &mut [u64],
     colours: &mut [u8],

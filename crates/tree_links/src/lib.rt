@@ -29,7 +29,7 @@ pub struct Repaired {
     pub reach: u64,
 }
 
-// A child that is there gets `parent` for its parent.
+// Sets the child's parent link, if `child` is a slot.
 pub fn adopt_child(nodes: &mut [u64], count: u64, child: u64, parent: u64)
     requires { ⌜ Holds (now nodes) count ⌝ }
     ensures { λ _. ⌜ now (nodes .exit) ≡ adopt count (now (nodes .entry)) child parent ⌝ }
@@ -49,7 +49,7 @@ fn replace_child(nodes: &mut [u64], parent: u64, old: u64, new: u64)
     put_child(nodes, parent, is_left, new);
 }
 
-// The same for a parent that is there.
+// Like `replace_child`, for a parent link that may lead nowhere.
 pub fn replace_child_at(nodes: &mut [u64], count: u64, parent: u64, old: u64, new: u64)
     requires { ⌜ Holds (now nodes) count ⌝ }
     ensures { λ _. ⌜ now (nodes .exit) ≡ redirect count (now (nodes .entry)) parent old new ⌝ }

@@ -164,7 +164,8 @@ fn cut_leaf(nodes: &mut [u64], count: u64, root: u64, rm: u64) -> Cut
     }
 }
 
-// Slot rm is vacated. A child that is there gives its interval and value to rm and is cut off instead.
+// Slot rm is vacated. If there is a child, it gives its interval and value to rm and is cut off
+// instead.
 fn cut_off(nodes: &mut [u64], count: u64, root: u64, rm: u64, child: u64) -> Cut
     requires { ⌜ Holds (now nodes) count × (rm < count) ⌝ }
     ensures { λ r. ⌜ (r .slot ≡ emptied count rm child) × (r .slot < count) × (r .root ≡ cutRoot count root (above count (now (nodes .entry)) rm child)) × (now (nodes .exit) ≡ cutWords count (handed count (now (nodes .entry)) rm child) (above count (now (nodes .entry)) rm child) (emptied count rm child))

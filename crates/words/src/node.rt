@@ -16,14 +16,14 @@ pub struct Entry {
     pub value: u64,
 }
 
-// How many slots so many node words hold.
+// How many slots `words` node words hold.
 pub fn slots_in(words: usize) -> u64
     ensures { λ r. ⌜ r ≡ slotsIn words ⌝ }
 {
     (words / NODE_WORDS) as u64
 }
 
-// How many entries so many node words and colour bytes can hold.
+// How many entries `words` node words and `bytes` colour bytes can hold.
 pub fn capacity(words: usize, bytes: usize) -> u64
     ensures { λ r. ⌜ r ≡ capacity words bytes ⌝ }
 {
