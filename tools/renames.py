@@ -179,6 +179,9 @@ NAMES = [
     ("at-turn", "at-round", BOTH),
     ("Held", "LoopInvariant", LAWS),
     ("held", "invariant", LAWS),
+    # the states of slotlist's work
+    ("Held", "Mapped", r"crates/slotlist_core/"),
+    ("held", "mapped", r"crates/slotlist_core/"),
     # a repair moves no entry
     ("Mended", "InPlace", LAWS),
     ("mended-refl", "in-place-refl", LAWS),
