@@ -179,6 +179,9 @@ NAMES = [
     ("at-turn", "at-round", BOTH),
     ("Held", "LoopInvariant", LAWS),
     ("held", "invariant", LAWS),
+    # the states of slotlist's work
+    ("Held", "Mapped", r"crates/slotlist_core/"),
+    ("held", "mapped", r"crates/slotlist_core/"),
     # a repair moves no entry
     ("Mended", "InPlace", LAWS),
     ("mended-refl", "in-place-refl", LAWS),
@@ -219,6 +222,9 @@ NAMES = [
 
 # Places that take more than a name: path, old text, new text. They go first.
 TEXTS = [
+    ("crates/slotlist_core/proofs/Meaning.antt", "Value.the-variants as held", "Value.the-variants as parsed"),
+    ("crates/slotlist_core/proofs/Meaning.antt", "held.Is", "parsed.Is"),
+    ("crates/slotlist_core/proofs/Meaning.antt", "held.Over", "parsed.Over"),
     ("crates/test_document/proofs/Examples.antt", "turnAt, step, repair}", "turnAt, round, repair}"),
     ("crates/test_document/proofs/Examples.antt", "turnOf turnAt step repair", "turnOf turnAt round repair"),
     ("crates/test_document/proofs/Examples.antt", "lower, upper, sorted, moved}", "lower, upper, byOldSlot, moved}"),

@@ -33,7 +33,7 @@ use Rattle.slotlist_core.specs.declared.reading.Line.the-variants.{Start
 use Rattle.slotlist_core.specs.declared.reading.Said.{Said}
 use Rattle.slotlist_core.specs.declared.reading.Said.the-variants.{Entry, Remove, Other}
 use Rattle.slotlist_core.specs.declared.working.Work.{Work}
-use Rattle.slotlist_core.specs.declared.working.Work.the-variants.{Listing, Held, Refused}
+use Rattle.slotlist_core.specs.declared.working.Work.the-variants.{Listing, Mapped, Refused}
 
 -- room for one more entry
 module _ (n len : ℕ) (t : Bool) (e : t ≡ roomFor n len) (q : t ≡ true) where
@@ -97,7 +97,7 @@ module _ (b : Built) (n m : ℕ) (W C E X K : List ℕ) (f : m ≡ min n (length
   unfolding builtIn listedIn
   build-left r h = rw (← f) (ap (λ (w : Work). change w X K) h ∙ ap buildLeft e)
 
-  pub build-done : (r : Work) (o : Map) → b ≡ built.Done o → r ≡ Held o → change r X K ≡ builtIn W C (listedIn n E)
+  pub build-done : (r : Work) (o : Map) → b ≡ built.Done o → r ≡ Mapped o → change r X K ≡ builtIn W C (listedIn n E)
   build-done r o d h = build-left r (rw d h)
 
   pub build-refused : (r : Work) (y : Refusal) → b ≡ built.Refused y → r ≡ Refused (refusalNumber y) → change r X K ≡ builtIn W C (listedIn n E)
@@ -108,7 +108,7 @@ module _ (b : Removal) (m : Map) (k : ℕ) (W C X K : List ℕ) (e : change (rem
   unfolding removalIn
   remove-left r h = ap (λ (w : Work). change w X K) h ∙ ap removeLeft e
 
-  pub remove-done : (r : Work) (g : Removed) → b ≡ removal.Done g → r ≡ Held (g .map) → change r X K ≡ removalIn m W C k
+  pub remove-done : (r : Work) (g : Removed) → b ≡ removal.Done g → r ≡ Mapped (g .map) → change r X K ≡ removalIn m W C k
   remove-done r g d h = remove-left r (rw d h)
 
   pub remove-refused : (r : Work) (y : Refusal) → b ≡ removal.Refused y → r ≡ Refused (refusalNumber y) → change r X K ≡ removalIn m W C k

@@ -11,7 +11,7 @@ use lib.Dec.{eqb, ltb, leb}
 use borrow.Author.Tests.{ltb-true, ltb-false, leb-true, leb-false, eqb-true, lt-ltb, le-ltb, ne-eqb, eq-eqb}
 use Rattle.lines.specs.Input.{digitOf, appended, onDigit, onValue}
 use Rattle.lines.specs.declared.input.Digit.the-variants.{Is, Not}
-use Rattle.lines.specs.declared.input.Value.the-variants as held
+use Rattle.lines.specs.declared.input.Value.the-variants as parsed
 use Rattle.slotlist_core.specs.Words.{first, others, words, isDigit, digits, value, isNumber, same, remove, said}
 use Rattle.slotlist_core.specs.Reading.{firstDigit, startByte, nameByte, longer, gapAfter, numberByte, byteRule, endRule, newRule}
 use Rattle.slotlist_core.specs.declared.reading.Before.{Before}
@@ -282,7 +282,7 @@ module _ (b : ℕ) (s : List ℕ) where
       gap (Two a c) = refl
       gap Removal = refl
 
-      longer-is : (t : Bool) → meaning (onValue (cond t (held.Is w) held.Over) (λ x. Number g x) Wrong) s
+      longer-is : (t : Bool) → meaning (onValue (cond t (parsed.Is w) parsed.Over) (λ x. Number g x) Wrong) s
           ≡ cond (t && goes w (first s)) (onward g (value w (first s)) (others s)) Other
       longer-is true = refl
       longer-is false = refl
@@ -327,7 +327,7 @@ not-new (Name k) b = go (ltb k 6) (eqb b (getD remove k 0)) (eqb b 32)
     go false u false = refl
 not-new (Number g v) b = digit-cases b (λ e d p r h. rw e (more (ltb (v * 10 + (b - 48)) 18446744073709551616))) (λ e d. rw e (go g (eqb b 32)))
   where
-    more : (t : Bool) → newRule (onValue (cond t (held.Is (v * 10 + (b - 48))) held.Over) (λ x. Number g x) Wrong) ≡ false
+    more : (t : Bool) → newRule (onValue (cond t (parsed.Is (v * 10 + (b - 48))) parsed.Over) (λ x. Number g x) Wrong) ≡ false
     more true = refl
     more false = refl
 

@@ -19,26 +19,26 @@ use Rattle.iset.proofs.Answers.{build-answers}
 use Rattle.iset.proofs.Builds.{Accepted, accepted}
 use Rattle.iset.proofs.Refusals.{build-no, remove-no}
 use Rattle.iset.proofs.Removals.{accepts}
-use Rattle.slotlist_core.specs.Printed.{Stand, listed, held, refused, left, built, settled, removal, removed, entered, wrong, after}
+use Rattle.slotlist_core.specs.Printed.{Stand, listed, mapped, refused, left, built, settled, removal, removed, entered, wrong, after}
 use Rattle.slotlist_core.specs.Working.{Desk, desk, roomFor, enteredWork, enteredList, listedIn, workLeft}
 use Rattle.slotlist_core.specs.Working.{builtIn, removalIn, settledBy, removedBy, wrongIn, onDesk, lineIn}
 use Rattle.slotlist_core.specs.Feeding.{settledDesk}
 use Rattle.slotlist_core.specs.declared.reading.Said.{Said}
 use Rattle.slotlist_core.specs.declared.reading.Said.the-variants.{Entry, Remove, Other}
 use Rattle.slotlist_core.specs.declared.working.Work.{Work}
-use Rattle.slotlist_core.specs.declared.working.Work.the-variants.{Listing, Held, Refused}
+use Rattle.slotlist_core.specs.declared.working.Work.the-variants.{Listing, Mapped, Refused}
 use Rattle.words.specs.Nodes.{Holds}
 
 -- what the lines led to, read off the work and its memory
 abbrev pub standOf : Work → List ℕ → List ℕ → List ℕ → Stand
 standOf (Listing n) X K E = listed (listedIn n E)
-standOf (Held m) X K E = held m X K
+standOf (Mapped m) X K E = mapped m X K
 standOf (Refused why) X K E = refused why
 
 -- The work stands in memory that was W and C at first and is so while entries are listed; 256 entries at most are listed and held.
 abbrev pub Kept : List ℕ → List ℕ → Work → List ℕ → List ℕ → Type 0
 Kept W C (Listing n) X K = (n ≤ 256) × (X ≡ W) × (K ≡ C)
-Kept W C (Held m) X K = (m .count ≤ 256) × Holds X (m .count)
+Kept W C (Mapped m) X K = (m .count ≤ 256) × Holds X (m .count)
 Kept W C (Refused why) X K = Unit {0}
 
 -- the work w in the memory X, K and E is the stand t
@@ -76,7 +76,7 @@ module _ (W C : List ℕ) (why : ℕ) (m : Map) (X K E : List ℕ) (long : 768 �
   call-left : (why ≡ 0 → (m .count ≤ 256) × Holds X (m .count)) → Stands W C (desk (workLeft why m) X K E) (left why m X K)
   call-left f = go (eqb why 0) refl
     where
-      go : (t : Bool) → eqb why 0 ≡ t → Stands W C (desk (cond t (Held m) (Refused why)) X K E) (cond t (held m X K) (refused why))
+      go : (t : Bool) → eqb why 0 ≡ t → Stands W C (desk (cond t (Mapped m) (Refused why)) X K E) (cond t (mapped m X K) (refused why))
       go true e = record { same = refl; kept = f (eqb-true why 0 e); long = long }
       go false e = record { same = refl; kept = tt; long = long }
 
@@ -109,7 +109,7 @@ module _ (W C : List ℕ) where
       → Stands W C (onDesk (settledBy E w X K) E) (settled W C (standOf w X K E))
   settled-of (Listing n) X K E p long =
       rw (p .1, p .2) (built-stands (listedIn n E) E (omega (arith, list-length n E (p .0) long)) long)
-  settled-of (Held m) X K E p long = record { same = refl; kept = p; long = long }
+  settled-of (Mapped m) X K E p long = record { same = refl; kept = p; long = long }
   settled-of (Refused why) X K E p long = record { same = refl; kept = p; long = long }
 
   removal-stands : (m : Map) (X K E : List ℕ) (k : ℕ) → m .count ≤ 256 → Holds X (m .count) → 768 ≤ length E
@@ -122,7 +122,7 @@ module _ (W C : List ℕ) where
   removed-of : (k : ℕ) (w : Work) (X K E : List ℕ) → Kept W C w X K → 768 ≤ length E
       → Stands W C (onDesk (removedBy k w X K) E) (removed k (standOf w X K E))
   removed-of k (Listing n) X K E p long = record { same = refl; kept = p; long = long }
-  removed-of k (Held m) X K E p long = removal-stands m X K E k (p .0) (p .1) long
+  removed-of k (Mapped m) X K E p long = removal-stands m X K E k (p .0) (p .1) long
   removed-of k (Refused why) X K E p long = record { same = refl; kept = p; long = long }
 
   entered-of : (a b c : ℕ) (w : Work) (X K E : List ℕ) → Kept W C w X K → 768 ≤ length E
@@ -145,13 +145,13 @@ module _ (W C : List ℕ) where
             long = rw (length-sets E (n * 3) (a ∷ b ∷ c ∷ [])) long;
           })
       go false f = record { same = refl; kept = tt; long = long }
-  entered-of a b c (Held m) X K E p long = record { same = refl; kept = tt; long = long }
+  entered-of a b c (Mapped m) X K E p long = record { same = refl; kept = tt; long = long }
   entered-of a b c (Refused why) X K E p long = record { same = refl; kept = tt; long = long }
 
   wrong-of : (w : Work) (X K E : List ℕ) → Kept W C w X K → 768 ≤ length E
       → Stands W C (desk (wrongIn w) X K E) (wrong (standOf w X K E))
   wrong-of (Listing n) X K E p long = record { same = refl; kept = tt; long = long }
-  wrong-of (Held m) X K E p long = record { same = refl; kept = tt; long = long }
+  wrong-of (Mapped m) X K E p long = record { same = refl; kept = tt; long = long }
   wrong-of (Refused why) X K E p long = record { same = refl; kept = tt; long = long }
 
   -- the end of the list

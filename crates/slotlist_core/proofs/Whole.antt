@@ -17,7 +17,7 @@ use Rattle.slotlist_core.specs.declared.reading.Line.{Line}
 use Rattle.slotlist_core.specs.declared.reading.Line.the-variants.{Start}
 use Rattle.slotlist_core.specs.declared.reading.Said.{Said}
 use Rattle.slotlist_core.specs.declared.working.Work.{Work}
-use Rattle.slotlist_core.specs.declared.working.Work.the-variants.{Listing, Held, Refused}
+use Rattle.slotlist_core.specs.declared.working.Work.the-variants.{Listing, Mapped, Refused}
 use Rattle.slotlist_core.proofs.Meaning.{meaning, meaning-end, meaning-byte, not-new}
 use Rattle.slotlist_core.proofs.Stands.{Stands, Kept, standOf, stands-settled, stands-line}
 use Rattle.slotlist_core.proofs.Lengths.{map-length, refusal-length, puts-all}
@@ -80,12 +80,12 @@ module _ (W C : List ℕ) where
   text-of : (w : Work) (X K E : List ℕ) → Kept W C w X K → workText w X ≡ text (standOf w X K E)
   unfolding heldText
   text-of (Listing n) X K E p = refl
-  text-of (Held m) X K E p = rw (le-ltb (length X / 8) (m .count) (omega arith))
+  text-of (Mapped m) X K E p = rw (le-ltb (length X / 8) (m .count) (omega arith))
   text-of (Refused why) X K E p = refl
 
   text-fits : (w : Work) (X K E : List ℕ) → Kept W C w X K → length (text (standOf w X K E)) ≤ 21557
   text-fits (Listing n) X K E p = omega arith
-  text-fits (Held m) X K E p = map-length (m .count) (m .root) X (p .0)
+  text-fits (Mapped m) X K E p = map-length (m .count) (m .root) X (p .0)
   text-fits (Refused why) X K E p = refusal-length why
 
   text-stands : (d : Desk) (t : Stand) → Stands W C d t → (workText (d .work) (d .nodes) ≡ text t) × (length (text t) ≤ 21557)

@@ -29,12 +29,12 @@ lines (b ∷ s) = cond (eqb b 10) ([] ∷ lines s) (onto b (lines s))
 -- colours; the first refusal.
 pub data Stand : Type 0 where
   listed : (entries : List ℕ) → Stand
-  held : (map : Map) (words colours : List ℕ) → Stand
+  mapped : (map : Map) (words colours : List ℕ) → Stand
   refused : (why : ℕ) → Stand
 
 -- what a call leaves: its number, the map that it answered, the words and the colours
 abbrev pub left : (why : ℕ) (map : Map) (words colours : List ℕ) → Stand
-left why m W C = cond (eqb why 0) (held m W C) (refused why)
+left why m W C = cond (eqb why 0) (mapped m W C) (refused why)
 
 -- the build of the entries E in the words W and the colours C
 unfoldable pub built : (words colours entries : List ℕ) → Stand
@@ -43,7 +43,7 @@ built W C E = let r : Change BuildAnswer = buildCall W C E in left (r .answer .n
 -- "It builds at the first `remove` or at the end of input"
 abbrev pub settled : (words colours : List ℕ) (stand : Stand) → Stand
 settled W C (listed E) = built W C E
-settled W C (held m X K) = held m X K
+settled W C (mapped m X K) = mapped m X K
 settled W C (refused why) = refused why
 
 unfoldable pub removal : (map : Map) (words colours : List ℕ) (slot : ℕ) → Stand
@@ -51,19 +51,19 @@ removal m W C k = let r : Change RemoveAnswer = removeCall m W C k in left (r .a
 
 abbrev pub removed : (slot : ℕ) (stand : Stand) → Stand
 removed k (listed E) = listed E
-removed k (held m W C) = removal m W C k
+removed k (mapped m W C) = removal m W C k
 removed k (refused why) = refused why
 
 -- "lines `start end value`, at most 256 ..; a 257th entry before any `remove` [counts] as NoRoom"
 abbrev pub entered : (start end value : ℕ) (stand : Stand) → Stand
 entered a b c (listed E) = cond (ltb (length E / 3) 256) (listed (E ++ (a ∷ b ∷ c ∷ []))) (refused 1)
-entered a b c (held m W C) = refused 8
+entered a b c (mapped m W C) = refused 8
 entered a b c (refused why) = refused why
 
 -- "any other line counts as BadList"; "the first refusal in line order"
 abbrev pub wrong : (stand : Stand) → Stand
 wrong (listed E) = refused 8
-wrong (held m W C) = refused 8
+wrong (mapped m W C) = refused 8
 wrong (refused why) = refused why
 
 -- one line more, with the words W and the colours C to build in
@@ -79,7 +79,7 @@ afterAll W C (l ∷ ls) t = afterAll W C ls (after W C (said (words l)) t)
 -- "The first refusal in line order prints `refused N` alone"
 abbrev pub text : (stand : Stand) → List ℕ
 text (listed E) = []
-text (held m W C) = mapText (m .count) (m .root) W
+text (mapped m W C) = mapText (m .count) (m .root) W
 text (refused why) = refusalText why
 
 -- what is printed of a map that is built in the words W and the colours C

@@ -14,7 +14,7 @@ use Rattle.iset.specs.declared.Map.{Map}
 use Rattle.slotlist_core.specs.declared.reading.Said.{Said}
 use Rattle.slotlist_core.specs.declared.reading.Said.the-variants.{Entry, Remove, Other}
 use Rattle.slotlist_core.specs.declared.working.Work.{Work}
-use Rattle.slotlist_core.specs.declared.working.Work.the-variants.{Listing, Held, Refused}
+use Rattle.slotlist_core.specs.declared.working.Work.the-variants.{Listing, Mapped, Refused}
 
 -- The work with the map's memory is a `Change Work`; with the list's too it is this.
 pub record Desk : Type 0 where
@@ -33,12 +33,12 @@ roomFor n len = cond (ltb n 256) (leb (n * 3 + 3) len) false
 -- an entry
 abbrev pub enteredWork : (work : Work) (len : ℕ) → Work
 enteredWork (Listing n) len = cond (roomFor n len) (Listing (n + 1)) (Refused 1)
-enteredWork (Held m) len = Refused 8
+enteredWork (Mapped m) len = Refused 8
 enteredWork (Refused why) len = Refused why
 
 abbrev pub enteredList : (work : Work) (start end value : ℕ) (entries : List ℕ) → List ℕ
 enteredList (Listing n) a b c E = cond (roomFor n (length E)) (sets E (n * 3) (a ∷ b ∷ c ∷ [])) E
-enteredList (Held m) a b c E = E
+enteredList (Mapped m) a b c E = E
 enteredList (Refused why) a b c E = E
 
 -- the numbers of n entries, of so many as the slice holds
@@ -47,7 +47,7 @@ listedIn n E = take (min n (length E / 3) * 3) E
 
 -- what a call leads to, by its number and the map that it answered
 abbrev pub workLeft : (why : ℕ) (map : Map) → Work
-workLeft why m = cond (eqb why 0) (Held m) (Refused why)
+workLeft why m = cond (eqb why 0) (Mapped m) (Refused why)
 
 abbrev pub buildLeft : (root : Change BuildAnswer) → Change Work
 buildLeft r = change (workLeft (r .answer .no) (r .answer .map)) (r .words) (r .colours)
@@ -64,7 +64,7 @@ removalIn m W C k = removeLeft (removeCall m W C k)
 
 abbrev pub settledBy : (entries : List ℕ) (work : Work) (words colours : List ℕ) → Change Work
 settledBy E (Listing n) W C = builtIn W C (listedIn n E)
-settledBy E (Held m) W C = change (Held m) W C
+settledBy E (Mapped m) W C = change (Mapped m) W C
 settledBy E (Refused why) W C = change (Refused why) W C
 
 abbrev pub settledIn : (entries : List ℕ) (shelf : Change Work) → Change Work
@@ -72,7 +72,7 @@ settledIn E h = settledBy E (h .answer) (h .words) (h .colours)
 
 abbrev pub removedBy : (slot : ℕ) (work : Work) (words colours : List ℕ) → Change Work
 removedBy k (Listing n) W C = change (Listing n) W C
-removedBy k (Held m) W C = removalIn m W C k
+removedBy k (Mapped m) W C = removalIn m W C k
 removedBy k (Refused why) W C = change (Refused why) W C
 
 abbrev pub removedIn : (slot : ℕ) (shelf : Change Work) → Change Work
@@ -81,7 +81,7 @@ removedIn k h = removedBy k (h .answer) (h .words) (h .colours)
 -- any other line
 abbrev pub wrongIn : (work : Work) → Work
 wrongIn (Listing n) = Refused 8
-wrongIn (Held m) = Refused 8
+wrongIn (Mapped m) = Refused 8
 wrongIn (Refused why) = Refused why
 
 -- one line more

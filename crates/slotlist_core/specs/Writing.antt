@@ -9,7 +9,7 @@ use Rattle.iset.specs.declared.Map.{Map}
 use Rattle.lines.specs.Output.{Page, page}
 use Rattle.slotlist_core.specs.Text.{mapText, refusalText}
 use Rattle.slotlist_core.specs.declared.working.Work.{Work}
-use Rattle.slotlist_core.specs.declared.working.Work.the-variants.{Listing, Held, Refused}
+use Rattle.slotlist_core.specs.declared.working.Work.the-variants.{Listing, Mapped, Refused}
 
 -- a byte, where there is room; a text
 unfoldable pub putByte : (page : Page) (byte : ℕ) → Page
@@ -25,5 +25,5 @@ heldText m W = cond (ltb (length W / 8) (m .count)) (refusalText 1) (mapText (m 
 -- what is printed at the end, with the map's words W
 abbrev pub workText : (work : Work) (words : List ℕ) → List ℕ
 workText (Listing n) W = []
-workText (Held m) W = heldText m W
+workText (Mapped m) W = heldText m W
 workText (Refused why) W = refusalText why

@@ -12,7 +12,7 @@ const SPACE: u8 = 32;
 pub enum Before {
     Nothing,
     One(u64),
-    Two(u64, u64),
+    Two { start: u64, end: u64 },
     Removal,
 }
 
@@ -28,7 +28,7 @@ pub enum Line {
 
 // What a complete line says.
 pub enum Said {
-    Entry(u64, u64, u64),
+    Entry { start: u64, end: u64, value: u64 },
     Remove(u64),
     Other,
 }
@@ -85,8 +85,8 @@ fn gap_after(before: Before, value: u64) -> Line
 {
     match before {
         Before::Nothing => Line::Gap(Before::One(value)),
-        Before::One(a) => Line::Gap(Before::Two(a, value)),
-        Before::Two(_, _) => Line::Wrong,
+        Before::One(start) => Line::Gap(Before::Two { start, end: value }),
+        Before::Two { start: _, end: _ } => Line::Wrong,
         Before::Removal => Line::Wrong,
     }
 }
@@ -111,7 +111,7 @@ fn complete(before: Before, value: u64) -> Said
     match before {
         Before::Nothing => Said::Other,
         Before::One(_) => Said::Other,
-        Before::Two(a, b) => Said::Entry(a, b, value),
+        Before::Two { start, end } => Said::Entry { start, end, value },
         Before::Removal => Said::Remove(value),
     }
 }

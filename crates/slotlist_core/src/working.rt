@@ -18,7 +18,7 @@ ghost use Rattle.slotlist_core.specs.Working.{builtIn, removalIn, settle
 // What the lines so far have led to: the number of entries in the list; the map that was built; the first refusal's number.
 pub enum Work {
     Listing(usize),
-    Held(Map),
+    Mapped(Map),
     Refused(u64),
 }
 
@@ -65,7 +65,7 @@ fn build(n: usize, nodes: &mut [u64], colours: &mut [u8], entries: &[u64]) -> Wo
 {
     let m = least(n, entries.len() / 3);
     match Map::build(nodes, colours, &entries[..m * 3]) {
-        Built::Done(map) => Work::Held(map),
+        Built::Done(map) => Work::Mapped(map),
         Built::Refused(why) => refuse(why),
     }
 }
@@ -76,7 +76,7 @@ fn remove_slot(map: Map, k: u64, nodes: &mut [u64], colours: &mut [u8]) -> Work
     match map.remove(nodes, colours, k) {
         Removal::Done(gone) => {
             let left = gone.map;
-            Work::Held(left)
+            Work::Mapped(left)
         }
         Removal::Refused(why) => refuse(why),
     }
@@ -90,7 +90,7 @@ impl Work {
     {
         match self {
             Work::Listing(n) => list_entry(n, a, b, c, entries),
-            Work::Held(_) => refuse(Refusal::BadList),
+            Work::Mapped(_) => refuse(Refusal::BadList),
             Work::Refused(why) => Work::Refused(why),
         }
     }
@@ -102,7 +102,7 @@ impl Work {
     {
         match self {
             Work::Listing(n) => build(n, nodes, colours, entries),
-            Work::Held(map) => Work::Held(map),
+            Work::Mapped(map) => Work::Mapped(map),
             Work::Refused(why) => Work::Refused(why),
         }
     }
@@ -114,7 +114,7 @@ impl Work {
     {
         match self {
             Work::Listing(n) => Work::Listing(n),
-            Work::Held(map) => remove_slot(map, k, nodes, colours),
+            Work::Mapped(map) => remove_slot(map, k, nodes, colours),
             Work::Refused(why) => Work::Refused(why),
         }
     }
@@ -133,7 +133,7 @@ impl Work {
     {
         match self {
             Work::Listing(_) => refuse(Refusal::BadList),
-            Work::Held(_) => refuse(Refusal::BadList),
+            Work::Mapped(_) => refuse(Refusal::BadList),
             Work::Refused(why) => Work::Refused(why),
         }
     }
@@ -150,7 +150,7 @@ impl Work {
             ≡ lineIn said (desk self (now (nodes .entry)) (now (colours .entry)) (now (entries .entry))) ⌝ }
     {
         match said {
-            Said::Entry(a, b, c) => self.enter(a, b, c, entries),
+            Said::Entry { start, end, value } => self.enter(start, end, value, entries),
             Said::Remove(k) => self.remove(k, nodes, colours, entries),
             Said::Other => self.wrong(),
         }

@@ -144,7 +144,7 @@ impl Work {
     {
         match self {
             Work::Listing(_) => 0,
-            Work::Held(map) => put_map(out, map, nodes),
+            Work::Mapped(map) => put_map(out, map, nodes),
             Work::Refused(why) => put_refusal(out, why),
         }
     }

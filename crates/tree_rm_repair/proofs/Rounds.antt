@@ -10,8 +10,8 @@ use Rattle.words.specs.Nodes.{kid, par, fix}
 use Rattle.words.specs.declared.ix.Link.{Link}
 use Rattle.words.specs.declared.ix.Link.the-variants.{Slot}
 use Rattle.bitvec.specs.Colours.{red, redAt, paint, paintAt}
-use Rattle.tree_edit.specs.Links.{rootAfter}
-use Rattle.tree_edit.specs.Rotations.{rotate, rotate-4}
+use Rattle.tree_edit.specs.Links.{rootAfter, replaced, setChild}
+use Rattle.tree_edit.specs.Rotations.{rotate, rotate-4, rotate-2}
 use Rattle.tree_rm_rule.specs.Repair.{Case, one, two, three, four, five, choose, act, roundOf, roundAt, round, repair}
 use Rattle.tree_edit.specs.Rounds.{Next, done, again, ending}
 use Rattle.tree_edit.specs.Store.{Store, store}
@@ -25,6 +25,7 @@ use Rattle.tree_rm_rule.proofs.Reached.{round-le}
 use Rattle.tree_links.proofs.Loops.{link-stays, at-side, side-changes}
 use Rattle.tree_edit.proofs.Colours.{red-slot, red-child}
 use Rattle.tree_rm_rule.proofs.RepairInPlace.{four-close}
+use Rattle.tree_links.proofs.LinkLaws.{read-linked, hulls-linked}
 
 -- the choice among the cases, by which of the four are black
 pub choose-black : (p s c d : Bool)
@@ -84,11 +85,22 @@ module _ (n : ℕ) (W : List ℕ) (b : Bool) (P S c : ℕ) (k : K.Case) where
   pub quiet-five : (x : ℕ) → k ≡ ks.Five → x ≡ 0 → x ≡ changes n (actHulls n (caseOf k) W b P S c)
   quiet-five x e q = rw e q
 
+-- the links of cases two and four
+pub two-links : (n : ℕ) (W : List ℕ) (b : Bool) (P S c : ℕ) (W₁ W₂ W₃ : List ℕ) → c ≡ kid W b S → W₁ ≡ replaced n W P S → W₂ ≡ setChild n W₁ S P b
+    → W₃ ≡ setChild n W₂ P c (not b) → W₃ ≡ rotate-2 n W b P S
+unfolding rotate-2
+two-links n W b P S c W₁ W₂ W₃ e f g h = rw (← e, ← f, ← g) h
+
+pub four-links : (n : ℕ) (W : List ℕ) (b : Bool) (P S c d : ℕ) (W₁ W₂ W₃ : List ℕ) → d ≡ kid W (not b) c → W₁ ≡ setChild n W S d b
+    → W₂ ≡ setChild n W₁ c S (not b) → W₃ ≡ setChild n W₂ P c (not b) → W₃ ≡ rotate-4 n W b P S c
+unfolding rotate-4
+four-links n W b P S c d W₁ W₂ W₃ e f g h = rw (← e, ← f, ← g) h
+
 pub four-changes : (n : ℕ) (W W₁ : List ℕ) (b : Bool) (P S c x : ℕ) → W₁ ≡ rotate-4 n W b P S c → x ≡ changes n (bothHulls n W₁ S c)
     → x ≡ changes n (actHulls n four W b P S c)
 four-changes n W W₁ b P S c x e h = rw (← e) h
 
-pub round-changes : (n : ℕ) (W C : List ℕ) (P : ℕ) (b : Bool) (S c d : ℕ) (k : K.Case) (x : ℕ) → c ≡ kid W b S → d ≡ kid W (not b) S
+round-changes : (n : ℕ) (W C : List ℕ) (P : ℕ) (b : Bool) (S c d : ℕ) (k : K.Case) (x : ℕ) → c ≡ kid W b S → d ≡ kid W (not b) S
     → caseOf k ≡ choose (red C P) (red C S) (redAt n C c) (redAt n C d) → x ≡ changes n (actHulls n (caseOf k) W b P S c) → x ≡ changes n (roundOfHulls n W C P b S)
 unfolding roundOfHulls
 round-changes n W C P b S c d k x e f g h = rw (← e, ← f, ← g) h
@@ -101,10 +113,23 @@ pub five-is : (n : ℕ) (W C : List ℕ) (r : ℕ) (b : Bool) (P S d : ℕ) (C�
     → C₃ ≡ paintAt n C₂ d false → top ≡ rootAfter n W r P S → X ≡ rotate n W b P S → done X C₃ top ≡ act n five W C r 0 b P S 0 d
 five-is n W C r b P S d C₁ C₂ C₃ X top e f g h i = rw (← e, ← f, ← g, ← h, ← i)
 
-pub round-is : (n : ℕ) (W C : List ℕ) (r ix P : ℕ) (b : Bool) (S c d : ℕ) (k : K.Case) (N : Next) → c ≡ kid W b S → d ≡ kid W (not b) S
+round-is : (n : ℕ) (W C : List ℕ) (r ix P : ℕ) (b : Bool) (S c d : ℕ) (k : K.Case) (N : Next) → c ≡ kid W b S → d ≡ kid W (not b) S
     → caseOf k ≡ choose (red C P) (red C S) (redAt n C c) (redAt n C d) → N ≡ act n (caseOf k) W C r ix b P S c d → N ≡ roundOf n W C r ix P b S
 unfolding roundOf
 round-is n W C r ix P b S c d k N e f g h = rw (← e, ← f, ← g) h
+
+-- the sibling S, and the links c and d of its children
+module _ (n : ℕ) (W C : List ℕ) (P : ℕ) (b : Bool) (w S c d : ℕ) (l : Link) (e : w ≡ kid W (not b) P) (q : l ≡ linkOf n w) (z : l ≡ Slot S)
+    (f : c ≡ kid W b S) (g : d ≡ kid W (not b) S) (k : K.Case) (i : caseOf k ≡ choose (red C P) (red C S) (redAt n C c) (redAt n C d)) where
+  pub at-sibling : (r ix : ℕ) (N : Next) → N ≡ act n (caseOf k) W C r ix b P S c d → N ≡ roundAt n W C r ix P b
+  unfolding roundAt
+  at-sibling r ix N h =
+      read-linked N n (kid W (not b) P) w l (λ (S : ℕ). roundOf n W C r ix P b S) (done W C r) e q S z (round-is n W C r ix P b S c d k N f g i h)
+
+  pub sibling-changes : (x : ℕ) → x ≡ changes n (actHulls n (caseOf k) W b P S c) → x ≡ changes n (roundAtHulls n W C P b)
+  unfolding roundAtHulls
+  sibling-changes x h =
+      hulls-linked x n (kid W (not b) P) w l (λ (S : ℕ). roundOfHulls n W C P b S) e q S z (round-changes n W C P b S c d k x f g i h)
 
 pub parent-changes : (n : ℕ) (W C : List ℕ) (ix x w p t : ℕ) (l : Link) → w ≡ par W ix → l ≡ linkOf n w → l ≡ Slot p → t ≡ kid W true p
     → x ≡ changes n (roundAtHulls n W C p (eqb t ix)) → x ≡ changes n (roundHulls n W C ix)

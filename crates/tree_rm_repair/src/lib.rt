@@ -21,14 +21,14 @@ ghost use Prim.Native.Nat.{_+_, _<_};
 ghost use Rattle.bitvec.specs.Colours.{red, redAt};
 ghost use Rattle.tree_edit.specs.Links.{rootAfter};
 ghost use Rattle.tree_edit.specs.Rotations.{rotate-2, rotate-4};
-ghost use Rattle.tree_rm_rule.specs.Repair.{two, four, five, choose, act, roundOf, roundAt, round, repair};
+ghost use Rattle.tree_rm_rule.specs.Repair.{two, four, five, choose, act, roundAt, round, repair};
 ghost use Rattle.tree_edit.specs.Store.{store};
 ghost use Rattle.tree_edit.specs.Rounds.{ending};
 ghost use Rattle.tree_rm_rule.specs.Remove.{restructure};
 ghost use Rattle.tree_rm_repair.specs.Answers.{caseOf};
 ghost use Rattle.tree_links.specs.Answers.{next, reach};
 ghost use Rattle.tree_edit.specs.Reach.{changes};
-ghost use Rattle.tree_rm_rule.specs.Reach.{actHulls, roundOfHulls, roundAtHulls, roundHulls, repairHulls, restructureHulls};
+ghost use Rattle.tree_rm_rule.specs.Reach.{actHulls, roundAtHulls, roundHulls, repairHulls, restructureHulls};
 ghost use Rattle.words.specs.Nodes.{Holds, HoldsBits};
 
 pub enum Case {
@@ -59,15 +59,25 @@ fn case_of(parent: bool, sibling: bool, close: bool, distant: bool) -> Case
     }
 }
 
-// The case of a parent, a sibling and the link words of its children.
-fn case_at(colours: &[u8], count: u64, parent: u64, sibling: u64, close: u64, distant: u64) -> Case
-    requires { ⌜ HoldsBits (now colours) count × (parent < count) × (sibling < count) ⌝ }
-    ensures { λ r. ⌜ caseOf r ≡ choose (red (now (colours .entry)) parent) (red (now (colours .entry)) sibling) (redAt count (now (colours .entry)) close) (redAt count (now (colours .entry)) distant) ⌝ }
+// The relatives of the node that a round stands at: the slots of its parent and its sibling, the link words of its close and
+// its distant nephew, and whether it is the left child.
+struct Kin {
+    parent: u64,
+    sibling: u64,
+    close: u64,
+    distant: u64,
+    left: bool,
+}
+
+// Which case the relatives' colours make.
+fn case_at(colours: &[u8], count: u64, kin: Kin) -> Case
+    requires { ⌜ HoldsBits (now colours) count × (kin .parent < count) × (kin .sibling < count) ⌝ }
+    ensures { λ r. ⌜ caseOf r ≡ choose (red (now (colours .entry)) (kin .parent)) (red (now (colours .entry)) (kin .sibling)) (redAt count (now (colours .entry)) (kin .close)) (redAt count (now (colours .entry)) (kin .distant)) ⌝ }
 {
-    let parent_black = is_black(colours, parent);
-    let sibling_black = is_black(colours, sibling);
-    let close_nephew_black = is_black_or_nil(colours, count, close);
-    let distant_nephew_black = is_black_or_nil(colours, count, distant);
+    let parent_black = is_black(colours, kin.parent);
+    let sibling_black = is_black(colours, kin.sibling);
+    let close_nephew_black = is_black_or_nil(colours, count, kin.close);
+    let distant_nephew_black = is_black_or_nil(colours, count, kin.distant);
     case_of(
         parent_black,
         sibling_black,
@@ -77,58 +87,35 @@ fn case_at(colours: &[u8], count: u64, parent: u64, sibling: u64, close: u64, di
 }
 
 // Case two's links: the sibling comes up into the place of the parent; the answer is the root.
-fn rotate_two(
-    nodes: &mut [u64],
-    count: u64,
-    root: u64,
-    node_is_left: bool,
-    parent: u64,
-    sibling: u64,
-) -> u64
-    requires { ⌜ Holds (now nodes) count × (parent < count) × (sibling < count) ⌝ }
-    ensures { λ r. ⌜ (r ≡ rootAfter count (now (nodes .entry)) root parent sibling) × (now (nodes .exit) ≡ rotate-2 count (now (nodes .entry)) «node_is_left» parent sibling) ⌝ }
+fn rotate_two(nodes: &mut [u64], count: u64, root: u64, kin: Kin) -> u64
+    requires { ⌜ Holds (now nodes) count × (kin .parent < count) × (kin .sibling < count) ⌝ }
+    ensures { λ r. ⌜ (r ≡ rootAfter count (now (nodes .entry)) root (kin .parent) (kin .sibling)) × (now (nodes .exit) ≡ rotate-2 count (now (nodes .entry)) (kin .left) (kin .parent) (kin .sibling)) ⌝ }
 {
-    let close = child_of(nodes, sibling, node_is_left);
-    let top = replace_children(nodes, count, root, parent, sibling);
-    set_child(nodes, count, sibling, parent, node_is_left);
-    set_child(nodes, count, parent, close, !node_is_left);
+    let close = child_of(nodes, kin.sibling, kin.left);
+    let top = replace_children(nodes, count, root, kin.parent, kin.sibling);
+    set_child(nodes, count, kin.sibling, kin.parent, kin.left);
+    set_child(nodes, count, kin.parent, close, !kin.left);
     top
 }
 
 // Case four's links: the close nephew comes up into the place of the sibling.
-fn rotate_four(
-    nodes: &mut [u64],
-    count: u64,
-    node_is_left: bool,
-    parent: u64,
-    sibling: u64,
-    close: u64,
-)
-    requires { ⌜ Holds (now nodes) count × (parent < count) × (sibling < count) × (close < count) ⌝ }
-    ensures { λ _. ⌜ now (nodes .exit) ≡ rotate-4 count (now (nodes .entry)) «node_is_left» parent sibling close ⌝ }
+fn rotate_four(nodes: &mut [u64], count: u64, kin: Kin)
+    requires { ⌜ Holds (now nodes) count × (kin .parent < count) × (kin .sibling < count) × (kin .close < count) ⌝ }
+    ensures { λ _. ⌜ now (nodes .exit) ≡ rotate-4 count (now (nodes .entry)) (kin .left) (kin .parent) (kin .sibling) (kin .close) ⌝ }
 {
-    let child = child_of(nodes, close, !node_is_left);
-    set_child(nodes, count, sibling, child, node_is_left);
-    set_child(nodes, count, close, sibling, !node_is_left);
-    set_child(nodes, count, parent, close, !node_is_left);
+    let child = child_of(nodes, kin.close, !kin.left);
+    set_child(nodes, count, kin.sibling, child, kin.left);
+    set_child(nodes, count, kin.close, kin.sibling, !kin.left);
+    set_child(nodes, count, kin.parent, kin.close, !kin.left);
 }
 
-fn case_two(
-    nodes: &mut [u64],
-    colours: &mut [u8],
-    count: u64,
-    root: u64,
-    ix: u64,
-    node_is_left: bool,
-    parent: u64,
-    sibling: u64,
-) -> Next
-    requires { ⌜ Holds (now nodes) count × HoldsBits (now colours) count × (parent < count) × (sibling < count) ⌝ }
-    ensures { λ r. ⌜ (next r (now (nodes .exit)) (now (colours .exit)) ≡ act count two (now (nodes .entry)) (now (colours .entry)) root ix «node_is_left» parent sibling 0 0) × (reach r ≡ 0) ⌝ }
+fn case_two(nodes: &mut [u64], colours: &mut [u8], count: u64, root: u64, ix: u64, kin: Kin) -> Next
+    requires { ⌜ Holds (now nodes) count × HoldsBits (now colours) count × (kin .parent < count) × (kin .sibling < count) ⌝ }
+    ensures { λ r. ⌜ (next r (now (nodes .exit)) (now (colours .exit)) ≡ act count two (now (nodes .entry)) (now (colours .entry)) root ix (kin .left) (kin .parent) (kin .sibling) 0 0) × (reach r ≡ 0) ⌝ }
 {
-    set_red(colours, parent);
-    set_black(colours, sibling);
-    let top = rotate_two(nodes, count, root, node_is_left, parent, sibling);
+    set_red(colours, kin.parent);
+    set_black(colours, kin.sibling);
+    let top = rotate_two(nodes, count, root, kin);
     Next::Again {
         root: top,
         at: ix,
@@ -142,18 +129,15 @@ fn case_four(
     count: u64,
     root: u64,
     ix: u64,
-    node_is_left: bool,
-    parent: u64,
-    sibling: u64,
-    close: u64,
+    kin: Kin,
 ) -> Next
-    requires { ⌜ Holds (now nodes) count × HoldsBits (now colours) count × (parent < count) × (sibling < count) × (close < count) ⌝ }
-    ensures { λ r. ⌜ (next r (now (nodes .exit)) (now (colours .exit)) ≡ act count four (now (nodes .entry)) (now (colours .entry)) root ix «node_is_left» parent sibling close 0) × (reach r ≡ changes count (actHulls count four (now (nodes .entry)) «node_is_left» parent sibling close)) ⌝ }
+    requires { ⌜ Holds (now nodes) count × HoldsBits (now colours) count × (kin .parent < count) × (kin .sibling < count) × (kin .close < count) ⌝ }
+    ensures { λ r. ⌜ (next r (now (nodes .exit)) (now (colours .exit)) ≡ act count four (now (nodes .entry)) (now (colours .entry)) root ix (kin .left) (kin .parent) (kin .sibling) (kin .close) 0) × (reach r ≡ changes count (actHulls count four (now (nodes .entry)) (kin .left) (kin .parent) (kin .sibling) (kin .close))) ⌝ }
 {
-    set_black(colours, close);
-    set_red(colours, sibling);
-    rotate_four(nodes, count, node_is_left, parent, sibling, close);
-    let changed = rework_both(nodes, count, sibling, close);
+    set_black(colours, kin.close);
+    set_red(colours, kin.sibling);
+    rotate_four(nodes, count, kin);
+    let changed = rework_both(nodes, count, kin.sibling, kin.close);
     Next::Again {
         root,
         at: ix,
@@ -161,129 +145,55 @@ fn case_four(
     }
 }
 
-fn case_five(
-    nodes: &mut [u64],
-    colours: &mut [u8],
-    count: u64,
-    root: u64,
-    node_is_left: bool,
-    parent: u64,
-    sibling: u64,
-    distant: u64,
-) -> Next
-    requires { ⌜ Holds (now nodes) count × HoldsBits (now colours) count × (parent < count) × (sibling < count) ⌝ }
-    ensures { λ r. ⌜ (next r (now (nodes .exit)) (now (colours .exit)) ≡ act count five (now (nodes .entry)) (now (colours .entry)) root 0 «node_is_left» parent sibling 0 distant) × (reach r ≡ 0) ⌝ }
+fn case_five(nodes: &mut [u64], colours: &mut [u8], count: u64, root: u64, kin: Kin) -> Next
+    requires { ⌜ Holds (now nodes) count × HoldsBits (now colours) count × (kin .parent < count) × (kin .sibling < count) ⌝ }
+    ensures { λ r. ⌜ (next r (now (nodes .exit)) (now (colours .exit)) ≡ act count five (now (nodes .entry)) (now (colours .entry)) root 0 (kin .left) (kin .parent) (kin .sibling) 0 (kin .distant)) × (reach r ≡ 0) ⌝ }
 {
-    copy_colour(colours, parent, sibling);
-    set_black(colours, parent);
-    set_black_at(colours, count, distant);
-    let top = rotate_up(nodes, count, root, node_is_left, parent, sibling);
+    copy_colour(colours, kin.parent, kin.sibling);
+    set_black(colours, kin.parent);
+    set_black_at(colours, count, kin.distant);
+    let top = rotate_up(nodes, count, root, kin.left, kin.parent, kin.sibling);
     Next::Done {
         root: top,
         reach: 0,
     }
 }
 
-// What the case writes, for the node ix with its parent, its sibling and the link words of the nephews.
+// What the case writes, for the node ix with its relatives.
 fn act_on(
     nodes: &mut [u64],
     colours: &mut [u8],
     count: u64,
     root: u64,
     ix: u64,
-    node_is_left: bool,
-    parent: u64,
-    sibling: u64,
-    close: u64,
-    distant: u64,
+    kin: Kin,
     case: Case,
 ) -> Next
-    requires { ⌜ Holds (now nodes) count × HoldsBits (now colours) count × (parent < count) × (sibling < count) × (caseOf case ≡ four → close < count) ⌝ }
-    ensures { λ r. ⌜ (next r (now (nodes .exit)) (now (colours .exit)) ≡ act count (caseOf case) (now (nodes .entry)) (now (colours .entry)) root ix «node_is_left» parent sibling close distant)
-        × (reach r ≡ changes count (actHulls count (caseOf case) (now (nodes .entry)) «node_is_left» parent sibling close)) ⌝ }
+    requires { ⌜ Holds (now nodes) count × HoldsBits (now colours) count × (kin .parent < count) × (kin .sibling < count) × (caseOf case ≡ four → kin .close < count) ⌝ }
+    ensures { λ r. ⌜ (next r (now (nodes .exit)) (now (colours .exit)) ≡ act count (caseOf case) (now (nodes .entry)) (now (colours .entry)) root ix (kin .left) (kin .parent) (kin .sibling) (kin .close) (kin .distant))
+        × (reach r ≡ changes count (actHulls count (caseOf case) (now (nodes .entry)) (kin .left) (kin .parent) (kin .sibling) (kin .close))) ⌝ }
 {
     match case {
         Case::One => {
-            set_red(colours, sibling);
+            set_red(colours, kin.sibling);
             Next::Again {
                 root,
-                at: parent,
+                at: kin.parent,
                 reach: 0,
             }
         }
-        Case::Two => case_two(
-            nodes,
-            colours,
-            count,
-            root,
-            ix,
-            node_is_left,
-            parent,
-            sibling,
-        ),
+        Case::Two => case_two(nodes, colours, count, root, ix, kin),
         Case::Three => {
-            set_black(colours, parent);
-            set_red(colours, sibling);
+            set_black(colours, kin.parent);
+            set_red(colours, kin.sibling);
             Next::Done { root, reach: 0 }
         }
-        Case::Four => case_four(
-            nodes,
-            colours,
-            count,
-            root,
-            ix,
-            node_is_left,
-            parent,
-            sibling,
-            close,
-        ),
-        Case::Five => case_five(
-            nodes,
-            colours,
-            count,
-            root,
-            node_is_left,
-            parent,
-            sibling,
-            distant,
-        ),
+        Case::Four => case_four(nodes, colours, count, root, ix, kin),
+        Case::Five => case_five(nodes, colours, count, root, kin),
     }
 }
 
-// One round of the loop, with the parent, the side and the sibling at hand.
-fn round_of(
-    nodes: &mut [u64],
-    colours: &mut [u8],
-    count: u64,
-    root: u64,
-    ix: u64,
-    parent: u64,
-    node_is_left: bool,
-    sibling: u64,
-) -> Next
-    requires { ⌜ Holds (now nodes) count × HoldsBits (now colours) count × (parent < count) × (sibling < count) ⌝ }
-    ensures { λ r. ⌜ (next r (now (nodes .exit)) (now (colours .exit)) ≡ roundOf count (now (nodes .entry)) (now (colours .entry)) root ix parent «node_is_left» sibling)
-        × (reach r ≡ changes count (roundOfHulls count (now (nodes .entry)) (now (colours .entry)) parent «node_is_left» sibling)) ⌝ }
-{
-    let close = child_of(nodes, sibling, node_is_left);
-    let distant = child_of(nodes, sibling, !node_is_left);
-    let case = case_at(colours, count, parent, sibling, close, distant);
-    act_on(
-        nodes,
-        colours,
-        count,
-        root,
-        ix,
-        node_is_left,
-        parent,
-        sibling,
-        close,
-        distant,
-        case,
-    )
-}
-
-// With the parent at hand. In a store that passes the check there is a sibling.
+// One round with the parent at hand. In a store that passes the check there is a sibling.
 fn round_at(
     nodes: &mut [u64],
     colours: &mut [u8],
@@ -291,27 +201,29 @@ fn round_at(
     root: u64,
     ix: u64,
     parent: u64,
-    node_is_left: bool,
+    left: bool,
 ) -> Next
     requires { ⌜ Holds (now nodes) count × HoldsBits (now colours) count × (parent < count) ⌝ }
-    ensures { λ r. ⌜ (next r (now (nodes .exit)) (now (colours .exit)) ≡ roundAt count (now (nodes .entry)) (now (colours .entry)) root ix parent «node_is_left»)
-        × (reach r ≡ changes count (roundAtHulls count (now (nodes .entry)) (now (colours .entry)) parent «node_is_left»)) ⌝ }
+    ensures { λ r. ⌜ (next r (now (nodes .exit)) (now (colours .exit)) ≡ roundAt count (now (nodes .entry)) (now (colours .entry)) root ix parent left)
+        × (reach r ≡ changes count (roundAtHulls count (now (nodes .entry)) (now (colours .entry)) parent left)) ⌝ }
 {
-    let Link::Slot(sibling) = Link::new(child_of(nodes, parent, !node_is_left), count) else {
+    let Link::Slot(sibling) = Link::new(child_of(nodes, parent, !left), count) else {
         return Next::Done { root, reach: 0 };
     };
-    round_of(
-        nodes,
-        colours,
-        count,
-        root,
-        ix,
+    let close = child_of(nodes, sibling, left);
+    let distant = child_of(nodes, sibling, !left);
+    let kin = Kin {
         parent,
-        node_is_left,
         sibling,
-    )
+        close,
+        distant,
+        left,
+    };
+    let case = case_at(colours, count, kin);
+    act_on(nodes, colours, count, root, ix, kin, case)
 }
 
+// One round of the loop, at the node ix.
 fn one_round(nodes: &mut [u64], colours: &mut [u8], count: u64, root: u64, ix: u64) -> Next
     requires { ⌜ Holds (now nodes) count × HoldsBits (now colours) count × (ix < count) ⌝ }
     ensures { λ r. ⌜ (next r (now (nodes .exit)) (now (colours .exit)) ≡ round count (now (nodes .entry)) (now (colours .entry)) root ix)
@@ -321,8 +233,8 @@ fn one_round(nodes: &mut [u64], colours: &mut [u8], count: u64, root: u64, ix: u
     let Link::Slot(parent) = Link::new(parent_of(nodes, ix), count) else {
         return Next::Done { root, reach: 0 };
     };
-    let node_is_left = child_of(nodes, parent, true) == ix;
-    round_at(nodes, colours, count, root, ix, parent, node_is_left)
+    let left = child_of(nodes, parent, true) == ix;
+    round_at(nodes, colours, count, root, ix, parent, left)
 }
 
 // Restructure the tree before removing ix. In a store that passes the check 36 rounds suffice.
