@@ -1,5 +1,5 @@
 -- Public calls one after the other, each on the map that the last one answered.
--- Letters: S state, x call, l triples or calls, s slot, e entry, c change, a answer
+-- Letters: S state, x call, l triples or calls, s slot, e entry, c effect, a answer
 use mathlib.Core.List.{List, [], _∷_}
 use Prim.Native.Nat.{ℕ}
 use Rattle.words.specs.declared.node.Entry.{Entry}

@@ -2,7 +2,7 @@
 -- answer's numbers, in the order in which docs/DRIVE.md prints them, and what it leaves in each
 -- lent slice.
 -- Letters: m map, W words, C colours, A places of the answer, a answer of the call, R reply,
---   s step, p pairs, n number, b known (whether each bound has a kind), k change or output,
+--   s step, p pairs, n number, b known (whether each bound has a kind), k effect or output,
 --   l slices, S triples, e entry, x interval, q query, c cursor
 use mathlib.Core.Bool.{Bool, true, cond}
 use mathlib.Core.List.{List, [], _∷_}
