@@ -48,8 +48,8 @@ MEANINGS = {
         l:Tree left subtree; r:Tree right subtree; t:Store store; c:[Frame] way up; q:Span range;
         x:Node node; e:ℕ entered so far; p:Pair pair; P:Pairs pairs; p:Page page; p:ℕ→Bool test;
         f:Field field; S:[ℕ] triples; s:ActionStack stack; h:Interval hull; d:Interval interval;
-        b:Bound bound; l:[ℕ] slots; w:Work work; A:Type0 any type; k:Change change; k:Output output;
-        c:Change change; d:Output output""",
+        b:Bound bound; l:[ℕ] slots; w:Work work; A:Type0 any type; k:Effect effect; k:Output output;
+        c:Effect effect; d:Output output""",
     'words/Ix': """
         n count; k link; f found (for the slot that the link leads to); z otherwise (if it leads to
         none)""",
@@ -105,7 +105,7 @@ MEANINGS = {
     'capi/Ranges': 'x number; b known (whether both kinds are); R reply',
     'capi/Replies': """
         A places of the answer; a answer of the call; R reply; s step; p pairs; n number;
-        b known (whether each bound has a kind); k:Change change; k:Output output; l:[[ℕ]] slices""",
+        b known (whether each bound has a kind); k:Effect effect; k:Output output; l:[[ℕ]] slices""",
     'examples/Rows': """
         t store; s slot; e entry; q query; c:Cursor cursor; x interval; S triples; a answer; d answer;
         k slot; k:2 steps at most; c call; r row; a:Pair pair; b:Pair pair; c:Pair pair; l:[Pair] pairs;
@@ -115,7 +115,7 @@ MEANINGS = {
     'iset': """
         S:[ℕ] triples; s slot; e entry; x interval; q:Query query; q:Span range; q range; c cursor;
         k number of a refusal; y refusal; a answer; g answer of the code; t tree; p test of a slot;
-        P proof that the store passes; l:[Ask] calls; c:Change change""",
+        P proof that the store passes; l:[Ask] calls; c:Effect effect""",
     'iset/Below': 'n count; W words; C colours; X other words; D other colours',
     'iset/Build': 'm map that was built',
     'iset/Check': 'k number of a refusal; x next number',

@@ -47,6 +47,7 @@ MODULES = [
     ("tree_in_rule", "proofs", "Mends", "InsertRepaired"),
     ("tree_in", "proofs", "Mends", "InsertRounds"),
     ("tree_rm_repair", "proofs", "Turns", "Rounds"),
+    ("iset", "specs", "Changes", "Effects"),
 ]
 
 # Functions of the code: crate, folder of its proof, old name, new name.
@@ -73,13 +74,15 @@ ROUND = r"crates/(tree_rm_rule|tree_rm_repair|tree_links)/"
 INSERT = r"crates/(tree_in|tree_in_rule|test_document)/"
 DEMANDS = EDITS + r"|crates/iset/\w+/Demands"
 
+FACES = r"crates/iset/(specs|src|must-fail)|crates/iset/proofs/(?!Sequence)|crates/(iset_c|iset_c_open|slotlist_core|test_document)/"
+
 # A row that hands its old name on to another row holds only while ROOT has the old names: while
 # this file lacks this text.
 ONCE = ("crates/bitvec/specs/Colours.antt", "abbrev pub paint ")
 FIRST = "first"
 
 # Words that the papers use for something else too.
-NOT_IN_PAPERS = {"step", "turn", "turned", "walk", "held", "Held", "sorted", "instead"}
+NOT_IN_PAPERS = {"change", "Change", "step", "turn", "turned", "walk", "held", "Held", "sorted", "instead"}
 
 # Names: old, new, where; and FIRST for those that another row's new name would follow.
 NAMES = [
@@ -179,6 +182,10 @@ NAMES = [
     ("at-turn", "at-round", BOTH),
     ("Held", "LoopInvariant", LAWS),
     ("held", "invariant", LAWS),
+    # what a public call answers and leaves; a change is a removal or an insertion
+    *((old, new, FACES) for old, new in (
+        ("Change", "Effect"), ("change", "effect"), ("changeExit", "effectExit"), ("SameChange", "SameEffect"), ("change-kept", "effect-kept"),
+        ("done-change", "done-effect"), ("refused-change", "refused-effect"), ("same-change", "same-effect"))),
     # the states of slotlist's work
     ("Held", "Mapped", r"crates/slotlist_core/"),
     ("held", "mapped", r"crates/slotlist_core/"),
@@ -222,6 +229,9 @@ NAMES = [
 
 # Places that take more than a name: path, old text, new text. They go first.
 TEXTS = [
+    ("crates/iset/proofs/Sequence.antt", "specs.Changes.{change}", "specs.Effects.{effect}"),
+    ("crates/iset/proofs/Sequence.antt", "calls.Change", "calls.Effect"),
+    ("crates/iset/proofs/Sequence.antt", "(change (", "(effect ("),
     ("crates/slotlist_core/proofs/Meaning.antt", "Value.the-variants as held", "Value.the-variants as parsed"),
     ("crates/slotlist_core/proofs/Meaning.antt", "held.Is", "parsed.Is"),
     ("crates/slotlist_core/proofs/Meaning.antt", "held.Over", "parsed.Over"),

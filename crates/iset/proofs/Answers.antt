@@ -32,7 +32,7 @@ use Rattle.plain.specs.declared.Tally.{Tally}
 use Rattle.iter.specs.declared.rules.Query.the-variants.{Exact}
 use Rattle.iter_laws.specs.Highest.{Highest}
 use Rattle.iter_laws.proofs.ExactRuns.{exact-start}
-use Rattle.iset.specs.Changes.{Change, Output}
+use Rattle.iset.specs.Effects.{Effect, Output}
 use Rattle.iset.specs.Check.{checkRule}
 use Rattle.iset.specs.Build.{BuildAnswer, buildNumber, buildAnswer, buildCall}
 use Rattle.iset.specs.Remove.{RemoveAnswer, removeNumber, removeAnswer, removeCall}
@@ -136,19 +136,19 @@ module _ (m : Map) (W C : List ℕ) (x : Interval) (e : startCall m W C x .no �
 pub build-done : (κs : Lfts 3) (a : K.Dens κs build-kinds.ps) (r : K.resT build-kinds.r κs .Denot) (s : AtExit (K.endedOf 3 build-kinds.ps build-kinds.r) κs)
     → build-reads.Post κs a r s → (m : Map) → r ≡ built.Done m
     → buildCall (now (a .0)) (now (a .1 .0)) (now (a .1 .1 .0)) .answer ≡ record { no = 0; map = m }
-build-done κs a r s p m e = ap (λ (c : Change BuildAnswer). c .answer) (sym p) ∙ ap buildAnswer e
+build-done κs a r s p m e = ap (λ (c : Effect BuildAnswer). c .answer) (sym p) ∙ ap buildAnswer e
 
 pub remove-done : (κs : Lfts 2) (a : K.Dens κs remove-kinds.ps) (r : K.resT remove-kinds.r κs .Denot) (s : AtExit (K.endedOf 2 remove-kinds.ps remove-kinds.r) κs)
     → remove-reads.Post κs a r s → (g : gone.RemovalGuarantee) → r ≡ removed-as.Done g
     → removeCall (a .0) (now (a .1 .0)) (now (a .1 .1 .0)) (a .1 .1 .1 .0) .answer
     ≡ record { no = 0; value = g .value; map = g .map; pairs = g .pairs; reach = g .reach }
-remove-done κs a r s p g e = ap (λ (c : Change RemoveAnswer). c .answer) (sym p) ∙ ap (removeAnswer (a .0)) e
+remove-done κs a r s p g e = ap (λ (c : Effect RemoveAnswer). c .answer) (sym p) ∙ ap (removeAnswer (a .0)) e
 
 pub insert-done : (κs : Lfts 2) (a : K.Dens κs insert-kinds.ps) (r : K.resT insert-kinds.r κs .Denot) (s : AtExit (K.endedOf 2 insert-kinds.ps insert-kinds.r) κs)
     → insert-reads.Post κs a r s → (g : added.Inserted) → r ≡ inserted-as.Done g
     → insertCall (a .0) (now (a .1 .0)) (now (a .1 .1 .0)) (record { start = a .1 .1 .1 .0; end = a .1 .1 .1 .1 .0; value = a .1 .1 .1 .1 .1 .0 }) .answer
     ≡ record { no = 0; slot = g .slot; map = g .map; reach = g .reach }
-insert-done κs a r s p g e = ap (λ (c : Change InsertAnswer). c .answer) (sym p) ∙ ap (insertAnswer (a .0)) e
+insert-done κs a r s p g e = ap (λ (c : Effect InsertAnswer). c .answer) (sym p) ∙ ap (insertAnswer (a .0)) e
 
 pub fresh-exact-done : (κs : Lfts 2) (a : K.Dens κs exact-kinds.ps) (r : K.resT exact-kinds.r κs .Denot) (s : AtExit (K.endedOf 2 exact-kinds.ps exact-kinds.r) κs)
     → exact-reads.Post κs a r s → (c : Cursor) → r ≡ started.Done c

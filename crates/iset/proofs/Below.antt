@@ -35,13 +35,13 @@ use Rattle.iter.specs.Queries.{rules}
 use Rattle.iter.specs.declared.Cursor.{Cursor}
 use Rattle.iter.specs.declared.rules.Query.{Query}
 use Rattle.iter.specs.declared.rules.Query.the-variants.{Overlap, Exact}
-use Rattle.iset.specs.Changes.{Change, change}
+use Rattle.iset.specs.Effects.{Effect, effect}
 use Rattle.iset.specs.Check.{checkRule}
 use Rattle.iset.specs.Build.{buildNumber, refusedBuild, buildList, buildCall}
 use Rattle.iset.specs.Remove.{removeNumber, RemoveAnswer, refusedRemoval, removeReach, removeSlot, removeCall}
 use Rattle.iset.specs.Insert.{insertNumber, InsertAnswer, refusedInsertion, insertReach, insertEntry, insertCall}
 use Rattle.iset.specs.Lookup.{beginning, startNumber, stepNumber, drainNumber, startCall, stepCall, drainCall}
-use Rattle.iset.specs.Below.{SameBelow, SameChange}
+use Rattle.iset.specs.Below.{SameBelow, SameEffect}
 use Rattle.iset.specs.declared.Map.{Map}
 use Rattle.iset.proofs.Checks.{check-zero}
 use Rattle.iset.proofs.Orders.{remove-order, insert-order, start-order, step-order, drain-order}
@@ -59,8 +59,8 @@ unfolding buildCall
 build-below W C X D S e f = rw (e, f) (go (eqb (buildNumber (length X) (length D) S) 0))
   where
     go : (t : Bool)
-        → cond t (buildList W C S) (change (refusedBuild (buildNumber (length X) (length D) S)) W C) .answer
-        ≡ cond t (buildList X D S) (change (refusedBuild (buildNumber (length X) (length D) S)) X D) .answer
+        → cond t (buildList W C S) (effect (refusedBuild (buildNumber (length X) (length D) S)) W C) .answer
+        ≡ cond t (buildList X D S) (effect (refusedBuild (buildNumber (length X) (length D) S)) X D) .answer
     go true = refl
     go false = refl
 
@@ -210,8 +210,8 @@ module _ (m : Map) (W C X D : List ℕ) (s : SameBelow (m .count) W C X D) where
       drain-below out = rw (same-drainNumber (length out), same-drain n W X (s .words) q (limitOf limit (length out)) c)
 
   -- a call that is refused, by the number k, or not; f is the count that an answer has
-  by-number : {A : Type 0} (f : A → ℕ) (k : ℕ) (x y : Change A) (a : A) → (k ≡ 0 → SameChange (f (x .answer)) x y) → SameBelow (f a) W C X D
-      → SameChange (f (cond (eqb k 0) x (change a W C) .answer)) (cond (eqb k 0) x (change a W C)) (cond (eqb k 0) y (change a X D))
+  by-number : {A : Type 0} (f : A → ℕ) (k : ℕ) (x y : Effect A) (a : A) → (k ≡ 0 → SameEffect (f (x .answer)) x y) → SameBelow (f a) W C X D
+      → SameEffect (f (cond (eqb k 0) x (effect a W C) .answer)) (cond (eqb k 0) x (effect a W C)) (cond (eqb k 0) y (effect a X D))
   by-number f zero x y a g h = g refl
   by-number f (suc k) x y a g h = rw (ne-eqb (suc k) 0 (λ z. omega arith)) (record { answers = refl; leaves = h })
 
@@ -230,7 +230,7 @@ module _ (m : Map) (W C X D : List ℕ) (s : SameBelow (m .count) W C X D) where
         let h : m .count ≤ capacity (length W) (length C) = check-zero m W C (removals.accepts m W C t e .0) .0 in
         removal.reach-below W X C D n (m .root) t (omega arith) (removals.accepts m W C t e .1) (s .words) (s .colours)
 
-    pub remove-below : SameChange n (removeCall m W C t) (removeCall m X D t)
+    pub remove-below : SameEffect n (removeCall m W C t) (removeCall m X D t)
     unfolding removeCall
     remove-below =
         rw (← same-removeNumber)
@@ -254,7 +254,7 @@ module _ (m : Map) (W C X D : List ℕ) (s : SameBelow (m .count) W C X D) where
         let h : m .count < capacity (length W) (length C) = insertions.accepts m W C e z .0 in
         insertion.reach-below W X C D n (m .root) e (omega arith) (omega arith) (s .words) (s .colours)
 
-    pub insert-below : SameChange (insertCall m W C e .answer .map .count) (insertCall m W C e) (insertCall m X D e)
+    pub insert-below : SameEffect (insertCall m W C e .answer .map .count) (insertCall m W C e) (insertCall m X D e)
     unfolding insertCall
     insert-below =
         rw (← same-insertNumber)

@@ -17,7 +17,7 @@ use Rattle.tree_in_rule.specs.Reach.{insertHulls}
 use Rattle.tree_in_rule.specs.InsertionGuarantee.{insertWith}
 use Rattle.tree_in_rule.proofs.Insertion as insertion-numbers
 use Rattle.tree_in_rule.proofs.Reached as insertion-hulls
-use Rattle.iset.specs.Changes.{Change}
+use Rattle.iset.specs.Effects.{Effect}
 use Rattle.iset.specs.Remove.{RemoveAnswer, removeNumber, removeReach, removeCall}
 use Rattle.iset.specs.Insert.{InsertAnswer, insertNumber, insertReach, insertCall}
 use Rattle.iset.specs.Demands.{Demand1, removal, insertion, Demand2, Demand3, Request9}
@@ -113,12 +113,12 @@ request-9 m W C =
       remove-hulls = λ s e. removal-hulls.reached W C (m .count) (m .root) s;
       remove-moves = λ s e.
           ap (λ (R : Removed). R .store) (removal-is m W C s (sym (remove-no m W C s) ∙ e)) ∙ removal-hulls.cut-then-moved W C (m .count) (m .root) s;
-      remove-none = λ s d. ap (λ (a : Change RemoveAnswer). a .answer .reach) (remove-leaves m W C s d);
+      remove-none = λ s d. ap (λ (a : Effect RemoveAnswer). a .answer .reach) (remove-leaves m W C s d);
       insert-sum = λ x e. insert-sum m W C x (sym (insert-no m W C x) ∙ e);
       insert-hangs = λ x e.
           let h = roomy m W C x (sym (insert-no m W C x) ∙ e) in
           let p : ℕ = under (m .count) W (m .root) (own x) in
           (insertion-hulls.hung-own W (m .count) x p (omega (arith, h)), λ a d. insertion-hulls.hung-stays W (m .count) x p a d);
       insert-hulls = λ x e. insert-hulls m W C x (sym (insert-no m W C x) ∙ e);
-      insert-none = λ x d. ap (λ (a : Change InsertAnswer). a .answer .reach) (insert-leaves m W C x d);
+      insert-none = λ x d. ap (λ (a : Effect InsertAnswer). a .answer .reach) (insert-leaves m W C x d);
     }

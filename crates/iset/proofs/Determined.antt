@@ -12,7 +12,7 @@ use denote.Triple.Clauses.{AtExit}
 use denote.Ref.{now}
 use Rattle.words.specs.Refusals.{refusalNumber}
 use Rattle.words.proofs.Refusals.{refusalAt, at-number, number-pos}
-use Rattle.iset.specs.Changes.{Change, change, Output, output}
+use Rattle.iset.specs.Effects.{Effect, effect, Output, output}
 use Rattle.iset.specs.Check.{checkNumber}
 use Rattle.iset.specs.declared.Checked.{Checked}
 use Rattle.iset.specs.declared.Checked.the-variants.{Sound, Refused}
@@ -78,11 +78,11 @@ use Rattle.iset.proofs.Map.check.Reads as check-reads
 use Rattle.iset.proofs.Map.check.Kinds as check-kinds
 
 -- One equation determines each part. The answer is read back from what it stands for.
-same-change : {A B : Type 0} {a a′ : A} {r r′ : B} {W W′ C C′ : List ℕ} {x : Change A} (at : A → B) → at a ≡ r → at a′ ≡ r′
-    → change a W C ≡ x → change a′ W′ C′ ≡ x → (r ≡ r′) × (W ≡ W′) × (C ≡ C′)
-same-change {A = A} {a = a} {a′ = a′} {W = W} {W′ = W′} {C = C} {C′ = C′} at b b′ p q =
-    let e : change a W C ≡ change a′ W′ C′ = p ∙ sym q in
-    (sym b ∙ ap (λ (c : Change A). at (c .answer)) e ∙ b′, ap (λ (c : Change A). c .words) e, ap (λ (c : Change A). c .colours) e)
+same-effect : {A B : Type 0} {a a′ : A} {r r′ : B} {W W′ C C′ : List ℕ} {x : Effect A} (at : A → B) → at a ≡ r → at a′ ≡ r′
+    → effect a W C ≡ x → effect a′ W′ C′ ≡ x → (r ≡ r′) × (W ≡ W′) × (C ≡ C′)
+same-effect {A = A} {a = a} {a′ = a′} {W = W} {W′ = W′} {C = C} {C′ = C′} at b b′ p q =
+    let e : effect a W C ≡ effect a′ W′ C′ = p ∙ sym q in
+    (sym b ∙ ap (λ (c : Effect A). at (c .answer)) e ∙ b′, ap (λ (c : Effect A). c .words) e, ap (λ (c : Effect A). c .colours) e)
 
 same-output : {A B : Type 0} {a a′ : A} {r r′ : B} {X X′ : List ℕ} {x : Output A} (at : A → B) → at a ≡ r → at a′ ≡ r′
     → output a X ≡ x → output a′ X′ ≡ x → (r ≡ r′) × (X ≡ X′)
@@ -124,7 +124,7 @@ built-back (built.Refused y) = rw (ne-eqb (refusalNumber y) 0 (omega (arith, num
 pub build-determined :
     (κs : Lfts 3) (a : K.Dens κs build-kinds.ps) (r r′ : K.resT build-kinds.r κs .Denot) (s s′ : AtExit (K.endedOf 3 build-kinds.ps build-kinds.r) κs)
     → build-reads.Post κs a r s → build-reads.Post κs a r′ s′ → (r ≡ r′) × (now (s .0) ≡ now (s′ .0)) × (now (s .1 .0) ≡ now (s′ .1 .0))
-build-determined κs a r r′ s s′ p q = same-change builtAt (built-back r) (built-back r′) p q
+build-determined κs a r r′ s s′ p q = same-effect builtAt (built-back r) (built-back r′) p q
 
 -- and a removal's
 abbrev removalAt : RemoveAnswer → Removal
@@ -140,7 +140,7 @@ removal-back m (removal.Refused y) = rw (ne-eqb (refusalNumber y) 0 (omega (arit
 pub remove-determined :
     (κs : Lfts 2) (a : K.Dens κs remove-kinds.ps) (r r′ : K.resT remove-kinds.r κs .Denot) (s s′ : AtExit (K.endedOf 2 remove-kinds.ps remove-kinds.r) κs)
     → remove-reads.Post κs a r s → remove-reads.Post κs a r′ s′ → (r ≡ r′) × (now (s .1 .0) ≡ now (s′ .1 .0)) × (now (s .1 .1 .0) ≡ now (s′ .1 .1 .0))
-remove-determined κs a r r′ s s′ p q = same-change removalAt (removal-back _ r) (removal-back _ r′) p q
+remove-determined κs a r r′ s s′ p q = same-effect removalAt (removal-back _ r) (removal-back _ r′) p q
 
 -- and an insertion's
 abbrev insertionAt : InsertAnswer → Insertion
@@ -156,7 +156,7 @@ insertion-back m (insertion.Refused y) = rw (ne-eqb (refusalNumber y) 0 (omega (
 pub insert-determined :
     (κs : Lfts 2) (a : K.Dens κs insert-kinds.ps) (r r′ : K.resT insert-kinds.r κs .Denot) (s s′ : AtExit (K.endedOf 2 insert-kinds.ps insert-kinds.r) κs)
     → insert-reads.Post κs a r s → insert-reads.Post κs a r′ s′ → (r ≡ r′) × (now (s .1 .0) ≡ now (s′ .1 .0)) × (now (s .1 .1 .0) ≡ now (s′ .1 .1 .0))
-insert-determined κs a r r′ s s′ p q = same-change insertionAt (insertion-back _ r) (insertion-back _ r′) p q
+insert-determined κs a r r′ s s′ p q = same-effect insertionAt (insertion-back _ r) (insertion-back _ r′) p q
 
 -- a fresh cursor's, a step's and a drain's
 abbrev startedAt : StartAnswer → Started
@@ -247,9 +247,9 @@ open-drain-determined κs a r r′ s s′ p q = same-output drainAt (drain-back 
 pub open-remove-determined :
     (κs : Lfts 2) (a : K.Dens κs open-remove-kinds.ps) (r r′ : K.resT open-remove-kinds.r κs .Denot) (s s′ : AtExit (K.endedOf 2 open-remove-kinds.ps open-remove-kinds.r) κs)
     → open-remove-reads.Post κs a r s → open-remove-reads.Post κs a r′ s′ → (r ≡ r′) × (now (s .1 .0) ≡ now (s′ .1 .0)) × (now (s .1 .1 .0) ≡ now (s′ .1 .1 .0))
-open-remove-determined κs a r r′ s s′ p q = same-change removalAt (removal-back _ r) (removal-back _ r′) p q
+open-remove-determined κs a r r′ s s′ p q = same-effect removalAt (removal-back _ r) (removal-back _ r′) p q
 
 pub open-insert-determined :
     (κs : Lfts 2) (a : K.Dens κs open-insert-kinds.ps) (r r′ : K.resT open-insert-kinds.r κs .Denot) (s s′ : AtExit (K.endedOf 2 open-insert-kinds.ps open-insert-kinds.r) κs)
     → open-insert-reads.Post κs a r s → open-insert-reads.Post κs a r′ s′ → (r ≡ r′) × (now (s .1 .0) ≡ now (s′ .1 .0)) × (now (s .1 .1 .0) ≡ now (s′ .1 .1 .0))
-open-insert-determined κs a r r′ s s′ p q = same-change insertionAt (insertion-back _ r) (insertion-back _ r′) p q
+open-insert-determined κs a r r′ s s′ p q = same-effect insertionAt (insertion-back _ r) (insertion-back _ r′) p q

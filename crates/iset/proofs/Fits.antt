@@ -25,7 +25,7 @@ use Rattle.iter.specs.declared.rules.Query.{Query}
 use Rattle.iter.specs.declared.rules.Query.the-variants.{Overlap, Exact}
 use Rattle.iter_laws.proofs.OverlapRuns.{overlap-first}
 use Rattle.iter_laws.proofs.ExactRuns.{exact-first}
-use Rattle.iset.specs.Changes.{output}
+use Rattle.iset.specs.Effects.{output}
 use Rattle.iset.specs.Check.{first, checkRule}
 use Rattle.iset.specs.Fits.{Fits, Request8}
 use Rattle.iset.specs.Lookup.{ordered, queryNumber, beginning, formNumber, startNumber, stepNumber, drainNumber, startCall, drainCall}

@@ -17,7 +17,7 @@ use Rattle.tree_rm_rule.specs.Remove as rule
 use Rattle.tree_edit.specs.Store.{Store, store}
 use Rattle.tree_rm.specs.Answers.{removal}
 use Rattle.tree_rm.specs.declared.remove.Removed.{Removed}
-use Rattle.iset.specs.Changes.{Change, change}
+use Rattle.iset.specs.Effects.{Effect, effect}
 use Rattle.iset.specs.Check.{checkNumber}
 use Rattle.iset.specs.Maps.{mapOf}
 use Rattle.iset.specs.Remove.{openRemoveNumber, RemoveAnswer, refusedRemoval, removeDone}
@@ -81,23 +81,23 @@ module _ (words bytes : ℕ) (S : List ℕ) (t : Checked) (e : checkNumber t ≡
   built-bytes = omega (arith, built-room)
 
 pub done-build : (n r s : ℕ) (W C X D : List ℕ) → r ≡ s → W ≡ X → C ≡ D
-    → _≡_ {A = Change BuildAnswer} (change (record { no = 0; map = mapOf n r }) W C)
-    (change (record { no = 0; map = mapOf n s }) X D)
-done-build n r s W C X D e f g = λ i. change (record { no = 0; map = mapOf n (e i) }) (f i) (g i)
+    → _≡_ {A = Effect BuildAnswer} (effect (record { no = 0; map = mapOf n r }) W C)
+    (effect (record { no = 0; map = mapOf n s }) X D)
+done-build n r s W C X D e f g = λ i. effect (record { no = 0; map = mapOf n (e i) }) (f i) (g i)
 
 -- a refusal by the number of the test that made it
 module _ (k : ℕ) (t : Checked) (z : Refusal) (e : checkNumber t ≡ k) (q : t ≡ Refused z) (W C : List ℕ) where
   same-number : refusalNumber z ≡ k
   same-number = sym (ap checkNumber q) ∙ e
 
-  pub refused-build : change (refusedBuild (refusalNumber z)) W C ≡ change (refusedBuild k) W C
-  refused-build = ap (λ (i : ℕ). change (refusedBuild i) W C) same-number
+  pub refused-build : effect (refusedBuild (refusalNumber z)) W C ≡ effect (refusedBuild k) W C
+  refused-build = ap (λ (i : ℕ). effect (refusedBuild i) W C) same-number
 
-  pub refused-removal : (m : Map) → change (refusedRemoval m (refusalNumber z)) W C ≡ change (refusedRemoval m k) W C
-  refused-removal m = ap (λ (i : ℕ). change (refusedRemoval m i) W C) same-number
+  pub refused-removal : (m : Map) → effect (refusedRemoval m (refusalNumber z)) W C ≡ effect (refusedRemoval m k) W C
+  refused-removal m = ap (λ (i : ℕ). effect (refusedRemoval m i) W C) same-number
 
-  pub refused-insertion : (m : Map) → change (refusedInsertion m (refusalNumber z)) W C ≡ change (refusedInsertion m k) W C
-  refused-insertion m = ap (λ (i : ℕ). change (refusedInsertion m i) W C) same-number
+  pub refused-insertion : (m : Map) → effect (refusedInsertion m (refusalNumber z)) W C ≡ effect (refusedInsertion m k) W C
+  refused-insertion m = ap (λ (i : ℕ). effect (refusedInsertion m i) W C) same-number
 
 -- what the tests of a removal leave: a slot that is there, in slices with places
 module _ (m : Map) (W C : List ℕ) (s : ℕ) (t : Checked) (e : checkNumber t ≡ openRemoveNumber m W C s) (q : t ≡ Sound) where
@@ -115,10 +115,10 @@ module _ (m : Map) (W C : List ℕ) (s : ℕ) (t : Checked) (e : checkNumber t �
 
 -- what the removal's code answers and leaves
 pub removed-slot : (a : Removed) (X K : List ℕ) (R : rule.Removed) → removal a X K ≡ R → (m : Map) (k : ℕ) → a .reach ≡ k
-    → _≡_ {A = Change RemoveAnswer}
-    (change (record { no = 0; value = a .value; map = mapOf (m .count - 1) (a .root); pairs = a .pairs; reach = a .reach }) X K)
-    (change (removeDone m R k) (R .store .words) (R .store .colours))
-removed-slot a X K R e m k f = λ t. change (removeDone m (e t) (f t)) (e t .store .words) (e t .store .colours)
+    → _≡_ {A = Effect RemoveAnswer}
+    (effect (record { no = 0; value = a .value; map = mapOf (m .count - 1) (a .root); pairs = a .pairs; reach = a .reach }) X K)
+    (effect (removeDone m R k) (R .store .words) (R .store .colours))
+removed-slot a X K R e m k f = λ t. effect (removeDone m (e t) (f t)) (e t .store .words) (e t .store .colours)
 
 -- what the tests of an insertion leave: slices with places for one entry more
 module _ (m : Map) (W C : List ℕ) (e : Entry) (t : Checked) (f : checkNumber t ≡ openInsertNumber m W C e) (q : t ≡ Sound) where
@@ -133,6 +133,6 @@ module _ (m : Map) (W C : List ℕ) (e : Entry) (t : Checked) (f : checkNumber t
 
 -- what the insertion's code answers and leaves
 pub inserted-entry : (r : ℕ) (X K : List ℕ) (S : Store) → store X K r ≡ S → (m : Map) (j k : ℕ) → j ≡ k
-    → _≡_ {A = Change InsertAnswer} (change (record { no = 0; slot = m .count; map = mapOf (m .count + 1) r; reach = j }) X K)
-    (change (insertDone m S k) (S .words) (S .colours))
-inserted-entry r X K S e m j k f = λ t. change (insertDone m (e t) (f t)) (e t .words) (e t .colours)
+    → _≡_ {A = Effect InsertAnswer} (effect (record { no = 0; slot = m .count; map = mapOf (m .count + 1) r; reach = j }) X K)
+    (effect (insertDone m S k) (S .words) (S .colours))
+inserted-entry r X K S e m j k f = λ t. effect (insertDone m (e t) (f t)) (e t .words) (e t .colours)

@@ -30,7 +30,7 @@ use Rattle.iter.specs.declared.seek.Step.{Step}
 use Rattle.iter.specs.declared.rules.Query.{Query}
 use Rattle.iter.specs.declared.rules.Query.the-variants.{Overlap, Exact}
 use Rattle.iter.proofs.Ways.{form-placed}
-use Rattle.iset.specs.Changes.{Output, output}
+use Rattle.iset.specs.Effects.{Output, output}
 use Rattle.iset.specs.Check.{checkNumber, checkRule, countNumber}
 use Rattle.iset.specs.Lookup.{ordered, queryNumber, beginning, formNumber, startNumber, stepNumber, drainNumber, StartAnswer, refusedStart, stepDone, refusedStep, DrainAnswer, drainDone, refusedDrain, openStartNumber, openStepNumber, openDrainNumber}
 use Rattle.iset.specs.declared.Map.{Map}

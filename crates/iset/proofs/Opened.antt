@@ -14,7 +14,7 @@ use Rattle.words.specs.declared.refusal.Refusal.{Refusal}
 use Rattle.words.proofs.Refusals.{number-pos}
 use Rattle.iter.specs.declared.Cursor.{Cursor}
 use Rattle.iter.specs.declared.rules.Query.{Query}
-use Rattle.iset.specs.Changes.{Change, change, Output, output}
+use Rattle.iset.specs.Effects.{Effect, effect, Output, output}
 use Rattle.iset.specs.Check.{checkNumber, first, checkRule}
 use Rattle.iset.specs.Remove.{RemoveAnswer, refusedRemoval, removeNumber, openRemoveCall, removeCall}
 use Rattle.iset.specs.Insert.{InsertAnswer, refusedInsertion, fullNumber, openInsertNumber, roomThenCheck, insertNumber, openInsertCall, insertCall}
@@ -77,7 +77,7 @@ module _ (m : Map) (W C : List ℕ) (t : Checked) (e : checkNumber t ≡ checkRu
     pub plain-through : (y : Query) (out : List ℕ) (r : Output PlainAnswer) → r ≡ openPlainCall m W C y out → r ≡ plainCall m W C y out
     plain-through y out r p = p ∙ plain-is m W C sound y out
 
-    pub remove-through : (s : ℕ) (r : Change RemoveAnswer) → r ≡ openRemoveCall m W C s → r ≡ removeCall m W C s
+    pub remove-through : (s : ℕ) (r : Effect RemoveAnswer) → r ≡ openRemoveCall m W C s → r ≡ removeCall m W C s
     remove-through s r p = p ∙ remove-is m W C sound s
 
   module _ (z : Refusal) (q : t ≡ Refused z) where
@@ -100,7 +100,7 @@ module _ (m : Map) (W C : List ℕ) (t : Checked) (e : checkNumber t ≡ checkRu
     unfolding plainCall plainNumber
     plain-away y out = rw (broken, some z, some z)
 
-    pub remove-away : (s : ℕ) → change (refusedRemoval m (refusalNumber z)) W C ≡ removeCall m W C s
+    pub remove-away : (s : ℕ) → effect (refusedRemoval m (refusalNumber z)) W C ≡ removeCall m W C s
     unfolding removeCall removeNumber
     remove-away s = rw (broken, some z, some z)
 
@@ -110,7 +110,7 @@ module _ (m : Map) (W C : List ℕ) (t : Checked) (f : checkNumber t ≡ roomThe
     passes : roomThenCheck m W C ≡ 0
     passes = sym f ∙ ap checkNumber q
 
-    pub insert-through : (r : Change InsertAnswer) → r ≡ openInsertCall m W C e → r ≡ insertCall m W C e
+    pub insert-through : (r : Effect InsertAnswer) → r ≡ openInsertCall m W C e → r ≡ insertCall m W C e
     unfolding openInsertCall insertCall insertNumber
     insert-through r p = rw passes p
 
@@ -118,6 +118,6 @@ module _ (m : Map) (W C : List ℕ) (t : Checked) (f : checkNumber t ≡ roomThe
     refuses : roomThenCheck m W C ≡ refusalNumber z
     refuses = sym f ∙ ap checkNumber q
 
-    pub insert-away : change (refusedInsertion m (refusalNumber z)) W C ≡ insertCall m W C e
+    pub insert-away : effect (refusedInsertion m (refusalNumber z)) W C ≡ insertCall m W C e
     unfolding insertCall insertNumber
     insert-away = rw (refuses, some z, some z)

@@ -23,7 +23,7 @@ use Rattle.iter.specs.declared.rules.Query.the-variants.{Overlap, Exact}
 use Rattle.plain_rule.specs.Tour as tour
 use Rattle.plain_rule.proofs.Tours.{entries-are, entered-all}
 use Rattle.plain.specs.declared.Tally.{Tally}
-use Rattle.iset.specs.Changes.{Output, output}
+use Rattle.iset.specs.Effects.{Output, output}
 use Rattle.iset.specs.Check.{checkNumber}
 use Rattle.iset.specs.Lookup.{startNumber, openStartNumber, drainCall}
 use Rattle.iset.specs.Plain.{openPlainNumber, plainNumber, PlainAnswer, plainDone, refusedPlain, plainCall}

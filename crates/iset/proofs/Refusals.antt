@@ -39,7 +39,7 @@ use Rattle.iter_laws.specs.Place.{Held}
 use Rattle.iter_laws.proofs.OverlapRuns.{overlap-fresh-form, overlap-ended-form, overlap-held-form, overlap-bad-form}
 use Rattle.iter_laws.proofs.ExactRuns.{exact-start, exact-fresh-form, exact-ended-form, exact-held-form, exact-bad-form, exact-none-held}
 use Rattle.iter_laws.proofs.Forms.{fresh-form, ended-form, bad-form}
-use Rattle.iset.specs.Changes.{Change, change, Output, output}
+use Rattle.iset.specs.Effects.{Effect, effect, Output, output}
 use Rattle.iset.specs.Build.{buildNumber, BuildAnswer, buildAnswer, buildCall}
 use Rattle.iset.specs.Check.{checkRule, first}
 use Rattle.iset.specs.Remove.{removeNumber, RemoveAnswer, removeAnswer, removeCall}
@@ -174,7 +174,7 @@ module _ (W C S : List ℕ) where
 
   pub build-no : buildCall W C S .answer .no ≡ buildNumber (length W) (length C) S
   unfolding buildCall
-  build-no = number-is (λ (a : Change BuildAnswer). a .answer .no) (buildNumber (length W) (length C) S) _ _ refl refl
+  build-no = number-is (λ (a : Effect BuildAnswer). a .answer .no) (buildNumber (length W) (length C) S) _ _ refl refl
 
   -- the tables from each row on
   abbrev from-6 : Rows
@@ -208,7 +208,7 @@ module _ (W C S : List ℕ) where
 
   -- "a refused build: count 0, root U"
   pub build-leaves : (buildCall W C S .answer .no ≡ 0 → ⊥)
-      → buildCall W C S ≡ change (record { no = buildCall W C S .answer .no; map = record { count = 0; root = U } }) W C
+      → buildCall W C S ≡ effect (record { no = buildCall W C S .answer .no; map = record { count = 0; root = U } }) W C
   unfolding buildCall
   build-leaves d = rw build-no (kept (buildNumber (length W) (length C) S) _ _ (λ e. d (build-no ∙ e)))
 
@@ -216,7 +216,7 @@ module _ (W C S : List ℕ) where
 module _ (m : Map) (W C : List ℕ) (s : ℕ) where
   pub remove-no : removeCall m W C s .answer .no ≡ removeNumber m W C s
   unfolding removeCall
-  remove-no = number-is (λ (a : Change RemoveAnswer). a .answer .no) (removeNumber m W C s) _ _ refl refl
+  remove-no = number-is (λ (a : Effect RemoveAnswer). a .answer .no) (removeNumber m W C s) _ _ refl refl
 
   pub remove-refusals : Exactly (removeRows m W C s) (removeCall m W C s .answer .no)
   remove-refusals =
@@ -229,7 +229,7 @@ module _ (m : Map) (W C : List ℕ) (s : ℕ) where
   -- "the map .. as given .., value and counts 0, .. pairs U", and document 02, item 9: "a refusal 0"
   pub remove-leaves : (removeCall m W C s .answer .no ≡ 0 → ⊥)
       → removeCall m W C s
-      ≡ change (record {
+      ≡ effect (record {
         no = removeCall m W C s .answer .no;
         value = 0;
         map = m;
@@ -246,7 +246,7 @@ module _ (m : Map) (W C : List ℕ) (e : Entry) where
 
   pub insert-no : insertCall m W C e .answer .no ≡ insertNumber m W C e
   unfolding insertCall
-  insert-no = number-is (λ (a : Change InsertAnswer). a .answer .no) (insertNumber m W C e) _ _ refl refl
+  insert-no = number-is (λ (a : Effect InsertAnswer). a .answer .no) (insertNumber m W C e) _ _ refl refl
 
   -- the refusals after that of a full store
   abbrev after-room : ℕ
@@ -270,7 +270,7 @@ module _ (m : Map) (W C : List ℕ) (e : Entry) where
 
   -- "the map .. as given .., slot .. U"
   pub insert-leaves : (insertCall m W C e .answer .no ≡ 0 → ⊥)
-      → insertCall m W C e ≡ change (record { no = insertCall m W C e .answer .no; slot = U; map = m; reach = 0 }) W C
+      → insertCall m W C e ≡ effect (record { no = insertCall m W C e .answer .no; slot = U; map = m; reach = 0 }) W C
   unfolding insertCall
   insert-leaves d = rw insert-no (kept (insertNumber m W C e) _ _ (λ z. d (insert-no ∙ z)))
 
@@ -456,8 +456,8 @@ module _ (m : Map) (W C : List ℕ) where
 refused-number : (k : ℕ) (y : Refusal) → refusalNumber y ≡ k → k ≡ 0 → ⊥
 refused-number k y e z = omega (arith, number-pos y)
 
-store-left : {A : Type 0} (x y : Change A) → x ≡ y → (x .words ≡ y .words) × (x .colours ≡ y .colours)
-store-left {A = A} x y e = (ap (λ (c : Change A). c .words) e, ap (λ (c : Change A). c .colours) e)
+store-left : {A : Type 0} (x y : Effect A) → x ≡ y → (x .words ≡ y .words) × (x .colours ≡ y .colours)
+store-left {A = A} x y e = (ap (λ (c : Effect A). c .words) e, ap (λ (c : Effect A). c .colours) e)
 
 pub build-code : (κs : Lfts 3) (a : K.Dens κs build-kinds.ps) (r : K.resT build-kinds.r κs .Denot) (s : AtExit (K.endedOf 3 build-kinds.ps build-kinds.r) κs)
     → build-reads.Post κs a r s → (y : Refusal) → r ≡ built.Refused y → (now (s .0) ≡ now (a .0)) × (now (s .1 .0) ≡ now (a .1 .0))
@@ -466,7 +466,7 @@ build-code κs a r s p y e =
     let C : List ℕ = now (a .1 .0) in
     let S : List ℕ = now (a .1 .1 .0) in
     let k : refusalNumber y ≡ buildCall W C S .answer .no =
-    ap (λ (x : Built). buildAnswer x .no) (sym e) ∙ ap (λ (x : Change BuildAnswer). x .answer .no) p in
+    ap (λ (x : Built). buildAnswer x .no) (sym e) ∙ ap (λ (x : Effect BuildAnswer). x .answer .no) p in
     store-left _ _ (p ∙ build-leaves W C S (refused-number (buildCall W C S .answer .no) y k))
 
 pub remove-code : (κs : Lfts 2) (a : K.Dens κs remove-kinds.ps) (r : K.resT remove-kinds.r κs .Denot) (s : AtExit (K.endedOf 2 remove-kinds.ps remove-kinds.r) κs)
@@ -477,7 +477,7 @@ remove-code κs a r s p y e =
     let C : List ℕ = now (a .1 .1 .0) in
     let t : ℕ = a .1 .1 .1 .0 in
     let k : refusalNumber y ≡ removeCall m W C t .answer .no =
-    ap (λ (x : Removal). removeAnswer m x .no) (sym e) ∙ ap (λ (x : Change RemoveAnswer). x .answer .no) p in
+    ap (λ (x : Removal). removeAnswer m x .no) (sym e) ∙ ap (λ (x : Effect RemoveAnswer). x .answer .no) p in
     store-left _ _ (p ∙ remove-leaves m W C t (refused-number (removeCall m W C t .answer .no) y k))
 
 pub insert-code : (κs : Lfts 2) (a : K.Dens κs insert-kinds.ps) (r : K.resT insert-kinds.r κs .Denot) (s : AtExit (K.endedOf 2 insert-kinds.ps insert-kinds.r) κs)
@@ -488,7 +488,7 @@ insert-code κs a r s p y e =
     let C : List ℕ = now (a .1 .1 .0) in
     let t : Entry = entryOf (a .1 .1 .1 .0) (a .1 .1 .1 .1 .0) (a .1 .1 .1 .1 .1 .0) in
     let k : refusalNumber y ≡ insertCall m W C t .answer .no =
-    ap (λ (x : Insertion). insertAnswer m x .no) (sym e) ∙ ap (λ (x : Change InsertAnswer). x .answer .no) p in
+    ap (λ (x : Insertion). insertAnswer m x .no) (sym e) ∙ ap (λ (x : Effect InsertAnswer). x .answer .no) p in
     store-left _ _ (p ∙ insert-leaves m W C t (refused-number (insertCall m W C t .answer .no) y k))
 
 pub drain-code : (κs : Lfts 3) (a : K.Dens κs drain-kinds.ps) (r : K.resT drain-kinds.r κs .Denot) (s : AtExit (K.endedOf 3 drain-kinds.ps drain-kinds.r) κs)

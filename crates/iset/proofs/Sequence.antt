@@ -21,8 +21,8 @@ use Rattle.tree_in_rule.specs.Insert.{insertRule}
 use Rattle.tree_changes.specs.Sequence.{Change, run, total, TakesAll}
 use Rattle.tree_in_rule.proofs.Inside.{inserted-inside}
 use Rattle.tree_changes.proofs.Sequence.{ran}
-use Rattle.iset.specs.Changes.{change}
-use Rattle.iset.specs.Changes as calls
+use Rattle.iset.specs.Effects.{effect}
+use Rattle.iset.specs.Effects as calls
 use Rattle.iset.specs.Check.{checkRule}
 use Rattle.iset.specs.Build.{buildNumber, BuildAnswer, refusedBuild, buildList, buildCall}
 use Rattle.iset.specs.Remove.{removeNumber, RemoveAnswer, refusedRemoval, removeSlot, removeCall}
@@ -71,7 +71,7 @@ abbrev pub Sound : State → Type 0
 Sound S = checkRule (S .map) (S .words) (S .colours) ≡ 0
 
 -- a call that is refused, by the number k, or not
-by-number : {A : Type 0} (map : A → Map) (k : ℕ) (x y : calls.Change A) → (k ≡ 0 → Sound (left map x)) → Sound (left map y)
+by-number : {A : Type 0} (map : A → Map) (k : ℕ) (x y : calls.Effect A) → (k ≡ 0 → Sound (left map x)) → Sound (left map y)
     → Sound (left map (cond (eqb k 0) x y))
 by-number map zero x y f g = f refl
 by-number map (suc k) x y f g = rw (ne-eqb (suc k) 0 (λ z. omega arith)) g
@@ -85,7 +85,7 @@ module _ (m : Map) (W C : List ℕ) where
   unfolding buildCall
   build-sound l =
       by-number (λ (a : BuildAnswer). a .map) (buildNumber (length W) (length C) l) (buildList W C l)
-      (change (refusedBuild (buildNumber (length W) (length C) l)) W C)
+      (effect (refusedBuild (buildNumber (length W) (length C) l)) W C)
       (λ e. let a : Accepted (length W) (length C) l = accepted (length W) (length C) l e in
       let b = rw (eq-eqb (buildNumber (length W) (length C) l) 0 e) at (builds W C l e) in
       zero-check (mapOf (length l / 3) (buildRoot (length l / 3))) (buildWords l (length l / 3) W) (buildColours (length l / 3) C)
@@ -100,7 +100,7 @@ module _ (m : Map) (W C : List ℕ) where
     unfolding removeCall
     remove-sound s =
         let R : Removed = removeRule W C (m .count) (m .root) s in
-        by-number (λ (a : RemoveAnswer). a .map) (removeNumber m W C s) (removeSlot m W C s) (change (refusedRemoval m (removeNumber m W C s)) W C)
+        by-number (λ (a : RemoveAnswer). a .map) (removeNumber m W C s) (removeSlot m W C s) (effect (refusedRemoval m (removeNumber m W C s)) W C)
         (λ e. let i : Inside (m .count) W C (R .store) = removed-inside W C (m .count) (m .root) s (removals.accepts m W C s e .1) in
         zero-check (mapOf (m .count - 1) (R .store .root)) (R .store .words) (R .store .colours)
         (rw (i .words-length, i .colours-length) (omega (arith, fits))) (removals.by-rule m W C s e .passes))
@@ -110,7 +110,7 @@ module _ (m : Map) (W C : List ℕ) where
     unfolding insertCall
     insert-sound e =
         let R : Store = insertRule W C (m .count) (m .root) e in
-        by-number (λ (a : InsertAnswer). a .map) (insertNumber m W C e) (insertEntry m W C e) (change (refusedInsertion m (insertNumber m W C e)) W C)
+        by-number (λ (a : InsertAnswer). a .map) (insertNumber m W C e) (insertEntry m W C e) (effect (refusedInsertion m (insertNumber m W C e)) W C)
         (λ z. let i : Inside (m .count + 1) W C R = inserted-inside W C (m .count) (m .root) e in
         zero-check (mapOf (m .count + 1) (R .root)) (R .words) (R .colours)
         (rw (i .words-length, i .colours-length) (omega (arith, insertions.accepts m W C e z .0))) (insertions.by-rule m W C e z .passes))

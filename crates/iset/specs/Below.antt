@@ -5,13 +5,13 @@ use mathlib.Core.Path.{_≡_}
 use mathlib.Core.List.{List}
 use Prim.Native.Nat.{ℕ}
 use Rattle.tree.specs.Below.{Agree, SameColours}
-use Rattle.iset.specs.Changes.{Change}
+use Rattle.iset.specs.Effects.{Effect}
 
 pub record SameBelow (n : ℕ) (W C X D : List ℕ) : Type 0 where
   pub words : Agree n W X
   pub colours : SameColours n C D
 
 -- two calls that answer the same and leave two such stores
-pub record SameChange {A : Type 0} (n : ℕ) (x y : Change A) : Type 0 where
+pub record SameEffect {A : Type 0} (n : ℕ) (x y : Effect A) : Type 0 where
   pub answers : x .answer ≡ y .answer
   pub leaves : SameBelow n (x .words) (x .colours) (y .words) (y .colours)

@@ -10,7 +10,7 @@ use Rattle.words.specs.Nodes.{capacity}
 use Rattle.words.specs.Refusals.{refusalNumber}
 use Rattle.builder.specs.Input.{allProper, sorted}
 use Rattle.builder.specs.Build.{buildWords, buildColours, buildRoot}
-use Rattle.iset.specs.Changes.{Change, change}
+use Rattle.iset.specs.Effects.{Effect, effect}
 use Rattle.iset.specs.Maps.{mapOf, emptyMap}
 use Rattle.iset.specs.declared.Map.{Map}
 use Rattle.iset.specs.declared.build.Built.{Built}
@@ -38,13 +38,13 @@ buildAnswer (Done m) = record { no = 0; map = m }
 buildAnswer (Refused y) = refusedBuild (refusalNumber y)
 
 -- a list that is accepted
-abbrev pub buildList : (words colours triples : List ℕ) → Change BuildAnswer
+abbrev pub buildList : (words colours triples : List ℕ) → Effect BuildAnswer
 buildList W C S =
     let n : ℕ = length S / 3 in
-    change (record { no = 0; map = mapOf n (buildRoot n) }) (buildWords S n W) (buildColours n C)
+    effect (record { no = 0; map = mapOf n (buildRoot n) }) (buildWords S n W) (buildColours n C)
 
 -- the call: in the words W and the colours C, from the list S
-unfoldable pub buildCall : (words colours triples : List ℕ) → Change BuildAnswer
+unfoldable pub buildCall : (words colours triples : List ℕ) → Effect BuildAnswer
 buildCall W C S =
     let k : ℕ = buildNumber (length W) (length C) S in
-    cond (eqb k 0) (buildList W C S) (change (refusedBuild k) W C)
+    cond (eqb k 0) (buildList W C S) (effect (refusedBuild k) W C)

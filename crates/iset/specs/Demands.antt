@@ -27,7 +27,7 @@ use Rattle.tree_in_rule.specs.Reach.{insertHulls}
 use Rattle.iter.specs.declared.Cursor.{Cursor}
 use Rattle.iter.specs.declared.rules.Query.{Query}
 use Rattle.iset.specs.Check.{checkRule}
-use Rattle.iset.specs.Changes.{Change, change, output}
+use Rattle.iset.specs.Effects.{Effect, effect, output}
 use Rattle.iset.specs.Build.{refusedBuild, buildCall}
 use Rattle.iset.specs.Remove.{RemoveAnswer, refusedRemoval, removeCall}
 use Rattle.iset.specs.Insert.{InsertAnswer, refusedInsertion, insertCall}
@@ -52,11 +52,11 @@ pub record Demand1 (m : Map) (W C : List ℕ) : Type 0 where
   pub plain : (q : Query) (out : List ℕ) → Exactly (plainRows m W C q (length out)) (plainCall m W C q out .answer .no)
   -- a refused call answers its number with the map or the cursor as given ("a refused build: count
   -- 0, root U"), and leaves what was lent
-  pub build-leaves : (S : List ℕ) → (buildCall W C S .answer .no ≡ 0 → ⊥) → buildCall W C S ≡ change (refusedBuild (buildCall W C S .answer .no)) W C
+  pub build-leaves : (S : List ℕ) → (buildCall W C S .answer .no ≡ 0 → ⊥) → buildCall W C S ≡ effect (refusedBuild (buildCall W C S .answer .no)) W C
   pub remove-leaves : (s : ℕ) → (removeCall m W C s .answer .no ≡ 0 → ⊥)
-      → removeCall m W C s ≡ change (refusedRemoval m (removeCall m W C s .answer .no)) W C
+      → removeCall m W C s ≡ effect (refusedRemoval m (removeCall m W C s .answer .no)) W C
   pub insert-leaves : (e : Entry) → (insertCall m W C e .answer .no ≡ 0 → ⊥)
-      → insertCall m W C e ≡ change (refusedInsertion m (insertCall m W C e .answer .no)) W C
+      → insertCall m W C e ≡ effect (refusedInsertion m (insertCall m W C e .answer .no)) W C
   pub fresh-exact-leaves : (x : Interval) → (startCall m W C x .no ≡ 0 → ⊥) → startCall m W C x ≡ refusedStart (startCall m W C x .no)
   pub step-leaves : (q : Query) (c : Cursor) → (stepCall m W C q c .no ≡ 0 → ⊥) → stepCall m W C q c ≡ refusedStep c (stepCall m W C q c .no)
   pub drain-leaves : (q : Query) (c : Cursor) (limit : ℕ) (out : List ℕ) → (drainCall m W C q c limit out .answer .no ≡ 0 → ⊥)
@@ -68,11 +68,11 @@ pub record Demand1 (m : Map) (W C : List ℕ) : Type 0 where
 -- leaves, in that of insertion.
 abbrev pub removal : (map : Map) (words colours : List ℕ) (slot : ℕ) → Removed
 removal m W C s =
-    let r : Change RemoveAnswer = removeCall m W C s in
+    let r : Effect RemoveAnswer = removeCall m W C s in
     record { store = store (r .words) (r .colours) (r .answer .map .root); value = r .answer .value; pairs = r .answer .pairs }
 
 abbrev pub insertion : (map : Map) (words colours : List ℕ) (entry : Entry) → Store
-insertion m W C e = let r : Change InsertAnswer = insertCall m W C e in store (r .words) (r .colours) (r .answer .map .root)
+insertion m W C e = let r : Effect InsertAnswer = insertCall m W C e in store (r .words) (r .colours) (r .answer .map .root)
 
 -- Demand 2, of calls that are not refused; P is the tree of the store before, the only one
 -- (`unique`, tree/proofs/Checked). "On stores that pass the check, removal, insertion .. are proved

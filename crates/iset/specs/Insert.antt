@@ -14,7 +14,7 @@ use Rattle.tree_edit.specs.Store.{Store}
 use Rattle.tree_edit.specs.Reach.{changes}
 use Rattle.tree_in_rule.specs.Insert.{insertRule}
 use Rattle.tree_in_rule.specs.Reach.{insertHulls}
-use Rattle.iset.specs.Changes.{Change, change}
+use Rattle.iset.specs.Effects.{Effect, effect}
 use Rattle.iset.specs.Check.{first, checkRule}
 use Rattle.iset.specs.Maps.{mapOf}
 use Rattle.iset.specs.declared.Map.{Map}
@@ -64,22 +64,22 @@ abbrev pub insertReach : (map : Map) (words colours : List ℕ) (entry : Entry) 
 insertReach m W C e = changes (m .count + 1) (insertHulls W C (m .count) (m .root) e)
 
 -- an entry that there is room for
-abbrev pub insertEntry : (map : Map) (words colours : List ℕ) (entry : Entry) → Change InsertAnswer
+abbrev pub insertEntry : (map : Map) (words colours : List ℕ) (entry : Entry) → Effect InsertAnswer
 insertEntry m W C e =
     let S : Store = insertRule W C (m .count) (m .root) e in
-    change (insertDone m S (insertReach m W C e)) (S .words) (S .colours)
+    effect (insertDone m S (insertReach m W C e)) (S .words) (S .colours)
 
 -- a call that is refused by the number k, or not
 abbrev pub insertBy : (map : Map) (words colours : List ℕ) (entry : Entry) (number : ℕ)
-    → Change InsertAnswer
-insertBy m W C e k = cond (eqb k 0) (insertEntry m W C e) (change (refusedInsertion m k) W C)
+    → Effect InsertAnswer
+insertBy m W C e k = cond (eqb k 0) (insertEntry m W C e) (effect (refusedInsertion m k) W C)
 
 -- the opened call
 unfoldable pub openInsertCall : (map : Map) (words colours : List ℕ) (entry : Entry)
-    → Change InsertAnswer
+    → Effect InsertAnswer
 openInsertCall m W C e = insertBy m W C e (openInsertNumber m W C e)
 
 -- the public call
 unfoldable pub insertCall : (map : Map) (words colours : List ℕ) (entry : Entry)
-    → Change InsertAnswer
+    → Effect InsertAnswer
 insertCall m W C e = insertBy m W C e (insertNumber m W C e)

@@ -1,4 +1,4 @@
-pub mod Changes
+pub mod Effects
 pub mod Maps
 pub mod Check
 pub mod Build

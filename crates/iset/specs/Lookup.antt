@@ -26,7 +26,7 @@ use Rattle.iter.specs.declared.Form.{Form}
 use Rattle.iter.specs.declared.Form.the-variants as form
 use Rattle.iter.specs.declared.rules.Query.{Query}
 use Rattle.iter.specs.declared.rules.Query.the-variants.{Overlap, Exact}
-use Rattle.iset.specs.Changes.{Output, output}
+use Rattle.iset.specs.Effects.{Output, output}
 use Rattle.iset.specs.Check.{first, countNumber, checkRule}
 use Rattle.iset.specs.declared.Map.{Map}
 use Rattle.iset.specs.declared.lookup.Started.{Started}

@@ -15,7 +15,7 @@ use Rattle.iter.specs.declared.rules.Query.{Query}
 use Rattle.plain_rule.specs.Tour as tour
 use Rattle.plain.specs.Answers.{tally}
 use Rattle.plain.specs.declared.Tally.{Tally}
-use Rattle.iset.specs.Changes.{Output, output}
+use Rattle.iset.specs.Effects.{Output, output}
 use Rattle.iset.specs.Check.{first, checkRule}
 use Rattle.iset.specs.Lookup.{openStartNumber}
 use Rattle.iset.specs.declared.Map.{Map}

@@ -13,7 +13,7 @@ use Rattle.tree_edit.specs.Reach.{changes}
 use Rattle.tree_rm_rule.specs.Reach.{removeHulls}
 use Rattle.words.specs.declared.pair.Pair.{Pair}
 use Rattle.words.specs.declared.pair.Pairs.{Pairs}
-use Rattle.iset.specs.Changes.{Change, change}
+use Rattle.iset.specs.Effects.{Effect, effect}
 use Rattle.iset.specs.Check.{first, countNumber, checkRule}
 use Rattle.iset.specs.Maps.{mapOf}
 use Rattle.iset.specs.declared.Map.{Map}
@@ -56,22 +56,22 @@ abbrev pub removeReach : (map : Map) (words colours : List ℕ) (slot : ℕ) →
 removeReach m W C s = changes (m .count) (removeHulls W C (m .count) (m .root) s)
 
 -- a slot that is there
-abbrev pub removeSlot : (map : Map) (words colours : List ℕ) (slot : ℕ) → Change RemoveAnswer
+abbrev pub removeSlot : (map : Map) (words colours : List ℕ) (slot : ℕ) → Effect RemoveAnswer
 removeSlot m W C s =
     let R : rule.Removed = rule.removeRule W C (m .count) (m .root) s in
-    change (removeDone m R (removeReach m W C s)) (R .store .words) (R .store .colours)
+    effect (removeDone m R (removeReach m W C s)) (R .store .words) (R .store .colours)
 
 -- a call that is refused by the number k, or not
-abbrev pub removeBy : (map : Map) (words colours : List ℕ) (slot number : ℕ) → Change RemoveAnswer
-removeBy m W C s k = cond (eqb k 0) (removeSlot m W C s) (change (refusedRemoval m k) W C)
+abbrev pub removeBy : (map : Map) (words colours : List ℕ) (slot number : ℕ) → Effect RemoveAnswer
+removeBy m W C s k = cond (eqb k 0) (removeSlot m W C s) (effect (refusedRemoval m k) W C)
 
 -- the opened call
 unfoldable pub openRemoveCall : (map : Map) (words colours : List ℕ) (slot : ℕ)
-    → Change RemoveAnswer
+    → Effect RemoveAnswer
 openRemoveCall m W C s = removeBy m W C s (openRemoveNumber m W C s)
 
 -- the public call
-unfoldable pub removeCall : (map : Map) (words colours : List ℕ) (slot : ℕ) → Change RemoveAnswer
+unfoldable pub removeCall : (map : Map) (words colours : List ℕ) (slot : ℕ) → Effect RemoveAnswer
 removeCall m W C s = removeBy m W C s (removeNumber m W C s)
 
 -- the slot after the removal of slot s of the entry that was in slot a before it, by the removal's

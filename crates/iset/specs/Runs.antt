@@ -27,7 +27,7 @@ use Rattle.iter.specs.declared.rules.Query.{Query}
 use Rattle.iter.specs.declared.rules.Query.the-variants.{Overlap, Exact}
 use Rattle.iter_laws.specs.Entered.{entered, overlapRule, exactRule, touching}
 use Rattle.iter_laws.specs.Highest.{Highest}
-use Rattle.iset.specs.Changes.{Output}
+use Rattle.iset.specs.Effects.{Output}
 use Rattle.iset.specs.Lookup.{beginning, stepNumber, startCall, stepCall, StepAnswer, drainCall, DrainAnswer}
 use Rattle.iset.specs.declared.Map.{Map}
 

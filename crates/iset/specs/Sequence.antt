@@ -1,9 +1,9 @@
 -- Public calls one after the other, each on the map that the last one answered.
--- Letters: S state, x call, l triples or calls, s slot, e entry, c change, a answer
+-- Letters: S state, x call, l triples or calls, s slot, e entry, c effect, a answer
 use mathlib.Core.List.{List, [], _∷_}
 use Prim.Native.Nat.{ℕ}
 use Rattle.words.specs.declared.node.Entry.{Entry}
-use Rattle.iset.specs.Changes.{Change}
+use Rattle.iset.specs.Effects.{Effect}
 use Rattle.iset.specs.Build.{BuildAnswer, buildCall}
 use Rattle.iset.specs.Remove.{RemoveAnswer, openRemoveCall, removeCall}
 use Rattle.iset.specs.Insert.{InsertAnswer, openInsertCall, insertCall}
@@ -22,16 +22,16 @@ pub record State : Type 0 where
   pub colours : List ℕ
 
 -- the map that a call answers, with what it leaves
-abbrev pub left : {A : Type 0} → (map : A → Map) (change : Change A) → State
+abbrev pub left : {A : Type 0} → (map : A → Map) (effect : Effect A) → State
 left map c = record { map = map (c .answer); words = c .words; colours = c .colours }
 
-abbrev pub built : (change : Change BuildAnswer) → State
+abbrev pub built : (effect : Effect BuildAnswer) → State
 built = left (λ (a : BuildAnswer). a .map)
 
-abbrev pub removed : (change : Change RemoveAnswer) → State
+abbrev pub removed : (effect : Effect RemoveAnswer) → State
 removed = left (λ (a : RemoveAnswer). a .map)
 
-abbrev pub inserted : (change : Change InsertAnswer) → State
+abbrev pub inserted : (effect : Effect InsertAnswer) → State
 inserted = left (λ (a : InsertAnswer). a .map)
 
 -- after a call, refused or not

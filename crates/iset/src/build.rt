@@ -8,7 +8,7 @@ use words::node::capacity;
 use words::refusal::Refusal;
 ghost use mathlib.Core.Path.{_≡_};
 ghost use Rattle.iset.specs.Check.{checkNumber};
-ghost use Rattle.iset.specs.Changes.{change};
+ghost use Rattle.iset.specs.Effects.{effect};
 ghost use Rattle.iset.specs.Build.{buildNumber, buildAnswer, buildCall};
 
 // What a build answers.
@@ -38,7 +38,7 @@ fn test_list(list: &[u64], words: usize, bytes: usize) -> Checked
 impl Map {
     // The map of the entries of a list, entry k in slot k. Slots and colour bits past them stay as they are.
     pub fn build(nodes: &mut [u64], colours: &mut [u8], list: &[u64]) -> Built
-        ensures { λ r. ⌜ change (buildAnswer r) (now (nodes .exit)) (now (colours .exit))
+        ensures { λ r. ⌜ effect (buildAnswer r) (now (nodes .exit)) (now (colours .exit))
             ≡ buildCall (now (nodes .entry)) (now (colours .entry)) (now (list .entry)) ⌝ }
     {
         let Checked::Refused(why) = test_list(list, nodes.len(), colours.len()) else {

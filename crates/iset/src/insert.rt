@@ -7,7 +7,7 @@ use words::node::capacity;
 use words::refusal::Refusal;
 ghost use mathlib.Core.Path.{_≡_};
 ghost use Prim.Native.Nat.{_+_, _<_};
-ghost use Rattle.iset.specs.Changes.{change};
+ghost use Rattle.iset.specs.Effects.{effect};
 ghost use Rattle.iset.specs.Check.{checkNumber};
 ghost use Rattle.iset.specs.Insert.{entryOf, fullNumber, openInsertNumber, roomThenCheck, insertAnswer, insertEntry, openInsertCall, insertCall};
 ghost use Rattle.words.specs.Nodes.{Has, HasBit};
@@ -61,7 +61,7 @@ impl Map {
     // The insertion of an entry that there is room for.
     fn insert_entry(self, nodes: &mut [u64], colours: &mut [u8], entry: Entry) -> Insertion
         requires { ⌜ Has (now nodes) (self .count) × HasBit (now colours) (self .count) ⌝ }
-        ensures { λ r. ⌜ change (insertAnswer self r) (now (nodes .exit)) (now (colours .exit))
+        ensures { λ r. ⌜ effect (insertAnswer self r) (now (nodes .exit)) (now (colours .exit))
             ≡ insertEntry self (now (nodes .entry)) (now (colours .entry)) entry ⌝ }
     {
         let r = force_insert(nodes, colours, self.count, self.root, entry);
@@ -84,7 +84,7 @@ impl Map {
         end: u64,
         value: u64,
     ) -> Insertion
-        ensures { λ r. ⌜ change (insertAnswer self r) (now (nodes .exit)) (now (colours .exit))
+        ensures { λ r. ⌜ effect (insertAnswer self r) (now (nodes .exit)) (now (colours .exit))
             ≡ openInsertCall self (now (nodes .entry)) (now (colours .entry)) (entryOf start end value) ⌝ }
     {
         let entry = Entry { start, end, value };
@@ -103,7 +103,7 @@ impl Map {
         end: u64,
         value: u64,
     ) -> Insertion
-        ensures { λ r. ⌜ change (insertAnswer self r) (now (nodes .exit)) (now (colours .exit))
+        ensures { λ r. ⌜ effect (insertAnswer self r) (now (nodes .exit)) (now (colours .exit))
             ≡ insertCall self (now (nodes .entry)) (now (colours .entry)) (entryOf start end value) ⌝ }
     {
         let Checked::Refused(why) = self.test_insert(nodes, colours) else {

@@ -22,7 +22,7 @@ ghost use Rattle.iter.specs.Places.{Placed};
 ghost use Rattle.iter.specs.Walk.{step};
 ghost use Rattle.iter.specs.Queries.{rules};
 ghost use Rattle.iter.specs.Answers.{answer, isHit};
-ghost use Rattle.iset.specs.Changes.{output};
+ghost use Rattle.iset.specs.Effects.{output};
 ghost use Rattle.iset.specs.Check.{checkNumber};
 ghost use Rattle.iset.specs.Lookup.{ordered, queryNumber, beginning, formNumber, openStartNumber, openStepNumber, openDrainNumber, startAnswer, openStartCall, startCall, stepAnswer, openStepCall, stepCall, drainAnswer, openDrainCall, drainCall};
 ghost use Rattle.words.specs.Nodes.{Holds};

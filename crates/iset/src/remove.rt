@@ -7,7 +7,7 @@ use words::pair::Pairs;
 use words::refusal::Refusal;
 ghost use mathlib.Core.Path.{_≡_};
 ghost use Prim.Native.Nat.{_<_};
-ghost use Rattle.iset.specs.Changes.{change};
+ghost use Rattle.iset.specs.Effects.{effect};
 ghost use Rattle.iset.specs.Check.{checkNumber};
 ghost use Rattle.iset.specs.Remove.{slotAfter, removeAnswer, removeSlot, openRemoveNumber, openRemoveCall, removeCall};
 ghost use Rattle.words.specs.Nodes.{Holds, HoldsBits};
@@ -62,7 +62,7 @@ impl Map {
     // The removal of a slot below the count.
     fn remove_slot(self, nodes: &mut [u64], colours: &mut [u8], slot: u64) -> Removal
         requires { ⌜ Holds (now nodes) (self .count) × HoldsBits (now colours) (self .count) × (slot < self .count) ⌝ }
-        ensures { λ r. ⌜ change (removeAnswer self r) (now (nodes .exit)) (now (colours .exit))
+        ensures { λ r. ⌜ effect (removeAnswer self r) (now (nodes .exit)) (now (colours .exit))
             ≡ removeSlot self (now (nodes .entry)) (now (colours .entry)) slot ⌝ }
     {
         let r = remove_at(nodes, colours, self.count, self.root, slot);
@@ -80,7 +80,7 @@ impl Map {
 
     // `remove` for an opened store.
     pub fn open_remove(self, nodes: &mut [u64], colours: &mut [u8], slot: u64) -> Removal
-        ensures { λ r. ⌜ change (removeAnswer self r) (now (nodes .exit)) (now (colours .exit))
+        ensures { λ r. ⌜ effect (removeAnswer self r) (now (nodes .exit)) (now (colours .exit))
             ≡ openRemoveCall self (now (nodes .entry)) (now (colours .entry)) slot ⌝ }
     {
         let Checked::Refused(why) = self.test_slot(nodes, colours, slot) else {
@@ -91,7 +91,7 @@ impl Map {
 
     // Removes the entry of a slot. Up to three other entries change slot with it; the answer names them.
     pub fn remove(self, nodes: &mut [u64], colours: &mut [u8], slot: u64) -> Removal
-        ensures { λ r. ⌜ change (removeAnswer self r) (now (nodes .exit)) (now (colours .exit))
+        ensures { λ r. ⌜ effect (removeAnswer self r) (now (nodes .exit)) (now (colours .exit))
             ≡ removeCall self (now (nodes .entry)) (now (colours .entry)) slot ⌝ }
     {
         let Checked::Refused(why) = self.check(nodes, colours) else {

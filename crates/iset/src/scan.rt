@@ -6,7 +6,7 @@ use plain::Tally;
 use plain::scan;
 use words::refusal::Refusal;
 ghost use mathlib.Core.Path.{_≡_};
-ghost use Rattle.iset.specs.Changes.{output};
+ghost use Rattle.iset.specs.Effects.{output};
 ghost use Rattle.iset.specs.Check.{checkNumber};
 ghost use Rattle.iset.specs.Plain.{openPlainNumber, plainAnswer, openPlainCall, plainCall};
 

@@ -4,7 +4,7 @@ use contract.Lifetimes.{Lfts}
 use borrow.Fn.Kinds as K
 use denote.Triple.Clauses.{AtExit}
 use denote.Ref.{now}
-use Rattle.iset_c.proofs.Exits.{same-answer, same-change, same-output}
+use Rattle.iset_c.proofs.Exits.{same-answer, same-effect, same-output}
 use Rattle.iset_c.proofs.iset_check.Reads as check-reads
 use Rattle.iset_c.proofs.iset_check.Kinds as check-kinds
 use Rattle.iset_c.proofs.iset_build.Reads as build-reads
@@ -54,7 +54,7 @@ pub build-determined :
     × (now (s .1 .1 .1 .0) ≡ now (s′ .1 .1 .1 .0))
     × (now (s .0) ≡ now (s′ .0))
     × (now (s .1 .0) ≡ now (s′ .1 .0))
-build-determined κs a r r′ s s′ p q = same-change p q
+build-determined κs a r r′ s s′ p q = same-effect p q
 
 pub remove-determined :
     (κs : Lfts 3) (a : K.Dens κs remove-kinds.ps) (r r′ : K.resT remove-kinds.r κs .Denot)
@@ -64,7 +64,7 @@ pub remove-determined :
     × (now (s .1 .1 .1 .1 .1 .0) ≡ now (s′ .1 .1 .1 .1 .1 .0))
     × (now (s .1 .1 .0) ≡ now (s′ .1 .1 .0))
     × (now (s .1 .1 .1 .0) ≡ now (s′ .1 .1 .1 .0))
-remove-determined κs a r r′ s s′ p q = same-change p q
+remove-determined κs a r r′ s s′ p q = same-effect p q
 
 pub insert-determined :
     (κs : Lfts 3) (a : K.Dens κs insert-kinds.ps) (r r′ : K.resT insert-kinds.r κs .Denot)
@@ -74,7 +74,7 @@ pub insert-determined :
     × (now (s .1 .1 .1 .1 .1 .1 .1 .0) ≡ now (s′ .1 .1 .1 .1 .1 .1 .1 .0))
     × (now (s .1 .1 .0) ≡ now (s′ .1 .1 .0))
     × (now (s .1 .1 .1 .0) ≡ now (s′ .1 .1 .1 .0))
-insert-determined κs a r r′ s s′ p q = same-change p q
+insert-determined κs a r r′ s s′ p q = same-effect p q
 
 pub fresh-determined :
     (κs : Lfts 1) (a : K.Dens κs fresh-kinds.ps) (r r′ : K.resT fresh-kinds.r κs .Denot)

@@ -20,8 +20,8 @@ module _ {n k : ℕ} {A B : List ℕ} {x : Exit} where
       let e : exit n A [] ≡ exit k B [] = p ∙ sym q in
       (ap (λ (y : Exit). y .number) e, ap (λ (y : Exit). y .answer) e)
 
-  pub same-change : {W C X D : List ℕ} → exit n A (W ∷ C ∷ []) ≡ x → exit k B (X ∷ D ∷ []) ≡ x → (n ≡ k) × (A ≡ B) × (W ≡ X) × (C ≡ D)
-  same-change {W = W} {C = C} {X = X} {D = D} p q =
+  pub same-effect : {W C X D : List ℕ} → exit n A (W ∷ C ∷ []) ≡ x → exit k B (X ∷ D ∷ []) ≡ x → (n ≡ k) × (A ≡ B) × (W ≡ X) × (C ≡ D)
+  same-effect {W = W} {C = C} {X = X} {D = D} p q =
       let e : exit n A (W ∷ C ∷ []) ≡ exit k B (X ∷ D ∷ []) = p ∙ sym q in (
         ap (λ (y : Exit). y .number) e,
         ap (λ (y : Exit). y .answer) e,

@@ -10,14 +10,14 @@ use borrow.Author.Tests.{ne-eqb}
 use Rattle.words.specs.declared.node.Entry.{Entry}
 use Rattle.iter.specs.declared.Cursor.{Cursor}
 use Rattle.iter.specs.declared.rules.Query.{Query}
-use Rattle.iset.specs.Changes.{Change, change, Output, output}
+use Rattle.iset.specs.Effects.{Effect, effect, Output, output}
 use Rattle.iset.specs.Build.{buildNumber, buildList, buildCall}
 use Rattle.iset.specs.Remove.{removeNumber, removeSlot, removeCall}
 use Rattle.iset.specs.Insert.{insertNumber, insertEntry, insertCall}
 use Rattle.iset.specs.Lookup.{drainNumber, drainCall}
 use Rattle.iset.specs.Plain.{plainNumber, plainCall}
 use Rattle.iset.specs.declared.Map.{Map}
-use Rattle.iset_c.specs.Replies.{Reply, Exit, exit, number, handed, left, exitOf, changeExit, outputExit, buildReply, removeReply, insertReply, drainReply, plainReply, buildExit, removeExit, insertExit, drainExit, plainExit}
+use Rattle.iset_c.specs.Replies.{Reply, Exit, exit, number, handed, left, exitOf, effectExit, outputExit, buildReply, removeReply, insertReply, drainReply, plainReply, buildExit, removeExit, insertExit, drainExit, plainExit}
 
 -- an export that refuses leaves the answer A and the other slices, l
 abbrev pub Kept : Exit → List ℕ → List (List ℕ) → Type 0
@@ -43,10 +43,10 @@ exit-kept b A R old new f d = rw (answer-kept b A R d, slices-kept b A R old new
 
 -- a call that is refused by the number k, or not: one that writes the store, and one that writes an
 -- output
-pub change-kept : {K : Type 0} (reply : K → Reply) (A W C : List ℕ) (k : ℕ) (x : Change K) (a : K) → reply (x .answer) .no ≡ 0
-    → Kept (changeExit reply A W C (cond (eqb k 0) x (change a W C))) A (W ∷ C ∷ [])
-change-kept reply A W C zero x a z = exit-kept true A _ _ _ (λ d. absurd (d z))
-change-kept reply A W C (suc k) x a z = rw (ne-eqb (suc k) 0 (λ e. omega arith)) (exit-kept true A _ _ _ (λ d. refl))
+pub effect-kept : {K : Type 0} (reply : K → Reply) (A W C : List ℕ) (k : ℕ) (x : Effect K) (a : K) → reply (x .answer) .no ≡ 0
+    → Kept (effectExit reply A W C (cond (eqb k 0) x (effect a W C))) A (W ∷ C ∷ [])
+effect-kept reply A W C zero x a z = exit-kept true A _ _ _ (λ d. absurd (d z))
+effect-kept reply A W C (suc k) x a z = rw (ne-eqb (suc k) 0 (λ e. omega arith)) (exit-kept true A _ _ _ (λ d. refl))
 
 pub output-kept : {K : Type 0} (reply : K → Reply) (b : Bool) (A out : List ℕ) (k : ℕ) (x : Output K) (a : K) → reply (x .answer) .no ≡ 0
     → Kept (outputExit reply b A out (cond (eqb k 0) x (output a out))) A (out ∷ [])
@@ -55,16 +55,16 @@ output-kept reply b A out (suc k) x a z = rw (ne-eqb (suc k) 0 (λ e. omega arit
 
 pub build-kept : (A W C S : List ℕ) → Kept (buildExit A W C S) A (W ∷ C ∷ [])
 unfolding buildCall
-build-kept A W C S = change-kept buildReply A W C (buildNumber (length W) (length C) S) (buildList W C S) _ refl
+build-kept A W C S = effect-kept buildReply A W C (buildNumber (length W) (length C) S) (buildList W C S) _ refl
 
 module _ (A : List ℕ) (m : Map) (W C : List ℕ) where
   pub remove-kept : (s : ℕ) → Kept (removeExit A m W C s) A (W ∷ C ∷ [])
   unfolding removeCall
-  remove-kept s = change-kept removeReply A W C (removeNumber m W C s) (removeSlot m W C s) _ refl
+  remove-kept s = effect-kept removeReply A W C (removeNumber m W C s) (removeSlot m W C s) _ refl
 
   pub insert-kept : (e : Entry) → Kept (insertExit A m W C e) A (W ∷ C ∷ [])
   unfolding insertCall
-  insert-kept e = change-kept insertReply A W C (insertNumber m W C e) (insertEntry m W C e) _ refl
+  insert-kept e = effect-kept insertReply A W C (insertNumber m W C e) (insertEntry m W C e) _ refl
 
   -- b: whether the bounds have kinds
   pub drain-kept : (b : Bool) (q : Query) (c : Cursor) (limit : ℕ) (out : List ℕ) → Kept (drainExit b A m W C q c limit out) A (out ∷ [])

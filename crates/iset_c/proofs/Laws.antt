@@ -15,9 +15,9 @@ use Rattle.iter.specs.declared.rules.Query.{Query}
 use Rattle.iter.specs.declared.rules.Query.the-variants.{Overlap}
 use Rattle.iter.specs.declared.seek.Step.{Step}
 use Rattle.iter.specs.declared.seek.Step.the-variants.{Hit, End}
-use Rattle.iset.specs.Changes.{Change, change, Output, output}
+use Rattle.iset.specs.Effects.{Effect, effect, Output, output}
 use Rattle.iset.specs.declared.Map.{Map}
-use Rattle.iset_c.specs.Replies.{Reply, Exit, exit, number, handed, left, exitOf, answerExit, changeExit, outputExit, stepNumbers, foundNumbers}
+use Rattle.iset_c.specs.Replies.{Reply, Exit, exit, number, handed, left, exitOf, answerExit, effectExit, outputExit, stepNumbers, foundNumbers}
 
 -- an answer that is too short, whatever the bounds are
 pub short-exit : (b : Bool) (A : List ℕ) (R : Reply) (old new : List (List ℕ)) → length A < length (R .numbers) → exit 101 A old ≡ exitOf b A R old new
@@ -55,14 +55,14 @@ module _ {G T K : Type 0} (stands : G → T → K) (reply : K → Reply) (g : G)
     done-answer X p z = rw (← e, q, p) (made-done A (reply (stands g v)) [] [] (rw (← e, q) at h) z)
 
   -- of one that writes the store
-  module _ (k : Change K) (W C Y Z : List ℕ) (e : change (stands g t) Y Z ≡ k) (h : length (reply (k .answer) .numbers) ≤ length A) where
-    pub refused-change : (n : ℕ) → n ≡ reply (stands g v) .no → 0 < reply (stands g v) .no → exit n A (Y ∷ Z ∷ []) ≡ changeExit reply A W C k
-    refused-change n p o =
+  module _ (k : Effect K) (W C Y Z : List ℕ) (e : effect (stands g t) Y Z ≡ k) (h : length (reply (k .answer) .numbers) ≤ length A) where
+    pub refused-effect : (n : ℕ) → n ≡ reply (stands g v) .no → 0 < reply (stands g v) .no → exit n A (Y ∷ Z ∷ []) ≡ effectExit reply A W C k
+    refused-effect n p o =
         rw (← e, q, p) (made-refused A (reply (stands g v)) (W ∷ C ∷ []) (Y ∷ Z ∷ []) (rw (← e, q) at h) o)
 
-    pub done-change : (X : List ℕ) → X ≡ filled (reply (stands g v) .numbers) A → reply (stands g v) .no ≡ 0
-        → exit 0 X (Y ∷ Z ∷ []) ≡ changeExit reply A W C k
-    done-change X p z = rw (← e, q, p) (made-done A (reply (stands g v)) (W ∷ C ∷ []) (Y ∷ Z ∷ []) (rw (← e, q) at h) z)
+    pub done-effect : (X : List ℕ) → X ≡ filled (reply (stands g v) .numbers) A → reply (stands g v) .no ≡ 0
+        → exit 0 X (Y ∷ Z ∷ []) ≡ effectExit reply A W C k
+    done-effect X p z = rw (← e, q, p) (made-done A (reply (stands g v)) (W ∷ C ∷ []) (Y ∷ Z ∷ []) (rw (← e, q) at h) z)
 
   -- of one that writes an output
   module _ (k : Output K) (out Y : List ℕ) (e : output (stands g t) Y ≡ k) (h : length (reply (k .answer) .numbers) ≤ length A) where

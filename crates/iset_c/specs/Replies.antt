@@ -2,7 +2,7 @@
 -- answer's numbers, in the order in which docs/DRIVE.md prints them, and what it leaves in each
 -- lent slice.
 -- Letters: m map, W words, C colours, A places of the answer, a answer of the call, R reply,
---   s step, p pairs, n number, b known (whether each bound has a kind), k change or output,
+--   s step, p pairs, n number, b known (whether each bound has a kind), k effect or output,
 --   l slices, S triples, e entry, x interval, q query, c cursor
 use mathlib.Core.Bool.{Bool, true, cond}
 use mathlib.Core.List.{List, [], _∷_}
@@ -17,7 +17,7 @@ use Rattle.iter.specs.Drains.{filled}
 use Rattle.iter.specs.declared.Cursor.{Cursor}
 use Rattle.iter.specs.declared.rules.Query.{Query}
 use Rattle.iter.specs.declared.seek.Step.{Step}
-use Rattle.iset.specs.Changes.{Change, Output}
+use Rattle.iset.specs.Effects.{Effect, Output}
 use Rattle.iset.specs.Build.{BuildAnswer, buildCall}
 use Rattle.iset.specs.Remove.{RemoveAnswer, removeCall}
 use Rattle.iset.specs.Insert.{InsertAnswer, insertCall}
@@ -65,9 +65,9 @@ exitOf b A R old new = exit (number b A R) (handed b A R) (left b A R old new)
 abbrev pub answerExit : (known : Bool) (places : List ℕ) (reply : Reply) → Exit
 answerExit b A R = exitOf b A R [] []
 
-abbrev pub changeExit : {K : Type 0} → (reply : K → Reply) (places words colours : List ℕ)
-    (change : Change K) → Exit
-changeExit reply A W C k = exitOf true A (reply (k .answer)) (W ∷ C ∷ []) (k .words ∷ k .colours ∷ [])
+abbrev pub effectExit : {K : Type 0} → (reply : K → Reply) (places words colours : List ℕ)
+    (effect : Effect K) → Exit
+effectExit reply A W C k = exitOf true A (reply (k .answer)) (W ∷ C ∷ []) (k .words ∷ k .colours ∷ [])
 
 abbrev pub outputExit : {K : Type 0} → (reply : K → Reply) (known : Bool) (places out : List ℕ)
     (output : Output K) → Exit
@@ -146,14 +146,14 @@ plainReply a = record { no = a .no; numbers = plainNumbers (a .hits) (a .entered
 
 -- the exports of the public calls
 abbrev pub buildExit : (places words colours triples : List ℕ) → Exit
-buildExit A W C S = changeExit buildReply A W C (buildCall W C S)
+buildExit A W C S = effectExit buildReply A W C (buildCall W C S)
 
 abbrev pub removeExit : (places : List ℕ) (map : Map) (words colours : List ℕ) (slot : ℕ) → Exit
-removeExit A m W C slot = changeExit removeReply A W C (removeCall m W C slot)
+removeExit A m W C slot = effectExit removeReply A W C (removeCall m W C slot)
 
 abbrev pub insertExit : (places : List ℕ) (map : Map) (words colours : List ℕ) (entry : Entry)
     → Exit
-insertExit A m W C e = changeExit insertReply A W C (insertCall m W C e)
+insertExit A m W C e = effectExit insertReply A W C (insertCall m W C e)
 
 abbrev pub startExit : (places : List ℕ) (map : Map) (words colours : List ℕ) (interval : Interval)
     → Exit

@@ -4,7 +4,7 @@ use contract.Lifetimes.{Lfts}
 use borrow.Fn.Kinds as K
 use denote.Triple.Clauses.{AtExit}
 use denote.Ref.{now}
-use Rattle.iset_c.proofs.Exits.{same-answer, same-change, same-output}
+use Rattle.iset_c.proofs.Exits.{same-answer, same-effect, same-output}
 use Rattle.iset_c_open.proofs.iset_open_remove.Reads as remove-reads
 use Rattle.iset_c_open.proofs.iset_open_remove.Kinds as remove-kinds
 use Rattle.iset_c_open.proofs.iset_open_insert.Reads as insert-reads
@@ -36,7 +36,7 @@ pub remove-determined :
     × (now (s .1 .1 .1 .1 .1 .0) ≡ now (s′ .1 .1 .1 .1 .1 .0))
     × (now (s .1 .1 .0) ≡ now (s′ .1 .1 .0))
     × (now (s .1 .1 .1 .0) ≡ now (s′ .1 .1 .1 .0))
-remove-determined κs a r r′ s s′ p q = same-change p q
+remove-determined κs a r r′ s s′ p q = same-effect p q
 
 pub insert-determined :
     (κs : Lfts 3) (a : K.Dens κs insert-kinds.ps) (r r′ : K.resT insert-kinds.r κs .Denot)
@@ -46,7 +46,7 @@ pub insert-determined :
     × (now (s .1 .1 .1 .1 .1 .1 .1 .0) ≡ now (s′ .1 .1 .1 .1 .1 .1 .1 .0))
     × (now (s .1 .1 .0) ≡ now (s′ .1 .1 .0))
     × (now (s .1 .1 .1 .0) ≡ now (s′ .1 .1 .1 .0))
-insert-determined κs a r r′ s s′ p q = same-change p q
+insert-determined κs a r r′ s s′ p q = same-effect p q
 
 pub fresh-exact-determined :
     (κs : Lfts 3) (a : K.Dens κs fresh-exact-kinds.ps) (r r′ : K.resT fresh-exact-kinds.r κs .Denot)

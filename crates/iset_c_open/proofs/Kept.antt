@@ -14,17 +14,17 @@ use Rattle.iset.specs.Lookup.{openDrainNumber, openDrainCall}
 use Rattle.iset.specs.Plain.{openPlainNumber, openPlainCall}
 use Rattle.iset.specs.declared.Map.{Map}
 use Rattle.iset_c.specs.Replies.{removeReply, insertReply, drainReply, plainReply}
-use Rattle.iset_c.proofs.Kept.{Kept, change-kept, output-kept}
+use Rattle.iset_c.proofs.Kept.{Kept, effect-kept, output-kept}
 use Rattle.iset_c_open.specs.Replies.{openRemoveExit, openInsertExit, openDrainExit, openPlainExit}
 
 module _ (A : List ℕ) (m : Map) (W C : List ℕ) where
   pub open-remove-kept : (s : ℕ) → Kept (openRemoveExit A m W C s) A (W ∷ C ∷ [])
   unfolding openRemoveCall
-  open-remove-kept s = change-kept removeReply A W C (openRemoveNumber m W C s) (removeSlot m W C s) _ refl
+  open-remove-kept s = effect-kept removeReply A W C (openRemoveNumber m W C s) (removeSlot m W C s) _ refl
 
   pub open-insert-kept : (e : Entry) → Kept (openInsertExit A m W C e) A (W ∷ C ∷ [])
   unfolding openInsertCall
-  open-insert-kept e = change-kept insertReply A W C (openInsertNumber m W C e) (insertEntry m W C e) _ refl
+  open-insert-kept e = effect-kept insertReply A W C (openInsertNumber m W C e) (insertEntry m W C e) _ refl
 
   -- of iset_open_drain, iset_open_drain_exact and iset_open_at; b: whether the bounds have kinds
   pub open-drain-kept : (b : Bool) (q : Query) (c : Cursor) (limit : ℕ) (out : List ℕ) → Kept (openDrainExit b A m W C q c limit out) A (out ∷ [])

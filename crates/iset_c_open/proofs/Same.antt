@@ -8,7 +8,7 @@ use Rattle.words.specs.declared.interval.Interval.{Interval}
 use Rattle.words.specs.declared.node.Entry.{Entry}
 use Rattle.iter.specs.declared.Cursor.{Cursor}
 use Rattle.iter.specs.declared.rules.Query.{Query}
-use Rattle.iset.specs.Changes.{Change, Output}
+use Rattle.iset.specs.Effects.{Effect, Output}
 use Rattle.iset.specs.Check.{checkRule}
 use Rattle.iset.specs.Remove.{RemoveAnswer}
 use Rattle.iset.specs.Insert.{InsertAnswer}
@@ -16,15 +16,15 @@ use Rattle.iset.specs.Lookup.{StartAnswer, StepAnswer, DrainAnswer}
 use Rattle.iset.specs.Plain.{PlainAnswer}
 use Rattle.iset.specs.declared.Map.{Map}
 use Rattle.iset.proofs.Opened.{remove-is, insert-is, fresh-exact-is, step-is, drain-is, plain-is}
-use Rattle.iset_c.specs.Replies.{answerExit, changeExit, outputExit, removeReply, insertReply, startReply, stepReply, drainReply, plainReply, removeExit, insertExit, startExit, stepExit, drainExit, plainExit}
+use Rattle.iset_c.specs.Replies.{answerExit, effectExit, outputExit, removeReply, insertReply, startReply, stepReply, drainReply, plainReply, removeExit, insertExit, startExit, stepExit, drainExit, plainExit}
 use Rattle.iset_c_open.specs.Replies.{openRemoveExit, openInsertExit, openStartExit, openStepExit, openDrainExit, openPlainExit}
 
 module _ (A : List ℕ) (m : Map) (W C : List ℕ) (h : checkRule m W C ≡ 0) where
   pub remove-exit-is : (s : ℕ) → openRemoveExit A m W C s ≡ removeExit A m W C s
-  remove-exit-is s = ap (λ (k : Change RemoveAnswer). changeExit removeReply A W C k) (remove-is m W C h s)
+  remove-exit-is s = ap (λ (k : Effect RemoveAnswer). effectExit removeReply A W C k) (remove-is m W C h s)
 
   pub insert-exit-is : (e : Entry) → openInsertExit A m W C e ≡ insertExit A m W C e
-  insert-exit-is e = ap (λ (k : Change InsertAnswer). changeExit insertReply A W C k) (insert-is m W C h e)
+  insert-exit-is e = ap (λ (k : Effect InsertAnswer). effectExit insertReply A W C k) (insert-is m W C h e)
 
   pub start-exit-is : (x : Interval) → openStartExit A m W C x ≡ startExit A m W C x
   start-exit-is x = ap (λ (k : StartAnswer). answerExit true A (startReply k)) (fresh-exact-is m W C h x)

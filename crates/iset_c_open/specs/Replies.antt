@@ -13,14 +13,14 @@ use Rattle.iset.specs.Insert.{openInsertCall}
 use Rattle.iset.specs.Lookup.{openStartCall, openStepCall, openDrainCall}
 use Rattle.iset.specs.Plain.{openPlainCall}
 use Rattle.iset.specs.declared.Map.{Map}
-use Rattle.iset_c.specs.Replies.{Exit, answerExit, changeExit, outputExit, removeReply, insertReply, startReply, stepReply, drainReply, plainReply}
+use Rattle.iset_c.specs.Replies.{Exit, answerExit, effectExit, outputExit, removeReply, insertReply, startReply, stepReply, drainReply, plainReply}
 
 abbrev pub openRemoveExit : (places : List ℕ) (map : Map) (words colours : List ℕ) (slot : ℕ) → Exit
-openRemoveExit A m W C slot = changeExit removeReply A W C (openRemoveCall m W C slot)
+openRemoveExit A m W C slot = effectExit removeReply A W C (openRemoveCall m W C slot)
 
 abbrev pub openInsertExit : (places : List ℕ) (map : Map) (words colours : List ℕ) (entry : Entry)
     → Exit
-openInsertExit A m W C e = changeExit insertReply A W C (openInsertCall m W C e)
+openInsertExit A m W C e = effectExit insertReply A W C (openInsertCall m W C e)
 
 abbrev pub openStartExit : (places : List ℕ) (map : Map) (words colours : List ℕ)
     (interval : Interval) → Exit

@@ -11,7 +11,7 @@ use borrow.Author.Tests.{leb-true, ne-eqb}
 use Rattle.words.specs.Refusals.{refusalNumber}
 use Rattle.words.specs.declared.refusal.Refusal.{Refusal}
 use Rattle.words.proofs.Refusals.{number-pos}
-use Rattle.iset.specs.Changes.{Change, change}
+use Rattle.iset.specs.Effects.{Effect, effect}
 use Rattle.iset.specs.Build.{buildAnswer, buildCall}
 use Rattle.iset.specs.Remove.{removeAnswer, removeCall}
 use Rattle.iset.specs.declared.Map.{Map}
@@ -75,11 +75,11 @@ module _ (w z : Work) (e : w ≡ z) where
   pub wrong-of : (r : Work) → r ≡ wrongIn z → r ≡ wrongIn w
   wrong-of r h = rw e h
 
-  module _ (W C : List ℕ) (h : Change Work) where
-    pub settled-of : (E : List ℕ) → h ≡ settledIn E (change z W C) → h ≡ settledIn E (change w W C)
+  module _ (W C : List ℕ) (h : Effect Work) where
+    pub settled-of : (E : List ℕ) → h ≡ settledIn E (effect z W C) → h ≡ settledIn E (effect w W C)
     settled-of E p = rw e p
 
-    pub removed-of : (k : ℕ) → h ≡ removedIn k (change z W C) → h ≡ removedIn k (change w W C)
+    pub removed-of : (k : ℕ) → h ≡ removedIn k (effect z W C) → h ≡ removedIn k (effect w W C)
     removed-of k p = rw e p
 
 pub three : (E : List ℕ) (i a b c : ℕ) → set (set (set E i a) (i + 1) b) (i + 2) c ≡ sets E i (a ∷ b ∷ c ∷ [])
@@ -92,32 +92,32 @@ three E i a b c =
 work-refused : (y : Refusal) (m : Map) → workLeft (refusalNumber y) m ≡ Refused (refusalNumber y)
 work-refused y m = rw (ne-eqb (refusalNumber y) 0 (λ f. omega (arith, number-pos y)))
 
-module _ (b : Built) (n m : ℕ) (W C E X K : List ℕ) (f : m ≡ min n (length E / 3)) (e : change (buildAnswer b) X K ≡ buildCall W C (take (m * 3) E)) where
-  build-left : (r : Work) → r ≡ workLeft (buildAnswer b .no) (buildAnswer b .map) → change r X K ≡ builtIn W C (listedIn n E)
+module _ (b : Built) (n m : ℕ) (W C E X K : List ℕ) (f : m ≡ min n (length E / 3)) (e : effect (buildAnswer b) X K ≡ buildCall W C (take (m * 3) E)) where
+  build-left : (r : Work) → r ≡ workLeft (buildAnswer b .no) (buildAnswer b .map) → effect r X K ≡ builtIn W C (listedIn n E)
   unfolding builtIn listedIn
-  build-left r h = rw (← f) (ap (λ (w : Work). change w X K) h ∙ ap buildLeft e)
+  build-left r h = rw (← f) (ap (λ (w : Work). effect w X K) h ∙ ap buildLeft e)
 
-  pub build-done : (r : Work) (o : Map) → b ≡ built.Done o → r ≡ Mapped o → change r X K ≡ builtIn W C (listedIn n E)
+  pub build-done : (r : Work) (o : Map) → b ≡ built.Done o → r ≡ Mapped o → effect r X K ≡ builtIn W C (listedIn n E)
   build-done r o d h = build-left r (rw d h)
 
-  pub build-refused : (r : Work) (y : Refusal) → b ≡ built.Refused y → r ≡ Refused (refusalNumber y) → change r X K ≡ builtIn W C (listedIn n E)
+  pub build-refused : (r : Work) (y : Refusal) → b ≡ built.Refused y → r ≡ Refused (refusalNumber y) → effect r X K ≡ builtIn W C (listedIn n E)
   build-refused r y d h = build-left r (rw d (h ∙ sym (work-refused y _)))
 
-module _ (b : Removal) (m : Map) (k : ℕ) (W C X K : List ℕ) (e : change (removeAnswer m b) X K ≡ removeCall m W C k) where
-  remove-left : (r : Work) → r ≡ workLeft (removeAnswer m b .no) (removeAnswer m b .map) → change r X K ≡ removalIn m W C k
+module _ (b : Removal) (m : Map) (k : ℕ) (W C X K : List ℕ) (e : effect (removeAnswer m b) X K ≡ removeCall m W C k) where
+  remove-left : (r : Work) → r ≡ workLeft (removeAnswer m b .no) (removeAnswer m b .map) → effect r X K ≡ removalIn m W C k
   unfolding removalIn
-  remove-left r h = ap (λ (w : Work). change w X K) h ∙ ap removeLeft e
+  remove-left r h = ap (λ (w : Work). effect w X K) h ∙ ap removeLeft e
 
-  pub remove-done : (r : Work) (g : Removed) → b ≡ removal.Done g → r ≡ Mapped (g .map) → change r X K ≡ removalIn m W C k
+  pub remove-done : (r : Work) (g : Removed) → b ≡ removal.Done g → r ≡ Mapped (g .map) → effect r X K ≡ removalIn m W C k
   remove-done r g d h = remove-left r (rw d h)
 
-  pub remove-refused : (r : Work) (y : Refusal) → b ≡ removal.Refused y → r ≡ Refused (refusalNumber y) → change r X K ≡ removalIn m W C k
+  pub remove-refused : (r : Work) (y : Refusal) → b ≡ removal.Refused y → r ≡ Refused (refusalNumber y) → effect r X K ≡ removalIn m W C k
   remove-refused r y d h = remove-left r (rw d (h ∙ sym (work-refused y _)))
 
 -- a removal after the build
-pub removed-then : (r w : Work) (h : Change Work) (X K Y L : List ℕ) (k : ℕ) → change w X K ≡ h → change r Y L ≡ removedIn k (change w X K)
-    → change r Y L ≡ removedIn k h
-removed-then r w h X K Y L k e q = q ∙ ap (λ (s : Change Work). removedIn k s) e
+pub removed-then : (r w : Work) (h : Effect Work) (X K Y L : List ℕ) (k : ℕ) → effect w X K ≡ h → effect r Y L ≡ removedIn k (effect w X K)
+    → effect r Y L ≡ removedIn k h
+removed-then r w h X K Y L k e q = q ∙ ap (λ (s : Effect Work). removedIn k s) e
 
 -- one line
 module _ (said : Said) (w r : Work) (W C E : List ℕ) where
@@ -126,7 +126,7 @@ module _ (said : Said) (w r : Work) (W C E : List ℕ) where
   unfolding lineIn
   line-entry a b c F e p q = rw e (λ i. desk (p i) W C (q i))
 
-  pub line-remove : (k : ℕ) (X K : List ℕ) → said ≡ Remove k → change r X K ≡ removedIn k (settledIn E (change w W C))
+  pub line-remove : (k : ℕ) (X K : List ℕ) → said ≡ Remove k → effect r X K ≡ removedIn k (settledIn E (effect w W C))
       → desk r X K E ≡ lineIn said (desk w W C E)
   unfolding lineIn
   line-remove k X K e p = rw e (λ i. onDesk (p i) E)
@@ -162,7 +162,7 @@ module _ (s : State) (r : Work) (W C E : List ℕ) where
   unfolding lastLine
   last-line b o X K F e t q p = rw (sym e ∙ t, ← q) p
 
-pub settled-then : (r w : Work) (d : Desk) (W C E X K : List ℕ) → desk w W C E ≡ d → change r X K ≡ settledIn E (change w W C)
+pub settled-then : (r w : Work) (d : Desk) (W C E X K : List ℕ) → desk w W C E ≡ d → effect r X K ≡ settledIn E (effect w W C)
     → desk r X K E ≡ settledDesk d
 settled-then r w d W C E X K e q =
     let f : desk r X K E ≡ settledDesk (desk w W C E) = λ i. onDesk (q i) E in

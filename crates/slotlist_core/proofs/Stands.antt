@@ -11,7 +11,7 @@ use borrow.Author.Tests.{ltb-true, eqb-true, eq-eqb, le-leb}
 use Rattle.tree_rm_rule.specs.Remove.{removeRule}
 use Rattle.tree_edit.specs.Inside.{Inside}
 use Rattle.tree_rm_rule.proofs.Inside.{removed-inside}
-use Rattle.iset.specs.Changes.{Change}
+use Rattle.iset.specs.Effects.{Effect}
 use Rattle.iset.specs.Build.{BuildAnswer, buildCall}
 use Rattle.iset.specs.Remove.{RemoveAnswer, removeNumber, removeCall}
 use Rattle.iset.specs.declared.Map.{Map}
@@ -102,7 +102,7 @@ module _ (W C : List ℕ) where
   built-stands : (S E : List ℕ) → length S ≤ 768 → 768 ≤ length E → Stands W C (onDesk (builtIn W C S) E) (built W C S)
   unfolding builtIn built
   built-stands S E h long =
-      let r : Change BuildAnswer = buildCall W C S in
+      let r : Effect BuildAnswer = buildCall W C S in
       call-left W C (r .answer .no) (r .answer .map) (r .words) (r .colours) E long (build-held W C S h)
 
   settled-of : (w : Work) (X K E : List ℕ) → Kept W C w X K → 768 ≤ length E
@@ -116,7 +116,7 @@ module _ (W C : List ℕ) where
       → Stands W C (onDesk (removalIn m X K k) E) (removal m X K k)
   unfolding removalIn removal
   removal-stands m X K E k h g long =
-      let r : Change RemoveAnswer = removeCall m X K k in
+      let r : Effect RemoveAnswer = removeCall m X K k in
       call-left W C (r .answer .no) (r .answer .map) (r .words) (r .colours) E long (remove-held m X K k h g)
 
   removed-of : (k : ℕ) (w : Work) (X K E : List ℕ) → Kept W C w X K → 768 ≤ length E

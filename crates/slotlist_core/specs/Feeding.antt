@@ -6,7 +6,7 @@ use mathlib.Core.List.{List, foldl}
 use Prim.Native.Nat.{ℕ}
 use lib.Dec.{eqb}
 use Rattle.lines.specs.Output.{Page, page}
-use Rattle.iset.specs.Changes.{change}
+use Rattle.iset.specs.Effects.{effect}
 use Rattle.slotlist_core.specs.Reading.{byteRule, endRule, newRule}
 use Rattle.slotlist_core.specs.Working.{Desk, desk, lineIn, settledIn, onDesk}
 use Rattle.slotlist_core.specs.Writing.{puts, workText}
@@ -43,7 +43,7 @@ lastLine t = cond (newRule (t .line)) (t .desk) (lined t)
 
 -- the end of the input
 abbrev pub settledDesk : (desk : Desk) → Desk
-settledDesk d = onDesk (settledIn (d .entries) (change (d .work) (d .nodes) (d .colours))) (d .entries)
+settledDesk d = onDesk (settledIn (d .entries) (effect (d .work) (d .nodes) (d .colours))) (d .entries)
 
 abbrev pub ended : (turn : Turn) → Desk
 ended t = settledDesk (lastLine t)

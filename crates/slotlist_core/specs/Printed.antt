@@ -6,7 +6,7 @@ use mathlib.Core.List.{List, [], _∷_, _++_}
 use Prim.Native.Nat.{ℕ, _/_}
 use lib.ListN.{length, replicate}
 use lib.Dec.{eqb, ltb}
-use Rattle.iset.specs.Changes.{Change}
+use Rattle.iset.specs.Effects.{Effect}
 use Rattle.iset.specs.Build.{BuildAnswer, buildCall}
 use Rattle.iset.specs.Remove.{RemoveAnswer, removeCall}
 use Rattle.iset.specs.declared.Map.{Map}
@@ -38,7 +38,7 @@ left why m W C = cond (eqb why 0) (mapped m W C) (refused why)
 
 -- the build of the entries E in the words W and the colours C
 unfoldable pub built : (words colours entries : List ℕ) → Stand
-built W C E = let r : Change BuildAnswer = buildCall W C E in left (r .answer .no) (r .answer .map) (r .words) (r .colours)
+built W C E = let r : Effect BuildAnswer = buildCall W C E in left (r .answer .no) (r .answer .map) (r .words) (r .colours)
 
 -- "It builds at the first `remove` or at the end of input"
 abbrev pub settled : (words colours : List ℕ) (stand : Stand) → Stand
@@ -47,7 +47,7 @@ settled W C (mapped m X K) = mapped m X K
 settled W C (refused why) = refused why
 
 unfoldable pub removal : (map : Map) (words colours : List ℕ) (slot : ℕ) → Stand
-removal m W C k = let r : Change RemoveAnswer = removeCall m W C k in left (r .answer .no) (r .answer .map) (r .words) (r .colours)
+removal m W C k = let r : Effect RemoveAnswer = removeCall m W C k in left (r .answer .no) (r .answer .map) (r .words) (r .colours)
 
 abbrev pub removed : (slot : ℕ) (stand : Stand) → Stand
 removed k (listed E) = listed E

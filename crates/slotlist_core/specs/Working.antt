@@ -7,7 +7,7 @@ use Prim.Native.Nat.{ℕ, _+_, _*_, _/_, min}
 use lib.ListN.{length, take}
 use lib.Seq.{sets}
 use lib.Dec.{eqb, ltb, leb}
-use Rattle.iset.specs.Changes.{Change, change}
+use Rattle.iset.specs.Effects.{Effect, effect}
 use Rattle.iset.specs.Build.{BuildAnswer, buildCall}
 use Rattle.iset.specs.Remove.{RemoveAnswer, removeCall}
 use Rattle.iset.specs.declared.Map.{Map}
@@ -16,7 +16,7 @@ use Rattle.slotlist_core.specs.declared.reading.Said.the-variants.{Entry
 use Rattle.slotlist_core.specs.declared.working.Work.{Work}
 use Rattle.slotlist_core.specs.declared.working.Work.the-variants.{Listing, Mapped, Refused}
 
--- The work with the map's memory is a `Change Work`; with the list's too it is this.
+-- The work with the map's memory is a `Effect Work`; with the list's too it is this.
 pub record Desk : Type 0 where
   pub work : Work
   pub nodes : List ℕ
@@ -49,33 +49,33 @@ listedIn n E = take (min n (length E / 3) * 3) E
 abbrev pub workLeft : (why : ℕ) (map : Map) → Work
 workLeft why m = cond (eqb why 0) (Mapped m) (Refused why)
 
-abbrev pub buildLeft : (root : Change BuildAnswer) → Change Work
-buildLeft r = change (workLeft (r .answer .no) (r .answer .map)) (r .words) (r .colours)
+abbrev pub buildLeft : (root : Effect BuildAnswer) → Effect Work
+buildLeft r = effect (workLeft (r .answer .no) (r .answer .map)) (r .words) (r .colours)
 
-abbrev pub removeLeft : (root : Change RemoveAnswer) → Change Work
-removeLeft r = change (workLeft (r .answer .no) (r .answer .map)) (r .words) (r .colours)
+abbrev pub removeLeft : (root : Effect RemoveAnswer) → Effect Work
+removeLeft r = effect (workLeft (r .answer .no) (r .answer .map)) (r .words) (r .colours)
 
 -- the build of the list S; the removal of slot k
-unfoldable pub builtIn : (words colours triples : List ℕ) → Change Work
+unfoldable pub builtIn : (words colours triples : List ℕ) → Effect Work
 builtIn W C S = buildLeft (buildCall W C S)
 
-unfoldable pub removalIn : (map : Map) (words colours : List ℕ) (slot : ℕ) → Change Work
+unfoldable pub removalIn : (map : Map) (words colours : List ℕ) (slot : ℕ) → Effect Work
 removalIn m W C k = removeLeft (removeCall m W C k)
 
-abbrev pub settledBy : (entries : List ℕ) (work : Work) (words colours : List ℕ) → Change Work
+abbrev pub settledBy : (entries : List ℕ) (work : Work) (words colours : List ℕ) → Effect Work
 settledBy E (Listing n) W C = builtIn W C (listedIn n E)
-settledBy E (Mapped m) W C = change (Mapped m) W C
-settledBy E (Refused why) W C = change (Refused why) W C
+settledBy E (Mapped m) W C = effect (Mapped m) W C
+settledBy E (Refused why) W C = effect (Refused why) W C
 
-abbrev pub settledIn : (entries : List ℕ) (shelf : Change Work) → Change Work
+abbrev pub settledIn : (entries : List ℕ) (shelf : Effect Work) → Effect Work
 settledIn E h = settledBy E (h .answer) (h .words) (h .colours)
 
-abbrev pub removedBy : (slot : ℕ) (work : Work) (words colours : List ℕ) → Change Work
-removedBy k (Listing n) W C = change (Listing n) W C
+abbrev pub removedBy : (slot : ℕ) (work : Work) (words colours : List ℕ) → Effect Work
+removedBy k (Listing n) W C = effect (Listing n) W C
 removedBy k (Mapped m) W C = removalIn m W C k
-removedBy k (Refused why) W C = change (Refused why) W C
+removedBy k (Refused why) W C = effect (Refused why) W C
 
-abbrev pub removedIn : (slot : ℕ) (shelf : Change Work) → Change Work
+abbrev pub removedIn : (slot : ℕ) (shelf : Effect Work) → Effect Work
 removedIn k h = removedBy k (h .answer) (h .words) (h .colours)
 
 -- any other line
@@ -85,11 +85,11 @@ wrongIn (Mapped m) = Refused 8
 wrongIn (Refused why) = Refused why
 
 -- one line more
-abbrev pub onDesk : (shelf : Change Work) (entries : List ℕ) → Desk
+abbrev pub onDesk : (shelf : Effect Work) (entries : List ℕ) → Desk
 onDesk h E = desk (h .answer) (h .words) (h .colours) E
 
 unfoldable pub lineIn : (said : Said) (desk : Desk) → Desk
 lineIn (Entry a b c) d =
     desk (enteredWork (d .work) (length (d .entries))) (d .nodes) (d .colours) (enteredList (d .work) a b c (d .entries))
-lineIn (Remove k) d = onDesk (removedIn k (settledIn (d .entries) (change (d .work) (d .nodes) (d .colours)))) (d .entries)
+lineIn (Remove k) d = onDesk (removedIn k (settledIn (d .entries) (effect (d .work) (d .nodes) (d .colours)))) (d .entries)
 lineIn Other d = desk (wrongIn (d .work)) (d .nodes) (d .colours) (d .entries)

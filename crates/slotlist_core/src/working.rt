@@ -11,7 +11,7 @@ ghost use lib.ListN.{length};
 ghost use lib.Seq.{sets};
 ghost use mathlib.Core.List.{[], _∷_};
 ghost use Rattle.words.specs.Refusals.{refusalNumber};
-ghost use Rattle.iset.specs.Changes.{change};
+ghost use Rattle.iset.specs.Effects.{effect};
 ghost use Rattle.slotlist_core.specs.Working.{desk, roomFor, enteredWork, enteredList, listedIn};
 ghost use Rattle.slotlist_core.specs.Working.{builtIn, removalIn, settledIn, removedIn, wrongIn, lineIn};
 
@@ -60,7 +60,7 @@ fn list_entry(n: usize, a: u64, b: u64, c: u64, entries: &mut [u64]) -> Work
 
 // The map of the n entries that are listed.
 fn build(n: usize, nodes: &mut [u64], colours: &mut [u8], entries: &[u64]) -> Work
-    ensures { λ r. ⌜ change r (now (nodes .exit)) (now (colours .exit))
+    ensures { λ r. ⌜ effect r (now (nodes .exit)) (now (colours .exit))
         ≡ builtIn (now (nodes .entry)) (now (colours .entry)) (listedIn n (now (entries .entry))) ⌝ }
 {
     let m = least(n, entries.len() / 3);
@@ -71,7 +71,7 @@ fn build(n: usize, nodes: &mut [u64], colours: &mut [u8], entries: &[u64]) -> Wo
 }
 
 fn remove_slot(map: Map, k: u64, nodes: &mut [u64], colours: &mut [u8]) -> Work
-    ensures { λ r. ⌜ change r (now (nodes .exit)) (now (colours .exit)) ≡ removalIn map (now (nodes .entry)) (now (colours .entry)) k ⌝ }
+    ensures { λ r. ⌜ effect r (now (nodes .exit)) (now (colours .exit)) ≡ removalIn map (now (nodes .entry)) (now (colours .entry)) k ⌝ }
 {
     match map.remove(nodes, colours, k) {
         Removal::Done(gone) => {
@@ -97,8 +97,8 @@ impl Work {
 
     // The entries are complete: the map is built, where it is not built yet.
     pub(crate) fn settle(self, nodes: &mut [u64], colours: &mut [u8], entries: &[u64]) -> Work
-        ensures { λ r. ⌜ change r (now (nodes .exit)) (now (colours .exit))
-            ≡ settledIn (now (entries .entry)) (change self (now (nodes .entry)) (now (colours .entry))) ⌝ }
+        ensures { λ r. ⌜ effect r (now (nodes .exit)) (now (colours .exit))
+            ≡ settledIn (now (entries .entry)) (effect self (now (nodes .entry)) (now (colours .entry))) ⌝ }
     {
         match self {
             Work::Listing(n) => build(n, nodes, colours, entries),
@@ -109,8 +109,8 @@ impl Work {
 
     // A removal from the map that is held.
     fn remove_held(self, k: u64, nodes: &mut [u64], colours: &mut [u8]) -> Work
-        ensures { λ r. ⌜ change r (now (nodes .exit)) (now (colours .exit))
-            ≡ removedIn k (change self (now (nodes .entry)) (now (colours .entry))) ⌝ }
+        ensures { λ r. ⌜ effect r (now (nodes .exit)) (now (colours .exit))
+            ≡ removedIn k (effect self (now (nodes .entry)) (now (colours .entry))) ⌝ }
     {
         match self {
             Work::Listing(n) => Work::Listing(n),
@@ -120,8 +120,8 @@ impl Work {
     }
 
     fn remove(self, k: u64, nodes: &mut [u64], colours: &mut [u8], entries: &[u64]) -> Work
-        ensures { λ r. ⌜ change r (now (nodes .exit)) (now (colours .exit))
-            ≡ removedIn k (settledIn (now (entries .entry)) (change self (now (nodes .entry)) (now (colours .entry)))) ⌝ }
+        ensures { λ r. ⌜ effect r (now (nodes .exit)) (now (colours .exit))
+            ≡ removedIn k (settledIn (now (entries .entry)) (effect self (now (nodes .entry)) (now (colours .entry)))) ⌝ }
     {
         let settled = self.settle(nodes, colours, entries);
         settled.remove_held(k, nodes, colours)

@@ -21,7 +21,7 @@ use Rattle.iter.specs.Cursors.{fresh}
 use Rattle.iter.specs.declared.Cursor.{Cursor}
 use Rattle.iter.specs.declared.rules.Query.{Query}
 use Rattle.iter.specs.declared.rules.Query.the-variants.{Overlap, Exact}
-use Rattle.iset.specs.Changes.{Change, Output}
+use Rattle.iset.specs.Effects.{Effect, Output}
 use Rattle.iset.specs.Build.{BuildAnswer, buildCall}
 use Rattle.iset.specs.Remove.{RemoveAnswer, removeCall}
 use Rattle.iset.specs.Insert.{InsertAnswer, insertCall}
@@ -140,7 +140,7 @@ leftIn t = record { tree = treeOf t; bytes = t .colours; h = height (treeOf t); 
 unfoldable pub tell : (call : Call) → Told
 tell (build words bytes S) = built (buildCall (replicate words 0) (replicate bytes 0) S .answer) (leftIn (buildIn words bytes S))
 tell (remove t s) =
-    let r : Change RemoveAnswer = removeCall (t .map) (t .words) (t .colours) s in
+    let r : Effect RemoveAnswer = removeCall (t .map) (t .words) (t .colours) s in
     removed (r .answer) (r .colours)
 tell (insert t e) = inserted (insertCall (t .map) (t .words) (t .colours) e .answer) (leftIn (t plus e))
 tell (rootRight t) = link (kid (t .words) false (t .map .root))

@@ -2,7 +2,7 @@ use Prim.Native.Nat.{ℕ}
 use Rattle.words.proofs.Refusals.{number-pos}
 use Rattle.iset.specs.Build.{buildAnswer}
 use Rattle.iset_c.specs.Replies.{buildReply}
-use Rattle.iset_c.proofs.Laws.{short-exit, refused-change, done-change}
+use Rattle.iset_c.proofs.Laws.{short-exit, refused-effect, done-effect}
 use borrow.Author.Needs.{needs}
 use Rattle.iset_c.proofs.iset_build.Statement.{statement}
 use Rattle.iset_c.proofs.iset_build.Tie as tie
@@ -19,8 +19,8 @@ iset-build-spec =
     (λ c κs. search needs)
     (λ c. search needs)
     (λ c. search needs)
-    (λ c. search (refused-change (λ (g : ℕ). buildAnswer) buildReply 0, number-pos))
+    (λ c. search (refused-effect (λ (g : ℕ). buildAnswer) buildReply 0, number-pos))
     (λ c. search needs)
     (λ c. search needs)
     (λ c. search needs)
-    (λ c. search (done-change (λ (g : ℕ). buildAnswer) buildReply 0)))
+    (λ c. search (done-effect (λ (g : ℕ). buildAnswer) buildReply 0)))

@@ -1,7 +1,7 @@
 use Rattle.words.proofs.Refusals.{number-pos}
 use Rattle.iset.specs.Remove.{removeAnswer}
 use Rattle.iset_c.specs.Replies.{removeReply}
-use Rattle.iset_c.proofs.Laws.{short-exit, refused-change, done-change}
+use Rattle.iset_c.proofs.Laws.{short-exit, refused-effect, done-effect}
 use borrow.Author.Needs.{needs}
 use Rattle.iset_c_open.proofs.iset_open_remove.Statement.{statement}
 use Rattle.iset_c_open.proofs.iset_open_remove.Tie as tie
@@ -18,8 +18,8 @@ iset-open-remove-spec =
     (λ c κs. search needs)
     (λ c. search needs)
     (λ c. search needs)
-    (λ c. search (refused-change removeAnswer removeReply, number-pos))
+    (λ c. search (refused-effect removeAnswer removeReply, number-pos))
     (λ c. search needs)
     (λ c. search needs)
     (λ c. search needs)
-    (λ c. search (done-change removeAnswer removeReply)))
+    (λ c. search (done-effect removeAnswer removeReply)))

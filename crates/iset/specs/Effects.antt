@@ -4,13 +4,13 @@ use mathlib.Core.List.{List}
 use Prim.Native.Nat.{ℕ}
 
 -- a call that writes the store: its answer, the words and the colours that it leaves
-pub record Change (A : Type 0) : Type 0 where
+pub record Effect (A : Type 0) : Type 0 where
   pub answer : A
   pub words : List ℕ
   pub colours : List ℕ
 
-abbrev pub change : {A : Type 0} → (answer : A) (words colours : List ℕ) → Change A
-change a W C = record { answer = a; words = W; colours = C }
+abbrev pub effect : {A : Type 0} → (answer : A) (words colours : List ℕ) → Effect A
+effect a W C = record { answer = a; words = W; colours = C }
 
 -- a call that writes an output: its answer, and the output that it leaves
 pub record Output (A : Type 0) : Type 0 where
