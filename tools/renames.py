@@ -62,6 +62,7 @@ FUNCTIONS = [
     ("tree_in", "repair/", "turn_at", "round_at"),
     ("tree_in", "repair/", "turn_below", "round_below"),
     ("tree_in", "repair/", "turn_rotated", "round_rotated"),
+    ("slotlist_core", "working/Work/", "remove_held", "remove_mapped"),
 ]
 
 # Paths, as regular expressions over the path below ROOT. The papers are always in scope.
@@ -82,7 +83,7 @@ ONCE = ("crates/bitvec/specs/Colours.antt", "abbrev pub paint ")
 FIRST = "first"
 
 # Words that the papers use for something else too.
-NOT_IN_PAPERS = {"change", "Change", "step", "turn", "turned", "walk", "held", "Held", "sorted", "instead"}
+NOT_IN_PAPERS = {"paper", "those", "only", "room", "change", "Change", "step", "turn", "turned", "walk", "held", "Held", "sorted", "instead"}
 
 # Names: old, new, where; and FIRST for those that another row's new name would follow.
 NAMES = [
@@ -186,9 +187,31 @@ NAMES = [
     *((old, new, FACES) for old, new in (
         ("Change", "Effect"), ("change", "effect"), ("changeExit", "effectExit"), ("SameChange", "SameEffect"), ("change-kept", "effect-kept"),
         ("done-change", "done-effect"), ("refused-change", "refused-effect"), ("same-change", "same-effect"))),
+    # answers by their numbers, and by the map's words
+    ("paper", "numbers", r"crates/(bitvec|stack)/"),
+    ("paper-injective", "numbers-injective", r"crates/(bitvec|stack)/"),
+    *((f"{call}Paper", f"{call}Answer", FACES) for call in ("build", "remove", "insert", "start", "step", "drain", "plain")),
+    ("Gone", "Removed", FACES),
+    ("Added", "Inserted", FACES),
+    ("Emptied", "Drain", FACES),
+    ("goneNumbers", "removedNumbers", FACES),
+    ("addedNumbers", "insertedNumbers", FACES),
+    ("put_gone", "put_removed", FACES),
+    ("put_added", "put_inserted", FACES),
+    # one filter; a query's order; the check's recursion; capacity
+    ("those", "filter", r"crates/(iter|iter_laws|plain|plain_rule|iset|test_document)/"),
+    ("only", "filter", r"crates/tree_in_rule/", FIRST),
+    ("sorted", "inOrder", r"crates/(iter|iter_laws)/"),
+    ("sorted-by", "inOrder-by", r"crates/iter_laws/"),
+    ("sorted-both", "inOrder-both", r"crates/iter_laws/"),
+    ("walk", "survey_at", r"crates/audit/"),
+    ("room", "capacity", r"crates/words/(specs|proofs)/", FIRST),
     # the states of slotlist's work
     ("Held", "Mapped", r"crates/slotlist_core/"),
     ("held", "mapped", r"crates/slotlist_core/"),
+    ("heldText", "checkedText", r"crates/slotlist_core/"),
+    ("Turn", "Stage", r"crates/slotlist_core/"),
+    ("turn", "stage", r"crates/slotlist_core/"),
     # a repair moves no entry
     ("Mended", "InPlace", LAWS),
     ("mended-refl", "in-place-refl", LAWS),

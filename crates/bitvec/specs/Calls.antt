@@ -12,16 +12,16 @@ use Rattle.bitvec.specs.declared.Answer.{Answer}
 use Rattle.bitvec.specs.declared.Answer.the-variants.{Done, Refused}
 use Rattle.words.specs.Nodes.{bitsOf}
 
--- an answer by this paper's numbers: the refusal's, 0 for none; the bit that was read; the length
+-- an answer by its numbers: the refusal's, 0 for none; the bit that was read; the length
 pub record Bits : Type 0 where
   pub no : ℕ
   pub bit : Bool
   pub len : ℕ
 
 -- a refusal has no bit, and the length as it was given
-abbrev pub paper : (given : ℕ) (answer : Answer) → Bits
-paper given (Done b v) = record { no = 0; bit = b; len = v .len }
-paper given (Refused y) = record { no = refusalNumber y; bit = false; len = given }
+abbrev pub numbers : (given : ℕ) (answer : Answer) → Bits
+numbers given (Done b v) = record { no = 0; bit = b; len = v .len }
+numbers given (Refused y) = record { no = refusalNumber y; bit = false; len = given }
 
 abbrev pub done : (bit : Bool) (len : ℕ) → Bits
 done b len = record { no = 0; bit = b; len = len }

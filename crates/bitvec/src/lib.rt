@@ -9,7 +9,7 @@ ghost use Prim.Native.Nat.{_+_, _/_, _%_, _^_, _≤_, _<_};
 ghost use lib.ListN.{length};
 ghost use lib.Dec.{leb};
 ghost use Rattle.bitvec.specs.Bits.{bit, put, bitAt, setBit, fill};
-ghost use Rattle.bitvec.specs.Calls.{allowed, roomy, bytesFor, paper, getRule, setRule, setBytes, pushRule, pushBytes, popRule, swapRemoveRule, gapClosed, swapRemoveBytes, fromElemRule, fromElemBytes};
+ghost use Rattle.bitvec.specs.Calls.{allowed, roomy, bytesFor, numbers, getRule, setRule, setBytes, pushRule, pushBytes, popRule, swapRemoveRule, gapClosed, swapRemoveBytes, fromElemRule, fromElemBytes};
 ghost use Rattle.words.specs.Nodes.{HoldsBits, bitsOf};
 
 pub struct BitVec {
@@ -135,7 +135,7 @@ fn close_gap(bytes: &mut [u8], len: usize, i: usize)
 impl BitVec {
     // A vector of len bits, each of them elem. Only the bytes that they take are written.
     pub fn from_elem(bytes: &mut [u8], len: usize, elem: bool) -> Answer
-        ensures { λ r. ⌜ (paper 0 r ≡ fromElemRule (now (bytes .entry)) len) × (now (bytes .exit) ≡ fromElemBytes (now (bytes .entry)) len elem) ⌝ }
+        ensures { λ r. ⌜ (numbers 0 r ≡ fromElemRule (now (bytes .entry)) len) × (now (bytes .exit) ≡ fromElemBytes (now (bytes .entry)) len elem) ⌝ }
     {
         if holds(bytes.len(), len) {
             fill_bytes(bytes, get_byte_len(len), byte_of(elem));
@@ -146,7 +146,7 @@ impl BitVec {
     }
 
     pub fn get(self, bytes: &[u8], i: usize) -> Answer
-        ensures { λ r. ⌜ paper (self .len) r ≡ getRule (now (bytes .entry)) (self .len) i ⌝ }
+        ensures { λ r. ⌜ numbers (self .len) r ≡ getRule (now (bytes .entry)) (self .len) i ⌝ }
     {
         if has_bit(bytes.len(), self.len, i) {
             Answer::Done(bit_at(bytes, i), self)
@@ -156,7 +156,7 @@ impl BitVec {
     }
 
     pub fn set(self, bytes: &mut [u8], i: usize, value: bool) -> Answer
-        ensures { λ r. ⌜ (paper (self .len) r ≡ setRule (now (bytes .entry)) (self .len) i) × (now (bytes .exit) ≡ setBytes (now (bytes .entry)) (self .len) i value) ⌝ }
+        ensures { λ r. ⌜ (numbers (self .len) r ≡ setRule (now (bytes .entry)) (self .len) i) × (now (bytes .exit) ≡ setBytes (now (bytes .entry)) (self .len) i value) ⌝ }
     {
         if has_bit(bytes.len(), self.len, i) {
             put_bit(bytes, i, value);
@@ -168,7 +168,7 @@ impl BitVec {
 
     // The new bit is written; the others of its byte stay.
     pub fn push(self, bytes: &mut [u8], value: bool) -> Answer
-        ensures { λ r. ⌜ (paper (self .len) r ≡ pushRule (now (bytes .entry)) (self .len)) × (now (bytes .exit) ≡ pushBytes (now (bytes .entry)) (self .len) value) ⌝ }
+        ensures { λ r. ⌜ (numbers (self .len) r ≡ pushRule (now (bytes .entry)) (self .len)) × (now (bytes .exit) ≡ pushBytes (now (bytes .entry)) (self .len) value) ⌝ }
     {
         let len = self.len;
         if has_room(bytes.len(), len) {
@@ -181,7 +181,7 @@ impl BitVec {
 
     // The last bit; no byte is written.
     pub fn pop(self, bytes: &[u8]) -> Answer
-        ensures { λ r. ⌜ paper (self .len) r ≡ popRule (now (bytes .entry)) (self .len) ⌝ }
+        ensures { λ r. ⌜ numbers (self .len) r ≡ popRule (now (bytes .entry)) (self .len) ⌝ }
     {
         let len = self.len;
         if has_bit(bytes.len(), len, 0) {
@@ -193,7 +193,7 @@ impl BitVec {
 
     // Bit i; the last bit takes its place.
     pub fn swap_remove(self, bytes: &mut [u8], i: usize) -> Answer
-        ensures { λ r. ⌜ (paper (self .len) r ≡ swapRemoveRule (now (bytes .entry)) (self .len) i) × (now (bytes .exit) ≡ swapRemoveBytes (now (bytes .entry)) (self .len) i) ⌝ }
+        ensures { λ r. ⌜ (numbers (self .len) r ≡ swapRemoveRule (now (bytes .entry)) (self .len) i) × (now (bytes .exit) ≡ swapRemoveBytes (now (bytes .entry)) (self .len) i) ⌝ }
     {
         let len = self.len;
         if has_bit(bytes.len(), len, i) {

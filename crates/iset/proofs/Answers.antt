@@ -42,9 +42,9 @@ use Rattle.iset.specs.Plain.{PlainAnswer, plainAnswer, plainCall}
 use Rattle.iset.specs.Demands.{removal, insertion}
 use Rattle.iset.specs.declared.Map.{Map}
 use Rattle.iset.specs.declared.build.Built.the-variants as built
-use Rattle.iset.specs.declared.remove.RemovalGuarantee as gone
+use Rattle.iset.specs.declared.remove.Removed as removed-payload
 use Rattle.iset.specs.declared.remove.Removal.the-variants as removed-as
-use Rattle.iset.specs.declared.insert.Inserted as added
+use Rattle.iset.specs.declared.insert.Inserted as inserted-payload
 use Rattle.iset.specs.declared.insert.Insertion.the-variants as inserted-as
 use Rattle.iset.specs.declared.lookup.Started.the-variants as started
 use Rattle.iset.specs.declared.lookup.Stepped.the-variants as stepped
@@ -139,13 +139,13 @@ pub build-done : (κs : Lfts 3) (a : K.Dens κs build-kinds.ps) (r : K.resT buil
 build-done κs a r s p m e = ap (λ (c : Effect BuildAnswer). c .answer) (sym p) ∙ ap buildAnswer e
 
 pub remove-done : (κs : Lfts 2) (a : K.Dens κs remove-kinds.ps) (r : K.resT remove-kinds.r κs .Denot) (s : AtExit (K.endedOf 2 remove-kinds.ps remove-kinds.r) κs)
-    → remove-reads.Post κs a r s → (g : gone.RemovalGuarantee) → r ≡ removed-as.Done g
+    → remove-reads.Post κs a r s → (g : removed-payload.Removed) → r ≡ removed-as.Done g
     → removeCall (a .0) (now (a .1 .0)) (now (a .1 .1 .0)) (a .1 .1 .1 .0) .answer
     ≡ record { no = 0; value = g .value; map = g .map; pairs = g .pairs; reach = g .reach }
 remove-done κs a r s p g e = ap (λ (c : Effect RemoveAnswer). c .answer) (sym p) ∙ ap (removeAnswer (a .0)) e
 
 pub insert-done : (κs : Lfts 2) (a : K.Dens κs insert-kinds.ps) (r : K.resT insert-kinds.r κs .Denot) (s : AtExit (K.endedOf 2 insert-kinds.ps insert-kinds.r) κs)
-    → insert-reads.Post κs a r s → (g : added.Inserted) → r ≡ inserted-as.Done g
+    → insert-reads.Post κs a r s → (g : inserted-payload.Inserted) → r ≡ inserted-as.Done g
     → insertCall (a .0) (now (a .1 .0)) (now (a .1 .1 .0)) (record { start = a .1 .1 .1 .0; end = a .1 .1 .1 .1 .0; value = a .1 .1 .1 .1 .1 .0 }) .answer
     ≡ record { no = 0; slot = g .slot; map = g .map; reach = g .reach }
 insert-done κs a r s p g e = ap (λ (c : Effect InsertAnswer). c .answer) (sym p) ∙ ap (insertAnswer (a .0)) e

@@ -94,7 +94,7 @@ pub extern "C" fn iset_remove(
 pub extern "C" fn iset_slot_after(answer: &[u64; 10], removed: u64, kept: u64) -> u64
     ensures { λ r. ⌜ r ≡ slotAfter (pairsOf (now (answer .entry))) removed kept ⌝ }
 {
-    let gone = Removed {
+    let done = Removed {
         map: Map {
             count: answer[1],
             root: answer[2],
@@ -116,7 +116,7 @@ pub extern "C" fn iset_slot_after(answer: &[u64; 10], removed: u64, kept: u64) -
         },
         reach: answer[9],
     };
-    gone.slot_after(removed, kept)
+    done.slot_after(removed, kept)
 }
 
 // Adds an entry in slot `count`; no other entry changes slot. Answer: count, root, the entry's slot, and how many hulls changed.

@@ -1,4 +1,4 @@
--- On a store that passes the check an export returns and leaves what the export of crate capi of
+-- On a store that passes the check an export returns and leaves what the export of crate iset_c of
 -- that name does.
 use mathlib.Core.Path.{_≡_, ap}
 use mathlib.Core.Bool.{Bool, true}

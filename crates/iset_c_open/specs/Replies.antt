@@ -1,4 +1,4 @@
--- What the exports of the calls on an opened store return and leave, in the form of crate capi's.
+-- What the exports of the calls on an opened store return and leave, in the form of crate iset_c's.
 -- Letters: m map, W words, C colours, A places of the answer, b known (whether each bound has a
 --   kind), q query, c cursor, e entry, x interval
 use mathlib.Core.Bool.{Bool, true}

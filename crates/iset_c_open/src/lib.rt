@@ -1,5 +1,5 @@
-// The map for hosts in C and Rust that check a store once and then keep it to themselves: the calls of crate capi without the store check, as
-// include/iset_open.h declares them. Answers, refusals and their order are those of crate capi, but for Broken, which is never given.
+// The map for hosts in C and Rust that check a store once and then keep it to themselves: the calls of crate iset_c without the store check, as
+// include/iset_open.h declares them. Answers, refusals and their order are those of crate iset_c, but for Broken, which is never given.
 pub mod lookup;
 pub mod scan;
 

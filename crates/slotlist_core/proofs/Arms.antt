@@ -24,7 +24,7 @@ use Rattle.lines.specs.Output.{page}
 use Rattle.slotlist_core.specs.Reading.{gapAfter, byteRule, complete, endRule, newRule}
 use Rattle.slotlist_core.specs.Working.{Desk, desk, roomFor, enteredWork, enteredList, listedIn, workLeft, buildLeft, removeLeft}
 use Rattle.slotlist_core.specs.Working.{builtIn, removalIn, settledIn, removedIn, wrongIn, onDesk, lineIn}
-use Rattle.slotlist_core.specs.Feeding.{Turn, turn, stepped, lined, lastLine, settledDesk, finished, printedOn}
+use Rattle.slotlist_core.specs.Feeding.{Stage, stage, stepped, lined, lastLine, settledDesk, finished, printedOn}
 use Rattle.slotlist_core.specs.Writing.{puts, workText}
 use Rattle.slotlist_core.specs.declared.State.{State}
 use Rattle.slotlist_core.specs.declared.reading.Before.{Before}
@@ -138,27 +138,27 @@ module _ (said : Said) (w r : Work) (W C E : List ℕ) where
 -- one byte
 module _ (s r : State) (W C E : List ℕ) where
   pub byte-end : (o : Said) (w : Work) (X K F : List ℕ) → o ≡ endRule (s .line) → desk w X K F ≡ lineIn o (desk (s .work) W C E)
-      → r .line ≡ Start → r .work ≡ w → turn r X K F ≡ stepped (turn s W C E) 10
+      → r .line ≡ Start → r .work ≡ w → stage r X K F ≡ stepped (stage s W C E) 10
   unfolding stepped
   byte-end o w X K F e p l q =
-      let d : desk (r .work) X K F ≡ lined (turn s W C E) = rw (q, ← e) p in
+      let d : desk (r .work) X K F ≡ lined (stage s W C E) = rw (q, ← e) p in
       λ i. record { line = l i; desk = d i }
 
-  pub byte-more : (b : ℕ) → (b ≡ 10 → ⊥) → r .line ≡ byteRule (s .line) b → r .work ≡ s .work → turn r W C E ≡ stepped (turn s W C E) b
+  pub byte-more : (b : ℕ) → (b ≡ 10 → ⊥) → r .line ≡ byteRule (s .line) b → r .work ≡ s .work → stage r W C E ≡ stepped (stage s W C E) b
   unfolding stepped
   byte-more b n l q = rw (ne-eqb b 10 n) (λ i. record { line = l i; desk = desk (q i) W C E })
 
-pub byte-ten : (b : ℕ) (t T : Turn) → b ≡ 10 → T ≡ stepped t 10 → T ≡ stepped t b
+pub byte-ten : (b : ℕ) (t T : Stage) → b ≡ 10 → T ≡ stepped t 10 → T ≡ stepped t b
 byte-ten b t T e h = rw e h
 
 -- the end of the input
 module _ (s : State) (r : Work) (W C E : List ℕ) where
-  pub last-new : (b : Bool) → b ≡ newRule (s .line) → b ≡ true → r ≡ s .work → desk r W C E ≡ lastLine (turn s W C E)
+  pub last-new : (b : Bool) → b ≡ newRule (s .line) → b ≡ true → r ≡ s .work → desk r W C E ≡ lastLine (stage s W C E)
   unfolding lastLine
   last-new b e t q = rw (sym e ∙ t) (λ i. desk (q i) W C E)
 
   pub last-line : (b : Bool) (o : Said) (X K F : List ℕ) → b ≡ newRule (s .line) → b ≡ false → o ≡ endRule (s .line)
-      → desk r X K F ≡ lineIn o (desk (s .work) W C E) → desk r X K F ≡ lastLine (turn s W C E)
+      → desk r X K F ≡ lineIn o (desk (s .work) W C E) → desk r X K F ≡ lastLine (stage s W C E)
   unfolding lastLine
   last-line b o X K F e t q p = rw (sym e ∙ t, ← q) p
 

@@ -4,7 +4,7 @@ use contract.Lifetimes.{Lfts}
 use borrow.Fn.Kinds as K
 use denote.Triple.Clauses.{AtExit}
 use denote.Ref.{now}
-use Rattle.slotlist_core.specs.Feeding.{Turn, End}
+use Rattle.slotlist_core.specs.Feeding.{Stage, End}
 use Rattle.slotlist_core.specs.declared.State.{State}
 use Rattle.slotlist_core.proofs.State.new.Reads as new-reads
 use Rattle.slotlist_core.proofs.State.new.Kinds as new-kinds
@@ -27,7 +27,7 @@ pub new-determined :
 new-determined κs a r r′ s s′ p q = p ∙ sym q
 
 -- the state in a turn
-abbrev stateOf : Turn → State
+abbrev stateOf : Stage → State
 stateOf t = record { line = t .line; work = t .desk .work }
 
 pub feed-determined :
@@ -37,7 +37,7 @@ pub feed-determined :
     × (now (s .1 .1 .1 .1 .0) ≡ now (s′ .1 .1 .1 .1 .0))
 feed-determined κs a r r′ s s′ p q =
     let e = p ∙ sym q in
-    (ap stateOf e, ap (λ (t : Turn). t .desk .nodes) e, ap (λ (t : Turn). t .desk .colours) e, ap (λ (t : Turn). t .desk .entries) e)
+    (ap stateOf e, ap (λ (t : Stage). t .desk .nodes) e, ap (λ (t : Stage). t .desk .colours) e, ap (λ (t : Stage). t .desk .entries) e)
 
 pub finish-determined :
     (κs : Lfts 4) (a : K.Dens κs finish-kinds.ps) (r r′ : K.resT finish-kinds.r κs .Denot)

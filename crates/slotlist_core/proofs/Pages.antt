@@ -11,7 +11,7 @@ use Rattle.words.specs.Nodes.{entry}
 use Rattle.words.specs.declared.node.Entry.{Entry}
 use Rattle.lines.specs.Output.{Page, page, decimal, number, next}
 use Rattle.slotlist_core.specs.Text.{rootText, head, row, rows, mapText, refusalText}
-use Rattle.slotlist_core.specs.Writing.{putByte, puts, heldText, workText}
+use Rattle.slotlist_core.specs.Writing.{putByte, puts, checkedText, workText}
 use Rattle.slotlist_core.specs.declared.working.Work.{Work}
 
 -- a byte where there is room, and where there is none
@@ -110,13 +110,13 @@ module _ (W : List ℕ) (n k : ℕ) (P p : Page) (e : P ≡ puts p (rows W k (n 
 
 -- a map that the words hold, and one that they do not
 module _ (m : Map) (W : List ℕ) (p r : Page) (t : ℕ) (i : t ≡ length W / 8) where
-  pub map-short : t < m .count → r ≡ puts p (refusalText 1) → r ≡ puts p (heldText m W)
-  unfolding heldText
+  pub map-short : t < m .count → r ≡ puts p (refusalText 1) → r ≡ puts p (checkedText m W)
+  unfolding checkedText
   map-short h e = rw (← i, lt-ltb t (m .count) h) e
 
   pub map-text : m .count ≤ t → (q : Page) → q ≡ puts p (head (m .count) (m .root)) → r ≡ puts q (rows W 0 (m .count))
-      → r ≡ puts p (heldText m W)
-  unfolding heldText mapText
+      → r ≡ puts p (checkedText m W)
+  unfolding checkedText mapText
   map-text h q e f = rw (← i, le-ltb t (m .count) h) (then p q r (head (m .count) (m .root)) (rows W 0 (m .count)) e f)
 
 -- what is printed of work that was taken apart

@@ -88,10 +88,10 @@ build-held W C S h e =
     let b = build-answers W C S e in
     (omega (arith, b .0), omega (arith, b .0, b .1 .words-length, a .room-for))
 
-remove-held : (m : Map) (W C : List ℕ) (k : ℕ) → m .count ≤ 256 → Holds W (m .count) → removeCall m W C k .answer .no ≡ 0
+remove-mapped : (m : Map) (W C : List ℕ) (k : ℕ) → m .count ≤ 256 → Holds W (m .count) → removeCall m W C k .answer .no ≡ 0
     → (removeCall m W C k .answer .map .count ≤ 256) × (removeCall m W C k .answer .map .count * 8 ≤ length (removeCall m W C k .words))
 unfolding removeCall
-remove-held m W C k h g e =
+remove-mapped m W C k h g e =
     let z : removeNumber m W C k ≡ 0 = sym (remove-no m W C k) ∙ e in
     let i : Inside (m .count) W C (removeRule W C (m .count) (m .root) k .store) =
     removed-inside W C (m .count) (m .root) k (accepts m W C k z .1) in
@@ -117,7 +117,7 @@ module _ (W C : List ℕ) where
   unfolding removalIn removal
   removal-stands m X K E k h g long =
       let r : Effect RemoveAnswer = removeCall m X K k in
-      call-left W C (r .answer .no) (r .answer .map) (r .words) (r .colours) E long (remove-held m X K k h g)
+      call-left W C (r .answer .no) (r .answer .map) (r .words) (r .colours) E long (remove-mapped m X K k h g)
 
   removed-of : (k : ℕ) (w : Work) (X K E : List ℕ) → Kept W C w X K → 768 ≤ length E
       → Stands W C (onDesk (removedBy k w X K) E) (removed k (standOf w X K E))

@@ -11,8 +11,8 @@ use Rattle.lines.specs.Output.{page}
 use Rattle.slotlist_core.specs.Printed.{Stand, listed, onto, lines, settled, after, afterAll, text, printedIn, printed}
 use Rattle.slotlist_core.specs.Reading.{byteRule, endRule, newRule}
 use Rattle.slotlist_core.specs.Working.{Desk, desk, listedIn}
-use Rattle.slotlist_core.specs.Writing.{heldText, workText}
-use Rattle.slotlist_core.specs.Feeding.{Turn, turn, begun, lined, stepped, fed, lastLine, ended, finish}
+use Rattle.slotlist_core.specs.Writing.{checkedText, workText}
+use Rattle.slotlist_core.specs.Feeding.{Stage, stage, begun, lined, stepped, fed, lastLine, ended, finish}
 use Rattle.slotlist_core.specs.declared.reading.Line.{Line}
 use Rattle.slotlist_core.specs.declared.reading.Line.the-variants.{Start}
 use Rattle.slotlist_core.specs.declared.reading.Said.{Said}
@@ -23,11 +23,11 @@ use Rattle.slotlist_core.proofs.Stands.{Stands, Kept, standOf, stands-s
 use Rattle.slotlist_core.proofs.Lengths.{map-length, refusal-length, puts-all}
 
 -- a piece in two parts, one after the other; so any cuts of an input lead to the same end
-pub cut : (t : Turn) (xs ys : List ℕ) → fed t (xs ++ ys) ≡ fed (fed t xs) ys
+pub cut : (t : Stage) (xs ys : List ℕ) → fed t (xs ++ ys) ≡ fed (fed t xs) ys
 unfolding fed
 cut t xs ys = foldl-append stepped t xs ys
 
-pub pieces : (t : Turn) (ps : List (List ℕ)) → foldl fed t ps ≡ fed t (flatten ps)
+pub pieces : (t : Stage) (ps : List (List ℕ)) → foldl fed t ps ≡ fed t (flatten ps)
 unfolding fed flatten
 pieces t [] = refl
 pieces t (p ∷ ps) = pieces (fed t p) ps ∙ sym (cut t p (flatten ps))
@@ -78,7 +78,7 @@ module _ (W C : List ℕ) where
 
   -- what is printed of work in lent memory is the rule's text, and fits
   text-of : (w : Work) (X K E : List ℕ) → Kept W C w X K → workText w X ≡ text (standOf w X K E)
-  unfolding heldText
+  unfolding checkedText
   text-of (Listing n) X K E p = refl
   text-of (Mapped m) X K E p = rw (le-ltb (length X / 8) (m .count) (omega arith))
   text-of (Refused why) X K E p = refl
@@ -101,19 +101,19 @@ module _ (W C : List ℕ) where
 
   -- with room for 256 entries in the list and for their lines in the output, whatever it holds
   pub prints : (E out input : List ℕ) → 768 ≤ length E → 21557 ≤ length out
-      → take (finish (fed (turn begun W C E) input) out .page .at) (finish (fed (turn begun W C E) input) out .page .out) ≡ printedIn W C input
+      → take (finish (fed (stage begun W C E) input) out .page .at) (finish (fed (stage begun W C E) input) out .page .out) ≡ printedIn W C input
   unfolding fed printedIn
   prints E out input long space =
-      let last : Desk = lastLine (foldl stepped (turn begun W C E) input) in
+      let last : Desk = lastLine (foldl stepped (stage begun W C E) input) in
       let all : Stand = afterAll W C (lines input) (listed []) in
       let r : Stands W C last all =
       subst (λ (t : Stand). Stands W C last t) (from-start (lines input) (listed []))
       (runs input Start (desk (Listing 0) W C E) (listed []) (begins E long)) in
-      let x = text-stands (ended (foldl stepped (turn begun W C E) input)) (settled W C all) (stands-settled W C last all r) in
+      let x = text-stands (ended (foldl stepped (stage begun W C E) input)) (settled W C all) (stands-settled W C last all r) in
       rw (x .0) (puts-all (text (settled W C all)) out (omega (arith, x .1)))
 
 -- in the programs' memory
 pub whole : (E out input : List ℕ) → 768 ≤ length E → 21557 ≤ length out
-    → take (finish (fed (turn begun (replicate 2048 0) (replicate 32 0) E) input) out .page .at)
-    (finish (fed (turn begun (replicate 2048 0) (replicate 32 0) E) input) out .page .out) ≡ printed input
+    → take (finish (fed (stage begun (replicate 2048 0) (replicate 32 0) E) input) out .page .at)
+    (finish (fed (stage begun (replicate 2048 0) (replicate 32 0) E) input) out .page .out) ≡ printed input
 whole E out input long space = prints (replicate 2048 0) (replicate 32 0) E out input long space

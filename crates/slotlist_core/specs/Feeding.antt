@@ -1,6 +1,6 @@
 -- The input byte by byte.
 -- Letters: W words, C colours, s state or piece of the input, E entries (their numbers), b byte,
---   d desk, t turn
+--   d desk, t stage
 use mathlib.Core.Bool.{cond}
 use mathlib.Core.List.{List, foldl}
 use Prim.Native.Nat.{ℕ}
@@ -16,36 +16,36 @@ use Rattle.slotlist_core.specs.declared.reading.Line.the-variants.{Start
 use Rattle.slotlist_core.specs.declared.working.Work.the-variants.{Listing}
 
 -- the line so far, the work, and the lent memory
-pub record Turn : Type 0 where
+pub record Stage : Type 0 where
   pub line : Line
   pub desk : Desk
 
-abbrev pub turn : (state : State) (words colours entries : List ℕ) → Turn
-turn s W C E = record { line = s .line; desk = desk (s .work) W C E }
+abbrev pub stage : (state : State) (words colours entries : List ℕ) → Stage
+stage s W C E = record { line = s .line; desk = desk (s .work) W C E }
 
 abbrev pub begun : State
 begun = record { line = Start; work = Listing 0 }
 
 -- a line is complete
-abbrev pub lined : (turn : Turn) → Desk
+abbrev pub lined : (stage : Stage) → Desk
 lined t = lineIn (endRule (t .line)) (t .desk)
 
 -- one byte, and a piece of the input
-unfoldable pub stepped : (turn : Turn) (byte : ℕ) → Turn
+unfoldable pub stepped : (stage : Stage) (byte : ℕ) → Stage
 stepped t b = cond (eqb b 10) (record { line = Start; desk = lined t }) (record { line = byteRule (t .line) b; desk = t .desk })
 
-unfoldable pub fed : (turn : Turn) (piece : List ℕ) → Turn
+unfoldable pub fed : (stage : Stage) (piece : List ℕ) → Stage
 fed t s = foldl stepped t s
 
 -- "the input's last LF may be missing"
-unfoldable pub lastLine : (turn : Turn) → Desk
+unfoldable pub lastLine : (stage : Stage) → Desk
 lastLine t = cond (newRule (t .line)) (t .desk) (lined t)
 
 -- the end of the input
 abbrev pub settledDesk : (desk : Desk) → Desk
 settledDesk d = onDesk (settledIn (d .entries) (effect (d .work) (d .nodes) (d .colours))) (d .entries)
 
-abbrev pub ended : (turn : Turn) → Desk
+abbrev pub ended : (stage : Stage) → Desk
 ended t = settledDesk (lastLine t)
 
 -- what is printed, in the lent buffer, with the memory as it is then
@@ -62,5 +62,5 @@ abbrev pub printedOn : (out : List ℕ) (desk : Desk) → End
 printedOn out d =
     record { page = puts (page 0 out) (workText (d .work) (d .nodes)); nodes = d .nodes; colours = d .colours; entries = d .entries }
 
-abbrev pub finish : (turn : Turn) (out : List ℕ) → End
+abbrev pub finish : (stage : Stage) (out : List ℕ) → End
 finish t out = printedOn out (ended t)

@@ -19,11 +19,11 @@ unfoldable pub puts : (page : Page) (text : List ℕ) → Page
 puts p s = foldl putByte p s
 
 -- 1: "count .. above capacity"
-unfoldable pub heldText : (map : Map) (words : List ℕ) → List ℕ
-heldText m W = cond (ltb (length W / 8) (m .count)) (refusalText 1) (mapText (m .count) (m .root) W)
+unfoldable pub checkedText : (map : Map) (words : List ℕ) → List ℕ
+checkedText m W = cond (ltb (length W / 8) (m .count)) (refusalText 1) (mapText (m .count) (m .root) W)
 
 -- what is printed at the end, with the map's words W
 abbrev pub workText : (work : Work) (words : List ℕ) → List ℕ
 workText (Listing n) W = []
-workText (Mapped m) W = heldText m W
+workText (Mapped m) W = checkedText m W
 workText (Refused why) W = refusalText why

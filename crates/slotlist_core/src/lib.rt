@@ -8,7 +8,7 @@ mod writing;
 use reading::Line;
 use working::Work;
 ghost use mathlib.Core.Path.{_≡_};
-ghost use Rattle.slotlist_core.specs.Feeding.{turn, begun, stepped, fed, lastLine, ended, finished, finish};
+ghost use Rattle.slotlist_core.specs.Feeding.{stage, begun, stepped, fed, lastLine, ended, finished, finish};
 ghost use Rattle.slotlist_core.specs.Working.{desk};
 ghost use Rattle.slotlist_core.specs.Reading.{byteRule};
 
@@ -33,8 +33,8 @@ impl State {
 
     // The line so far is complete.
     fn end_line(self, nodes: &mut [u64], colours: &mut [u8], entries: &mut [u64]) -> State
-        ensures { λ r. ⌜ turn r (now (nodes .exit)) (now (colours .exit)) (now (entries .exit))
-            ≡ stepped (turn self (now (nodes .entry)) (now (colours .entry)) (now (entries .entry))) 10 ⌝ }
+        ensures { λ r. ⌜ stage r (now (nodes .exit)) (now (colours .exit)) (now (entries .exit))
+            ≡ stepped (stage self (now (nodes .entry)) (now (colours .entry)) (now (entries .entry))) 10 ⌝ }
     {
         let line = self.line;
         let work = self.work;
@@ -59,8 +59,8 @@ impl State {
 
     // One more byte of input.
     fn byte(self, b: u8, nodes: &mut [u64], colours: &mut [u8], entries: &mut [u64]) -> State
-        ensures { λ r. ⌜ turn r (now (nodes .exit)) (now (colours .exit)) (now (entries .exit))
-            ≡ stepped (turn self (now (nodes .entry)) (now (colours .entry)) (now (entries .entry))) b ⌝ }
+        ensures { λ r. ⌜ stage r (now (nodes .exit)) (now (colours .exit)) (now (entries .exit))
+            ≡ stepped (stage self (now (nodes .entry)) (now (colours .entry)) (now (entries .entry))) b ⌝ }
     {
         if b == LINE_END {
             self.end_line(nodes, colours, entries)
@@ -77,8 +77,8 @@ impl State {
         colours: &mut [u8],
         entries: &mut [u64],
     ) -> State
-        ensures { λ r. ⌜ turn r (now (nodes .exit)) (now (colours .exit)) (now (entries .exit))
-            ≡ fed (turn self (now (nodes .entry)) (now (colours .entry)) (now (entries .entry))) (now (piece .entry)) ⌝ }
+        ensures { λ r. ⌜ stage r (now (nodes .exit)) (now (colours .exit)) (now (entries .exit))
+            ≡ fed (stage self (now (nodes .entry)) (now (colours .entry)) (now (entries .entry))) (now (piece .entry)) ⌝ }
     {
         let mut state = self;
         let mut i = 0;
@@ -93,7 +93,7 @@ impl State {
     // The last line, where its end is missing.
     fn end_last(self, nodes: &mut [u64], colours: &mut [u8], entries: &mut [u64]) -> Work
         ensures { λ r. ⌜ desk r (now (nodes .exit)) (now (colours .exit)) (now (entries .exit))
-            ≡ lastLine (turn self (now (nodes .entry)) (now (colours .entry)) (now (entries .entry))) ⌝ }
+            ≡ lastLine (stage self (now (nodes .entry)) (now (colours .entry)) (now (entries .entry))) ⌝ }
     {
         let line = self.line;
         let work = self.work;
@@ -107,7 +107,7 @@ impl State {
     // The end of the input.
     fn settle(self, nodes: &mut [u64], colours: &mut [u8], entries: &mut [u64]) -> Work
         ensures { λ r. ⌜ desk r (now (nodes .exit)) (now (colours .exit)) (now (entries .exit))
-            ≡ ended (turn self (now (nodes .entry)) (now (colours .entry)) (now (entries .entry))) ⌝ }
+            ≡ ended (stage self (now (nodes .entry)) (now (colours .entry)) (now (entries .entry))) ⌝ }
     {
         let work = self.end_last(nodes, colours, entries);
         work.settle(nodes, colours, entries)
@@ -122,7 +122,7 @@ impl State {
         out: &mut [u8],
     ) -> usize
         ensures { λ r. ⌜ finished r (now (nodes .exit)) (now (colours .exit)) (now (entries .exit)) (now (out .exit))
-            ≡ finish (turn self (now (nodes .entry)) (now (colours .entry)) (now (entries .entry))) (now (out .entry)) ⌝ }
+            ≡ finish (stage self (now (nodes .entry)) (now (colours .entry)) (now (entries .entry))) (now (out .entry)) ⌝ }
     {
         let work = self.settle(nodes, colours, entries);
         work.put(nodes, out)

@@ -74,8 +74,8 @@ fn remove_slot(map: Map, k: u64, nodes: &mut [u64], colours: &mut [u8]) -> Work
     ensures { λ r. ⌜ effect r (now (nodes .exit)) (now (colours .exit)) ≡ removalIn map (now (nodes .entry)) (now (colours .entry)) k ⌝ }
 {
     match map.remove(nodes, colours, k) {
-        Removal::Done(gone) => {
-            let left = gone.map;
+        Removal::Done(removed) => {
+            let left = removed.map;
             Work::Mapped(left)
         }
         Removal::Refused(why) => refuse(why),
@@ -108,7 +108,7 @@ impl Work {
     }
 
     // A removal from the map that is held.
-    fn remove_held(self, k: u64, nodes: &mut [u64], colours: &mut [u8]) -> Work
+    fn remove_mapped(self, k: u64, nodes: &mut [u64], colours: &mut [u8]) -> Work
         ensures { λ r. ⌜ effect r (now (nodes .exit)) (now (colours .exit))
             ≡ removedIn k (effect self (now (nodes .entry)) (now (colours .entry))) ⌝ }
     {
@@ -124,7 +124,7 @@ impl Work {
             ≡ removedIn k (settledIn (now (entries .entry)) (effect self (now (nodes .entry)) (now (colours .entry)))) ⌝ }
     {
         let settled = self.settle(nodes, colours, entries);
-        settled.remove_held(k, nodes, colours)
+        settled.remove_mapped(k, nodes, colours)
     }
 
     // Any other line.

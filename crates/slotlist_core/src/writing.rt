@@ -10,7 +10,7 @@ ghost use mathlib.Core.Path.{_≡_};
 ghost use Prim.Native.Nat.{_+_, _<_};
 ghost use Rattle.lines.specs.Output.{page, decimal, number, next};
 ghost use Rattle.slotlist_core.specs.Text.{rootText, head, row, rows, refusalText};
-ghost use Rattle.slotlist_core.specs.Writing.{putByte, puts, heldText, workText};
+ghost use Rattle.slotlist_core.specs.Writing.{putByte, puts, checkedText, workText};
 ghost use Rattle.words.specs.Nodes.{Has, Holds};
 
 fn put_byte(out: &mut [u8], at: usize, b: u8) -> usize
@@ -127,7 +127,7 @@ fn put_refusal(out: &mut [u8], why: u64) -> usize
 
 // A map whose count is above what the words hold is refused.
 fn put_map(out: &mut [u8], map: Map, nodes: &[u64]) -> usize
-    ensures { λ r. ⌜ page r (now (out .exit)) ≡ puts (page 0 (now (out .entry))) (heldText map (now (nodes .entry))) ⌝ }
+    ensures { λ r. ⌜ page r (now (out .exit)) ≡ puts (page 0 (now (out .entry))) (checkedText map (now (nodes .entry))) ⌝ }
 {
     let count = map.count;
     if slots_in(nodes.len()) < count {

@@ -35,7 +35,7 @@ use Rattle.stack.proofs.lending.make_match.Reads as make-match-reads
 use Rattle.stack.proofs.lending.go_right.Reads as go-right-reads
 use Rattle.stack.proofs.lending.pop.Reads as pop-reads
 
--- this paper's numbers say which outcome it is
+-- its numbers say which outcome it is
 abbrev outcomeAt : Told → Outcome
 outcomeAt x = cond (eqb (x .no) 0) Done (Refused (refusalAt (x .no)))
 

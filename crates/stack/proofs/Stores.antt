@@ -39,7 +39,7 @@ use denote.Triple.Spec.{Spec, Meets, tripleOf}
 use denote.Triple.Table.{entered, cited}
 use denote.Triple.Walked.{says, Stays, stay-ref, walkOf, goes-ref, Walks, ends-at, walked, walk-meets}
 use denote.Triple.Clauses.{Clauses, closing}
-use Rattle.stack.specs.Calls.{Told, paper, lent, outcomeOf}
+use Rattle.stack.specs.Calls.{Told, numbers, lent, outcomeOf}
 use Rattle.stack.specs.declared.ActionStack.{ActionStack}
 use Rattle.stack.specs.declared.Answer.{Answer}
 use Rattle.stack.specs.declared.Answer.the-variants.{Done, Refused}
@@ -78,7 +78,7 @@ stores callee = record {
 }
 
 -- an answer in two parts, where nothing was tested
-in-parts : (h : ActionStack) (a : Answer) → paper h a .yes ≡ false → lent (outcomeOf a) (paper h a .stack) ≡ paper h a
+in-parts : (h : ActionStack) (a : Answer) → numbers h a .yes ≡ false → lent (outcomeOf a) (numbers h a .stack) ≡ numbers h a
 in-parts h (Done b s) e = rw e
 in-parts h (Refused y) e = refl
 
@@ -92,7 +92,7 @@ stayed = (stay-ref (0 ∷ []) tt (plain (λ _. R)), tt)
 -- the contracts by the rule: of the call by value, and of the function over the record
 module _ (rule : ActionStack → Told) {M : Type 1} (𝓤 : URA M) (H : Heap 𝓤) (A : Atoms 𝓤) where
   abbrev answers : Clauses 𝓤 by-value.ended
-  answers κs a = record { ghost = Unit {0}; requires = λ _. emp 𝓤; ensures = λ _ r end. fact 𝓤 (paper (a .0) r ≡ rule (a .0)) }
+  answers κs a = record { ghost = Unit {0}; requires = λ _. emp 𝓤; ensures = λ _ r end. fact 𝓤 (numbers (a .0) r ≡ rule (a .0)) }
 
   abbrev leaves : Clauses 𝓤 own.ended
   leaves κs a = record { ghost = Unit {0}; requires = λ _. emp 𝓤; ensures = λ _ r end. fact 𝓤 (lent r (now (end .0)) ≡ rule (now (a .0))) }
@@ -115,7 +115,7 @@ module _ (rule : ActionStack → Told) {M : Type 1} (𝓤 : URA M) (H : Heap �
 
     -- what the three calls say is what the contract asks
     ends-as : (h : ActionStack) (a : Answer) (z : Outcome) (r : ActionStack)
-        → paper h a ≡ rule h → r ≡ paper h a .stack → z ≡ outcomeOf a → lent z r ≡ rule h
+        → numbers h a ≡ rule h → r ≡ numbers h a .stack → z ≡ outcomeOf a → lent z r ≡ rule h
     ends-as h a z r d e f = rw (e, f) (in-parts h a (rw d (quiet h)) ∙ d)
 
     module _ (κ : Lft) (q : Share) (b o : ℕ) (γ : GName) (h : ActionStack) where
@@ -170,7 +170,7 @@ module _ (rule : ActionStack → Told) {M : Type 1} (𝓤 : URA M) (H : Heap �
             (from ! (stop !)) (init ! 7 refl (stack-typed W h _ was)) $
             has-stack ! h _ was $ use1 W (raw (Called .pre to-called)) (takes-one W R h vals) $
             calls-at ! fm Called known to-called (and-then ! (load ! (from ! (stop !)) (look ! 8 refl)) (no-more !)) (λ u.
-            hears ! tt T.the-row by-value.ended tt (h, tt) (λ a. paper h a ≡ rule h) u (λ a d its.
+            hears ! tt T.the-row by-value.ended tt (h, tt) (λ a. numbers h a ≡ rule h) u (λ a d its.
             land ! (from ! (stop !)) (init ! 10 refl (EL.lawful T.the-type T′.the-laws 𝓤 H A W tt .typed a _ its .0)) $ drop ! $
             -- _4 = *s, and _3 = stack_after(_2, _4)
             assigns ! (of-opd ! (load ! (from ! (hop ! (look ! 11 refl) (stop !))) (look-raw ! 0 refl)))
@@ -179,7 +179,7 @@ module _ (rule : ActionStack → Told) {M : Type 1} (𝓤 : URA M) (H : Heap �
             use2 W (raw (After .pre (to-after a u))) (takes-two W T.the-row R a h (u ∷ []) vals) $
             calls-at ! fm After known-after (to-after a u)
             (and-then ! (load ! (from ! (stop !)) (look ! 9 refl)) (and-then ! (load ! (from ! (stop !)) (look ! 5 refl)) (no-more !))) (λ v.
-            hears ! tt R after.ended tt (a, (h, tt)) (λ r. r ≡ paper h a .stack) v (λ r e is.
+            hears ! tt R after.ended tt (a, (h, tt)) (λ r. r ≡ numbers h a .stack) v (λ r e is.
             -- [what the new stack owns; the cell; the open borrow; obs; auth; _4; …; _3; …; _2; …; _1; …; room for _0; …]
             land ! (from ! (stop !)) (store ! 7 refl (stack-typed W r v is)) $
             -- *s = _3

@@ -11,16 +11,16 @@ use Rattle.stack.specs.declared.Answer.the-variants.{Done, Refused}
 use Rattle.stack.specs.declared.lent.Outcome.{Outcome}
 use Rattle.stack.specs.declared.lent.Outcome.the-variants as Lent
 
--- an answer by this paper's numbers: the refusal's, 0 for none; what was tested; the stack
+-- an answer by its numbers: the refusal's, 0 for none; what was tested; the stack
 pub record Told : Type 0 where
   pub no : ℕ
   pub yes : Bool
   pub stack : ActionStack
 
 -- a refusal has the stack as it was given
-abbrev pub paper : (given : ActionStack) (answer : Answer) → Told
-paper given (Done b s) = record { no = 0; yes = b; stack = s }
-paper given (Refused y) = record { no = refusalNumber y; yes = false; stack = given }
+abbrev pub numbers : (given : ActionStack) (answer : Answer) → Told
+numbers given (Done b s) = record { no = 0; yes = b; stack = s }
+numbers given (Refused y) = record { no = refusalNumber y; yes = false; stack = given }
 
 abbrev pub done : (yes : Bool) (stack : ActionStack) → Told
 done b s = record { no = 0; yes = b; stack = s }
@@ -84,7 +84,7 @@ popRule s = cond (some s) (done false (popped s)) (badBit s)
 unfoldable pub isEmptyRule : (stack : ActionStack) → Told
 isEmptyRule s = cond (leb (s .levels) 32) (done (eqb (s .levels) 0) s) (badBit s)
 
--- "The functions push, pop and the state marks change the stack record itself": by this paper's
+-- "The functions push, pop and the state marks change the stack record itself": by their
 -- numbers, the answer of such a call, which tests nothing, and the record after it
 abbrev pub lent : (outcome : Outcome) (stack : ActionStack) → Told
 lent Lent.Done s = done false s

@@ -4,7 +4,7 @@ use crate::ActionStack;
 use crate::Answer;
 use words::refusal::Refusal;
 ghost use mathlib.Core.Path.{_≡_};
-ghost use Rattle.stack.specs.Calls.{paper, lent, outcomeOf, pushRule, goLeftRule, makeMatchRule, goRightRule, popRule};
+ghost use Rattle.stack.specs.Calls.{numbers, lent, outcomeOf, pushRule, goLeftRule, makeMatchRule, goRightRule, popRule};
 
 // What such a call answers; the stack after it is the record.
 pub enum Outcome {
@@ -14,7 +14,7 @@ pub enum Outcome {
 
 // The stack after a call by value on a given one.
 pub(crate) fn stack_after(a: Answer, given: ActionStack) -> ActionStack
-    ensures { λ r. ⌜ r ≡ paper given a .stack ⌝ }
+    ensures { λ r. ⌜ r ≡ numbers given a .stack ⌝ }
 {
     match a {
         Answer::Done(_, stack) => stack,

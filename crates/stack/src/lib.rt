@@ -9,7 +9,7 @@ use words::refusal::Refusal;
 ghost use mathlib.Core.Path.{_≡_};
 ghost use Prim.Native.Nat.{_*_, _^_, _≤_, _<_};
 ghost use Rattle.stack.specs.States.{stateAt, putState, start, top, marked, pushed, popped};
-ghost use Rattle.stack.specs.Calls.{some, paper, pushRule, canGoLeftRule, goLeftRule, canMatchRule, makeMatchRule, canGoRightRule, goRightRule, popRule, isEmptyRule};
+ghost use Rattle.stack.specs.Calls.{some, numbers, pushRule, canGoLeftRule, goLeftRule, canMatchRule, makeMatchRule, canGoRightRule, goRightRule, popRule, isEmptyRule};
 
 // The states of a level, first bit then last: 00 entered, 01 was left, 10 returned, 11 was right. The first bit counts 1, the last one 2.
 pub const ENTERED: u64 = 0;
@@ -122,7 +122,7 @@ impl ActionStack {
     }
 
     pub fn push(self) -> Answer
-        ensures { λ r. ⌜ paper self r ≡ pushRule self ⌝ }
+        ensures { λ r. ⌜ numbers self r ≡ pushRule self ⌝ }
     {
         if self.levels < 32 {
             Answer::Done(false, self.deepen())
@@ -132,7 +132,7 @@ impl ActionStack {
     }
 
     pub fn can_go_left(self) -> Answer
-        ensures { λ r. ⌜ paper self r ≡ canGoLeftRule self ⌝ }
+        ensures { λ r. ⌜ numbers self r ≡ canGoLeftRule self ⌝ }
     {
         if self.has_top() {
             Answer::Done(self.top() == ENTERED, self)
@@ -143,7 +143,7 @@ impl ActionStack {
 
     // Sets the last bit and keeps the first.
     pub fn go_left(self) -> Answer
-        ensures { λ r. ⌜ paper self r ≡ goLeftRule self ⌝ }
+        ensures { λ r. ⌜ numbers self r ≡ goLeftRule self ⌝ }
     {
         if self.has_top() {
             let state = self.top() % 2 + 2;
@@ -154,7 +154,7 @@ impl ActionStack {
     }
 
     pub fn can_match(self) -> Answer
-        ensures { λ r. ⌜ paper self r ≡ canMatchRule self ⌝ }
+        ensures { λ r. ⌜ numbers self r ≡ canMatchRule self ⌝ }
     {
         if self.has_top() {
             Answer::Done(self.top() % 2 == 0, self)
@@ -164,7 +164,7 @@ impl ActionStack {
     }
 
     pub fn make_match(self) -> Answer
-        ensures { λ r. ⌜ paper self r ≡ makeMatchRule self ⌝ }
+        ensures { λ r. ⌜ numbers self r ≡ makeMatchRule self ⌝ }
     {
         if self.has_top() {
             Answer::Done(false, self.mark(RETURNED))
@@ -174,7 +174,7 @@ impl ActionStack {
     }
 
     pub fn can_go_right(self) -> Answer
-        ensures { λ r. ⌜ paper self r ≡ canGoRightRule self ⌝ }
+        ensures { λ r. ⌜ numbers self r ≡ canGoRightRule self ⌝ }
     {
         if self.has_top() {
             Answer::Done(self.top() < 2, self)
@@ -184,7 +184,7 @@ impl ActionStack {
     }
 
     pub fn go_right(self) -> Answer
-        ensures { λ r. ⌜ paper self r ≡ goRightRule self ⌝ }
+        ensures { λ r. ⌜ numbers self r ≡ goRightRule self ⌝ }
     {
         if self.has_top() {
             Answer::Done(false, self.mark(WAS_RIGHT))
@@ -194,7 +194,7 @@ impl ActionStack {
     }
 
     pub fn pop(self) -> Answer
-        ensures { λ r. ⌜ paper self r ≡ popRule self ⌝ }
+        ensures { λ r. ⌜ numbers self r ≡ popRule self ⌝ }
     {
         if self.has_top() {
             Answer::Done(false, self.shorten())
@@ -204,7 +204,7 @@ impl ActionStack {
     }
 
     pub fn is_empty(self) -> Answer
-        ensures { λ r. ⌜ paper self r ≡ isEmptyRule self ⌝ }
+        ensures { λ r. ⌜ numbers self r ≡ isEmptyRule self ⌝ }
     {
         if self.levels <= 32 {
             Answer::Done(self.levels == 0, self)

@@ -125,4 +125,4 @@ slotsIn words = words / 8
 
 -- "Capacity: the least of node words div 8, colour bytes × 8, and 65,535."
 abbrev pub capacity : (words bytes : ℕ) → ℕ
-capacity words bytes = min (slotsIn words) (min (bytes * 8) 65535)
+capacity words bytes = min (slotsIn words) (min (bitsOf bytes) 65535)

@@ -2,7 +2,7 @@ use mathlib.Core.Path.{_≡_, refl}
 use Prim.Native.Nat.{_≤_, _-_}
 use lib.ListN.{length, drop}
 use native.Mathlib.Omega.{arith}
-use Rattle.slotlist_core.specs.Feeding.{turn, fed}
+use Rattle.slotlist_core.specs.Feeding.{stage, fed}
 use Rattle.lines.proofs.Folds.{fold-on, fold-end}
 use Rattle.slotlist_core.proofs.State.feed.Statement.{statement}
 use Rattle.slotlist_core.proofs.State.feed.Tie as tie
@@ -10,7 +10,7 @@ use Rattle.slotlist_core.proofs.State.feed.Tie as tie
 abbrev Inv-loop : tie.InvT-loop
 Inv-loop piece nodes₀ colours₀ entries₀ state₀ i₀ nodes colours entries state i = (i ≤ length piece) × (length nodes ≡ length nodes₀)
     × (length colours ≡ length colours₀) × (length entries ≡ length entries₀)
-    × (fed (turn state₀ nodes₀ colours₀ entries₀) piece ≡ fed (turn state nodes colours entries) (drop i piece))
+    × (fed (stage state₀ nodes₀ colours₀ entries₀) piece ≡ fed (stage state nodes colours entries) (drop i piece))
 
 abbrev μ-loop : tie.MeasureT-loop
 μ-loop piece nodes₀ colours₀ entries₀ state₀ i₀ nodes colours entries state i = length piece - i

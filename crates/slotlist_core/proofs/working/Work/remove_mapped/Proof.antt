@@ -1,10 +1,10 @@
 use Rattle.slotlist_core.proofs.Arms.{removed-of}
 use borrow.Author.Needs.{needs}
-use Rattle.slotlist_core.proofs.working.Work.remove_held.Statement.{statement}
-use Rattle.slotlist_core.proofs.working.Work.remove_held.Tie as tie
+use Rattle.slotlist_core.proofs.working.Work.remove_mapped.Statement.{statement}
+use Rattle.slotlist_core.proofs.working.Work.remove_mapped.Tie as tie
 
-pub remove-held-spec : {M : Type 1} → statement M
-remove-held-spec =
+pub remove-mapped-spec : {M : Type 1} → statement M
+remove-mapped-spec =
     tie.close
     (tie.spec
     (λ c. search needs)
