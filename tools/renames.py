@@ -201,7 +201,7 @@ NAMES = [
     # one filter; a query's order; the check's recursion; capacity
     ("those", "filter", r"crates/(iter|iter_laws|plain|plain_rule|iset|test_document)/"),
     ("only", "filter", r"crates/tree_in_rule/", FIRST),
-    ("sorted", "inOrder", r"crates/(iter|iter_laws)/"),
+    ("sorted", "inOrder", r"crates/(iter|iter_laws)/|crates/iset/proofs/Below"),
     ("sorted-by", "inOrder-by", r"crates/iter_laws/"),
     ("sorted-both", "inOrder-both", r"crates/iter_laws/"),
     ("walk", "survey_at", r"crates/audit/"),
