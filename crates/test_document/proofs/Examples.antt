@@ -11,7 +11,7 @@ use Rattle.tree_edit.specs.Rotations.{rotate, rotate-2, rotate-4}
 use Rattle.bitvec.specs.Colours.{paintAt}
 use Rattle.tree_rm_rule.specs.Repair.{choose, roundOf, roundAt, round}
 use Rattle.tree_rm_rule.specs.Pairs.{movedTo, emptied, home, named, lower, upper, byOldSlot, moved}
-use Rattle.tree_rm_rule.specs.Remove.{vacated, exchanged, child, restructure, handed, above, cutWords, cutRoot, copied, relinked, cleared, swapRemove, finish, removeFrom, removeRule, cutWordsWith, finishWith, removeFromWith, removeWith, restructureWith, vacatedWith}
+use Rattle.tree_rm_rule.specs.Remove.{exchanged, child, handed, above, cutRoot, copied, relinked, cleared, swapRemove, cutWordsWith, finishWith, removeFromWith, removeWith, restructureWith, vacatedWith}
 use Rattle.tree_edit.specs.Reach.{differs, upHulls, loopHulls}
 use Rattle.tree_rm_rule.specs.Reach.{roundOfHulls, roundAtHulls, roundHulls, restructureHulls, cutHulls, vacateHulls, removeHullsFrom, removeHulls}
 use Rattle.tree_in_rule.specs.Descent.{goesLeft, descend, under}

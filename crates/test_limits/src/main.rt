@@ -129,13 +129,24 @@ fn chain(n: u64, nodes: &mut [u64], colours: &[u8]) {
     }
 }
 
-// The last build but one has as many entries as a map can have, the last one more.
+// How many entries the builds have: the last but one as many as a map can have, the last one more.
+fn size(k: u64) -> usize {
+    match k {
+        0 => 255,
+        1 => 256,
+        2 => 4096,
+        3 => 65535,
+        _ => 65536,
+    }
+}
+
 fn builds(list: &mut [u64], nodes: &mut [u64], colours: &mut [u8]) {
-    build(255, list, nodes, colours);
-    build(256, list, nodes, colours);
-    build(4096, list, nodes, colours);
-    build(65535, list, nodes, colours);
-    build(65536, list, nodes, colours);
+    let mut k = 0;
+    while k < 5 {
+        let n = size(k);
+        k += 1;
+        build(n, list, nodes, colours);
+    }
 }
 
 fn chains(nodes: &mut [u64], colours: &[u8]) {

@@ -83,9 +83,12 @@ module _ (W C X D Y : List ℕ) (n r q p : ℕ) (e : Entry) (h : store X D q ≡
   insertAt-changes B t j k f g i =
       rw (← h, ← f, changes-append (n + 1) (insertRepairHulls (n + 1) 32 X D q n) (upHulls (n + 1) 32 Y n), ← g, ← i)
 
-pub insertAt-fits : (n : ℕ) (X D Y : List ℕ) (q x j k : ℕ) → j ≡ changes n (insertRepairHulls n 32 X D q x) → k ≡ changes n (upHulls n 32 Y x)
-    → j + k < 18446744073709551616
-insertAt-fits n X D Y q x j k e f = omega (arith, insertRepair-most n 32 X D q x, changes-le n (upHulls n 32 Y x), up-most n 32 Y x)
+-- how many hulls each of the two can change
+pub repair-few : (n : ℕ) (X D : List ℕ) (q x j : ℕ) → j ≡ changes n (insertRepairHulls n 32 X D q x) → j ≤ 128
+repair-few n X D q x j e = omega (arith, insertRepair-most n 32 X D q x)
+
+pub walk-few : (n : ℕ) (Y : List ℕ) (x k : ℕ) → k ≡ changes n (upHulls n 32 Y x) → k ≤ 32
+walk-few n Y x k e = omega (arith, changes-le n (upHulls n 32 Y x), up-most n 32 Y x)
 
 -- the whole insertion
 module _ (W C : List ℕ) (n r p : ℕ) (e : Entry) (i : Interval) (f : i ≡ own e) (g : p ≡ under n W r i) where

@@ -1,4 +1,4 @@
-use Rattle.tree_in.proofs.Inserts.{insertAt-is, insertAt-changes, insertAt-fits}
+use Rattle.tree_in.proofs.Inserts.{insertAt-is, insertAt-changes, repair-few, walk-few}
 use native.Mathlib.Omega.{arith}
 use borrow.Author.Needs.{needs}
 use Rattle.tree_in.proofs.insert_at.Statement.{statement}
@@ -15,7 +15,7 @@ insert-at-spec =
     (λ c κs. search needs)
     (λ c. let walked = c .before .before .before in
     let repaired = walked .before .before .before .before .before .before in
-    omega (arith, insertAt-fits _ _ _ _ _ _ _ _ (repaired .insert-repair .ensures .1) (walked .fix-intervals-up .ensures .0)))
+    omega (arith, repair-few _ _ _ _ _ _ (repaired .insert-repair .ensures .1), walk-few _ _ _ _ (walked .fix-intervals-up .ensures .0)))
     (λ c. search needs)
     (λ c. search needs)
     (λ c. (search insertAt-is, search insertAt-changes)))
