@@ -58,11 +58,42 @@ FUNCTIONS = [
     ("tree_rm_repair", "", "one_turn", "one_round"),
     ("tree_rm_repair", "", "turn_at", "round_at"),
     ("tree_rm_repair", "", "turn_of", "round_of"),
+    ("tree_in", "descent/", "slot_above", "insert_inner"),
     ("tree_in", "repair/", "one_turn", "one_round"),
     ("tree_in", "repair/", "turn_at", "round_at"),
     ("tree_in", "repair/", "turn_below", "round_below"),
     ("tree_in", "repair/", "turn_rotated", "round_rotated"),
     ("slotlist_core", "working/Work/", "remove_held", "remove_mapped"),
+]
+
+# Names that went to another module, by their old names: module, names (None for all), new module.
+# `use` lines of other crates follow; not those of a patch, where a line has to stay one line.
+RM, EDIT = "tree_rm_laws", "tree_edit"
+MOVES = [
+    (f"{RM}.specs.Links", None, f"{EDIT}.specs.Links"),
+    (f"{RM}.specs.Remove", "leftmost", f"{EDIT}.specs.Links"),
+    (f"{RM}.specs.Remove", "Store store", f"{EDIT}.specs.Store"),
+    (f"{RM}.specs.Remove", "ending", f"{EDIT}.specs.Rounds"),
+    (f"{RM}.specs.Repair", "turn turn-2 turn-4", f"{EDIT}.specs.Rotations"),
+    (f"{RM}.specs.Repair", "Next done again goOn", f"{EDIT}.specs.Rounds"),
+    (f"{RM}.specs.Repair", "dyeAt", "bitvec.specs.Colours"),
+    (f"{RM}.specs.Reach", "Work work differs changes bothHulls upHulls onward Stays Follows", f"{EDIT}.specs.Reach"),
+    (f"{RM}.specs.Below", None, f"{EDIT}.specs.Below"),
+    (f"{RM}.specs.Removed", "Inside", f"{EDIT}.specs.Inside"),
+    (f"{RM}.specs.With", None, f"{RM}.specs.Remove"),
+    (f"{RM}.specs.declared.pairs.Pair", None, "words.specs.declared.pair.Pair"),
+    (f"{RM}.specs.declared.pairs.Pairs", None, "words.specs.declared.pair.Pairs"),
+    (f"{RM}.proofs.Below", "link-same", f"{EDIT}.proofs.Below"),
+    (f"{RM}.proofs.Links", None, f"{EDIT}.proofs.Links"),
+    (f"{RM}.proofs.Turns", None, f"{EDIT}.proofs.Turns"),
+    ("tree_in_laws.specs.Sequence", None, "tree_changes.specs.Sequence"),
+    ("tree_in_laws.proofs.Sequence", None, "tree_changes.proofs.Sequence"),
+]
+# And uses of the code.
+USES = [
+    ("tree_rm_laws::pairs::", "words::pair::"),
+    ("tree_rm_repair::copy_colour", "bitvec::colours::copy_colour"),
+    ("tree_rm_repair::Repaired", "tree_links::Repaired"),
 ]
 
 # Paths, as regular expressions over the path below ROOT. The papers are always in scope.
@@ -250,7 +281,7 @@ NAMES = [
     ("Inserted", "InsertionGuarantee", r"crates/tree_in_rule/|crates/iset/(specs|proofs)/", FIRST),
 ]
 
-# Places that take more than a name: path, old text, new text. They go first.
+# Places that take more than a name: path, old text, new text. They come before the names.
 TEXTS = [
     ("crates/iset/proofs/Sequence.antt", "specs.Changes.{change}", "specs.Effects.{effect}"),
     ("crates/iset/proofs/Sequence.antt", "calls.Change", "calls.Effect"),
@@ -398,7 +429,27 @@ def with_line(path, names, line, state):
     return names.in_line(line, mark) if mark else names.in_prose(line)
 
 
+def with_moves(line):
+    """The `use` lines that one becomes."""
+    for old, new in USES:
+        line = line.replace(old, new)
+    at = re.fullmatch(r"((?:ghost )?use )Rattle·([\w.]+)\.\{(.*)\}(;?)", line)
+    if not at:
+        return [line]
+    start, module, names, end = at.groups()
+    parts = {}
+    for name in names.split(", "):
+        to = module
+        for old, moved, new in MOVES:
+            if old == module and (moved is None or name.split(" ")[0] in moved.split()):
+                to = new
+        parts.setdefault(to, []).append(name)
+    return [f"{start}Rattle.{to}.{{{', '.join(group)}}}{end}" for to, group in parts.items()]
+
+
 def renamed(path, text, guarded):
+    if path.endswith((".antt", ".rt")):
+        text = "\n".join(part for line in text.split("\n") for part in with_moves(line))
     for where, old, new in TEXTS:
         if where == path:
             text = text.replace(old, new)
