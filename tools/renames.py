@@ -19,6 +19,7 @@ CRATES = [
     ("tree_rm_laws", "tree_rm_rule"),
     ("tree_in_laws", "tree_in_rule"),
     ("plain_laws", "plain_rule"),
+    ("fast_laws", "fast_rule"),
     ("capi_open", "iset_c_open"),
     ("capi", "iset_c"),
     ("driver", "drive_core"),
@@ -230,11 +231,11 @@ NAMES = [
     ("put_gone", "put_removed", FACES),
     ("put_added", "put_inserted", FACES),
     # one filter; a query's order; the check's recursion; capacity
-    ("those", "filter", r"crates/(iter|iter_laws|plain|plain_rule|iset|test_document)/"),
+    ("those", "filter", r"crates/(iter|iter_laws|plain|plain_rule|fast|fast_rule|iset|test_document)/"),
     ("only", "filter", r"crates/tree_in_rule/", FIRST),
-    ("sorted", "inOrder", r"crates/(iter|iter_laws)/|crates/iset/proofs/Below"),
-    ("sorted-by", "inOrder-by", r"crates/iter_laws/"),
-    ("sorted-both", "inOrder-both", r"crates/iter_laws/"),
+    ("sorted", "toward", r"crates/(iter|iter_laws)/|crates/iset/proofs/Below"),
+    ("sorted-by", "toward-by", r"crates/iter_laws/"),
+    ("sorted-both", "toward-both", r"crates/iter_laws/"),
     ("walk", "survey_at", r"crates/audit/"),
     ("room", "capacity", r"crates/words/(specs|proofs)/", FIRST),
     # the states of slotlist's work

@@ -30,7 +30,7 @@ use Rattle.iter.specs.Walk.{Rules, deeper, down, move, hits, ending, hitting, c
 use Rattle.iter.specs.Drains.{drain, limitOf}
 use Rattle.iter.specs.Forms.{onSide, formed, heldForm, formOf}
 use Rattle.iter.specs.Overlap.{meets, shouldGo}
-use Rattle.iter.specs.Exact.{equals, inOrder, shouldGoExact, find}
+use Rattle.iter.specs.Exact.{equals, toward, shouldGoExact, find}
 use Rattle.iter.specs.Queries.{rules}
 use Rattle.iter.specs.declared.Cursor.{Cursor}
 use Rattle.iter.specs.declared.rules.Query.{Query}
@@ -67,7 +67,7 @@ build-below W C X D S e f = rw (e, f) (go (eqb (buildNumber (length X) (length D
 -- the rules of a lookup, at a slot below the count
 module _ (n : ℕ) (W X : List ℕ) (A : Agree n W X) where
   same-go : (q : Query) (b : Bool) (s : ℕ) → s < n → rules W n q .go b s ≡ rules X n q .go b s
-  unfolding rules shouldGo shouldGoExact inOrder
+  unfolding rules shouldGo shouldGoExact toward
   same-go (Overlap q) true s l =
       rw (A .1 (Child true) s l)
       (link-same n {A = Bool} (λ i j. i ≡ j) (kid X true s) (λ a. reached (q .lo) (hi W a)) (λ a. reached (q .lo) (hi X a)) false false
@@ -78,11 +78,11 @@ module _ (n : ℕ) (W X : List ℕ) (A : Agree n W X) where
       (λ h. rw (A .1 HullStart (kid X false s) h)) refl)
   same-go (Exact x) true s l =
       rw (A .1 (Child true) s l, A .1 Start s l, A .1 End s l)
-      (link-same n {A = Bool} (λ i j. i ≡ j) (kid X true s) (λ a. inOrder X x true s && contains (hull W a) x) (λ a. inOrder X x true s && contains (hull X a) x) false false
+      (link-same n {A = Bool} (λ i j. i ≡ j) (kid X true s) (λ a. toward X x true s && contains (hull W a) x) (λ a. toward X x true s && contains (hull X a) x) false false
       (λ h. rw (A .1 HullStart (kid X true s) h, A .1 HullEnd (kid X true s) h)) refl)
   same-go (Exact x) false s l =
       rw (A .1 (Child false) s l, A .1 Start s l, A .1 End s l)
-      (link-same n {A = Bool} (λ i j. i ≡ j) (kid X false s) (λ a. inOrder X x false s && contains (hull W a) x) (λ a. inOrder X x false s && contains (hull X a) x) false false
+      (link-same n {A = Bool} (λ i j. i ≡ j) (kid X false s) (λ a. toward X x false s && contains (hull W a) x) (λ a. toward X x false s && contains (hull X a) x) false false
       (λ h. rw (A .1 HullStart (kid X false s) h, A .1 HullEnd (kid X false s) h)) refl)
 
   same-match : (q : Query) (s : ℕ) → s < n → rules W n q .match s ≡ rules X n q .match s
@@ -137,17 +137,17 @@ module _ (n : ℕ) (W X : List ℕ) (A : Agree n W X) where
 
   -- where a lookup begins, and the forms of its cursors
   same-find : (x : Interval) (f k : ℕ) → find W n x f k ≡ find X n x f k
-  unfolding find equals inOrder
+  unfolding find equals toward
   same-find x zero k = refl
   same-find x (suc f) k = go (same-find x f) (ltb k n) refl
     where
       go : ((k : ℕ) → find W n x f k ≡ find X n x f k) → (t : Bool) → ltb k n ≡ t
-          → cond t (cond (equals W x k) k (find W n x f (kid W (inOrder W x true k) k))) U
-          ≡ cond t (cond (equals X x k) k (find X n x f (kid X (inOrder X x true k) k))) U
+          → cond t (cond (equals W x k) k (find W n x f (kid W (toward W x true k) k))) U
+          ≡ cond t (cond (equals X x k) k (find X n x f (kid X (toward X x true k) k))) U
       go rec false i = refl
       go rec true i =
           let l : k < n = ltb-true k n i in
-          rw (A .1 Start k l, A .1 End k l, A .1 (Child (inOrder X x true k)) k l, rec (kid X (inOrder X x true k) k))
+          rw (A .1 Start k l, A .1 End k l, A .1 (Child (toward X x true k)) k l, rec (kid X (toward X x true k) k))
 
   same-formed : (k bits j s : ℕ) → s < n → formed W n k bits j s ≡ formed X n k bits j s
   unfolding formed onSide

@@ -19,7 +19,7 @@ use Rattle.stack.specs.States.{marked}
 use Rattle.stack.specs.declared.ActionStack.{ActionStack}
 use Rattle.stack.proofs.Levels.{four-two}
 use Rattle.iter.specs.Overlap.{shouldGo, shouldGoLeft, shouldGoRight, meets}
-use Rattle.iter.specs.Exact.{shouldGoExact, equals, inOrder, find}
+use Rattle.iter.specs.Exact.{shouldGoExact, equals, toward, find}
 use Rattle.iter.specs.Queries.{rules}
 use Rattle.iter.specs.Places.{Placed}
 use Rattle.iter.specs.declared.Cursor.{Cursor}
@@ -100,7 +100,7 @@ module _ (W : List ℕ) (n : ℕ) (x : Interval) where
     find-here (suc f) z t = rw (lt-ltb k n h, ← here, t)
 
     pub find-on : (f w r : ℕ) (b : Bool) → (f ≡ 0 → ⊥) → a ≡ false → b ≡ le x i → w ≡ kid W b k → r ≡ find W n x (f - 1) w → r ≡ find W n x f k
-    unfolding find inOrder
+    unfolding find toward
     find-on zero w r b z t q l m = absurd (z refl)
     find-on (suc f) w r b z t q l m =
         let o : b ≡ le x (interval W k) = q ∙ ap (λ (j : Interval). le x j) e in

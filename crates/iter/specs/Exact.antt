@@ -16,15 +16,15 @@ unfoldable pub equals : (words : List ℕ) (interval : Interval) (slot : ℕ) �
 equals W x s = eq (interval W s) x
 
 -- "query <= node", and at `false` "with >="
-unfoldable pub inOrder : (words : List ℕ) (interval : Interval) (side : Bool) (slot : ℕ) → Bool
-inOrder W x true s = le x (interval W s)
-inOrder W x false s = le (interval W s) x
+unfoldable pub toward : (words : List ℕ) (interval : Interval) (side : Bool) (slot : ℕ) → Bool
+toward W x true s = le x (interval W s)
+toward W x false s = le (interval W s) x
 
 -- `should_go_left_exact` at `true`, and `should_go_right_exact`: "goes left if query <= node and
 -- the left hull contains the query (hull start <= start, end <= hull end), right with >="
 unfoldable pub shouldGoExact : (words : List ℕ) (count : ℕ) (interval : Interval) (side : Bool)
     (slot : ℕ) → Bool
-shouldGoExact W n x b s = onLink n (kid W b s) (λ a. inOrder W x b s && contains (hull W a) x) false
+shouldGoExact W n x b s = onLink n (kid W b s) (λ a. toward W x b s && contains (hull W a) x) false
 
 abbrev pub exact : (words : List ℕ) (count : ℕ) (interval : Interval) → Rules
 exact W n x = record { go = shouldGoExact W n x; match = equals W x }
@@ -33,7 +33,7 @@ exact W n x = record { go = shouldGoExact W n x; match = equals W x }
 unfoldable pub find : (words : List ℕ) (count : ℕ) (interval : Interval) (fuel link : ℕ) → ℕ
 find W n x zero k = U
 find W n x (suc fuel) k =
-    let d : ℕ = find W n x fuel (kid W (inOrder W x true k) k) in
+    let d : ℕ = find W n x fuel (kid W (toward W x true k) k) in
     cond (ltb k n) (cond (equals W x k) k d) U
 
 -- from the root; a tree has at most 32 nodes on a way

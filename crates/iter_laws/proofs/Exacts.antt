@@ -19,7 +19,7 @@ use Rattle.tree.specs.Order.{NotAfter, RisingAt}
 use Rattle.tree.specs.Hulls.{Hulls}
 use Rattle.tree.proofs.Slots.{hit-same, times-slots}
 use Rattle.tree.proofs.Orders.{rising-left, rising-right, rising-at}
-use Rattle.iter.specs.Exact.{equals, inOrder, shouldGoExact, exact, find}
+use Rattle.iter.specs.Exact.{equals, toward, shouldGoExact, exact, find}
 use Rattle.iter_laws.specs.Place.{earlier, later}
 use Rattle.iter_laws.specs.Entered.{exactRule, goes}
 use Rattle.iter_laws.specs.Highest.{Highest}
@@ -70,14 +70,14 @@ module _ (W : List ℕ) (key : Interval) where
   Beside false c s = NotAfter (interval W s) (interval W c)
 
   -- an entry that equals the query stands to another as the query does
-  inOrder-by : (b : Bool) (c s : ℕ) → equals W key c ≡ true → Beside b c s → inOrder W key b s ≡ true
-  unfolding inOrder
-  inOrder-by true c s e h = rw (← (equal-is c e)) (le-of (interval W c) (interval W s) h)
-  inOrder-by false c s e h = rw (← (equal-is c e)) (le-of (interval W s) (interval W c) h)
+  toward-by : (b : Bool) (c s : ℕ) → equals W key c ≡ true → Beside b c s → toward W key b s ≡ true
+  unfolding toward
+  toward-by true c s e h = rw (← (equal-is c e)) (le-of (interval W c) (interval W s) h)
+  toward-by false c s e h = rw (← (equal-is c e)) (le-of (interval W s) (interval W c) h)
 
-  inOrder-both : (s : ℕ) → inOrder W key true s ≡ true → inOrder W key false s ≡ true → equals W key s ≡ true
-  unfolding inOrder equals
-  inOrder-both s e f = both-ways (interval W s) key (of-le (interval W s) key f) (of-le key (interval W s) e)
+  toward-both : (s : ℕ) → toward W key true s ≡ true → toward W key false s ≡ true → equals W key s ≡ true
+  unfolding toward equals
+  toward-both s e f = both-ways (interval W s) key (of-le (interval W s) key f) (of-le key (interval W s) e)
 
   contains-is : (l : Tree) (k : ℕ) (r : Tree) (c : ℕ) → Hulls W (node l k r) → 0 < occ c (node l k r) → equals W key c ≡ true → contains (hull W k) key ≡ true
   contains-is l k r c h o e =
@@ -115,7 +115,7 @@ module _ (W : List ℕ) (n : ℕ) (key : Interval) (small : n ≤ 65535) where
       go true q = absurd (f c o q)
 
   -- an equal entry below a child that is sorted right leads the walk there
-  leads : (b : Bool) (s : ℕ) (t : Tree) (c : ℕ) → Hulls W t → 0 < occ c t → equals W key c ≡ true → inOrder W key b s ≡ true
+  leads : (b : Bool) (s : ℕ) (t : Tree) (c : ℕ) → Hulls W t → 0 < occ c t → equals W key c ≡ true → toward W key b s ≡ true
       → goes (exactRule W key) b s t ≡ true
   leads b s leaf c u o e i = absurd (omega arith)
   leads b s (node x k y) c u o e i = rw i (contains-is W key x k y c u o e)
@@ -123,7 +123,7 @@ module _ (W : List ℕ) (n : ℕ) (key : Interval) (small : n ≤ 65535) where
   none : (b : Bool) (s : ℕ) (t : Tree) → Shape W n s (kid W b s) t → Hulls W t → ((c : ℕ) → 0 < occ c t → Beside W key b c s)
       → shouldGoExact W n key b s ≡ false → Empty (exact W n key) t
   none b s t h u i e =
-      none-equal t (λ c o q. false≢true (sym e ∙ rule b s t h ∙ leads b s t c u o q (inOrder-by W key b c s q (i c o))))
+      none-equal t (λ c o q. false≢true (sym e ∙ rule b s t h ∙ leads b s t c u o q (toward-by W key b c s q (i c o))))
 
   pub fair : (p k : ℕ) (t : Tree) → Shape W n p k t → Hulls W t → RisingAt W (slots t) → Fairs (exact W n key) t
   fair p k leaf h u o = tt
@@ -137,12 +137,12 @@ module _ (W : List ℕ) (n : ℕ) (key : Interval) (small : n ≤ 65535) where
 
   -- beside the way of the search there is no equal entry
   module _ (l : Tree) (s : ℕ) (r : Tree) (o : RisingAt W (slots (node l s r))) (no : equals W key s ≡ false) where
-    right-none : inOrder W key true s ≡ true → Empty (exact W n key) r
+    right-none : toward W key true s ≡ true → Empty (exact W n key) r
     right-none e =
-        none-equal r (λ c i q. false≢true (sym no ∙ inOrder-both W key s e (inOrder-by W key false c s q (order-right W l s r o c i))))
+        none-equal r (λ c i q. false≢true (sym no ∙ toward-both W key s e (toward-by W key false c s q (order-right W l s r o c i))))
 
-    left-none : inOrder W key true s ≡ false → Empty (exact W n key) l
-    left-none e = none-equal l (λ c i q. false≢true (sym e ∙ inOrder-by W key true c s q (order-left W l s r o c i)))
+    left-none : toward W key true s ≡ false → Empty (exact W n key) l
+    left-none e = none-equal l (λ c i q. false≢true (sym e ∙ toward-by W key true c s q (order-left W l s r o c i)))
 
   -- the search finds the highest equal node, or there is none
   module _ {X : Type 0} (T : Tree) where
@@ -156,7 +156,7 @@ module _ (W : List ℕ) (n : ℕ) (key : Interval) (small : n ≤ 65535) where
     find-is (node l s r) way zero p k h f e o u v = absurd (omega arith)
     find-is (node l s r) way (suc fuel) p k h f e o u v =
         rw (h .here, lt-ltb s n (h .live))
-        (go (equals W key s) (inOrder W key true s) refl refl
+        (go (equals W key s) (toward W key true s) refl refl
         (λ i j. find-is l (frame true s r ∷ way) fuel s (kid W true s) (h .left) (omega arith) e (down-left W l s r o) u
         (rw (i, filter-append, no-hits (exact W n key) r (right-none l s r o i j)) v))
         (λ i j. find-is r (frame false s l ∷ way) fuel s (kid W false s) (h .right) (omega arith) e (down-right W l s r o)
@@ -166,9 +166,9 @@ module _ (W : List ℕ) (n : ℕ) (key : Interval) (small : n ≤ 65535) where
         Ends : ℕ → Type 0
         Ends d = (d ≡ U → filter (equals W key) (slots T) ≡ [] → X) → (Highest W key T d → X) → X
 
-        go : (i j : Bool) → equals W key s ≡ i → inOrder W key true s ≡ j
-            → (equals W key s ≡ false → inOrder W key true s ≡ true → Ends (find W n key fuel (kid W true s)))
-            → (equals W key s ≡ false → inOrder W key true s ≡ false → Ends (find W n key fuel (kid W false s)))
+        go : (i j : Bool) → equals W key s ≡ i → toward W key true s ≡ j
+            → (equals W key s ≡ false → toward W key true s ≡ true → Ends (find W n key fuel (kid W true s)))
+            → (equals W key s ≡ false → toward W key true s ≡ false → Ends (find W n key fuel (kid W false s)))
             → Ends (cond i s (find W n key fuel (kid W j s)))
         go true j i q lft rgt x y = y (record { way = way; left = l; right = r; there = e; equal = i; none-before = u; none-after = v })
         go false true i q lft rgt x y = lft i q x y

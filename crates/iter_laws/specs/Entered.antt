@@ -13,7 +13,7 @@ use Rattle.words.specs.declared.interval.Interval.{Interval}
 use Rattle.words.specs.declared.interval.Span.{Span}
 use Rattle.tree.specs.Tree.{Tree, leaf, node, slots}
 use Rattle.tree.specs.Zipper.{Frame, frame}
-use Rattle.iter.specs.Exact.{inOrder}
+use Rattle.iter.specs.Exact.{toward}
 use Rattle.iter.specs.Lists.{when}
 
 -- "the left child of an entered node if the child's hull end >= lo (Included and Excluded alike) or
@@ -26,7 +26,7 @@ overlapRule W q false s a = admits (q .hi) (lo W a)
 -- "It goes left if query <= node and the left hull contains the query (hull start <= start, end <=
 -- hull end), right with >="
 abbrev pub exactRule : (words : List ℕ) (interval : Interval) (side : Bool) (slot child : ℕ) → Bool
-exactRule W x b s a = inOrder W x b s && contains (hull W a) x
+exactRule W x b s a = toward W x b s && contains (hull W a) x
 
 -- the subtree on the side b of an entered node s is gone into
 abbrev pub goes : (rule : (side : Bool) (slot child : ℕ) → Bool) (side : Bool) (slot : ℕ)

@@ -24,7 +24,7 @@ use Rattle.iter.specs.Walk.{deeper, mark, down, move, enters, hits, seek, step 
 use Rattle.iter.specs.Drains.{drain, filled}
 use Rattle.iter.specs.Forms.{onSide, formed, heldForm, formOf}
 use Rattle.iter.specs.Overlap.{meets, shouldGo}
-use Rattle.iter.specs.Exact.{equals, inOrder, shouldGoExact, find}
+use Rattle.iter.specs.Exact.{equals, toward, shouldGoExact, find}
 use Rattle.iter.specs.Queries.{rules}
 use Rattle.plain_rule.specs.Tour.{ascend, nextOf, firstOf, tour, entries, plain}
 use Rattle.iset.specs.Check.{countNumber, checkRule}
@@ -76,7 +76,7 @@ unfolding stateAt putState top marked pushed popped upTo deeper mark down move e
 walking = record {}
 
 looking : Unit {0}
-unfolding meets shouldGo equals inOrder shouldGoExact find rules openStartNumber openStepNumber openDrainNumber startNumber stepNumber drainNumber startCall stepCall drainCall
+unfolding meets shouldGo equals toward shouldGoExact find rules openStartNumber openStepNumber openDrainNumber startNumber stepNumber drainNumber startCall stepCall drainCall
 looking = record {}
 
 touring : Unit {0}

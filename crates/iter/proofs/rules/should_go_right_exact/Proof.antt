@@ -1,12 +1,12 @@
 use Rattle.iter.proofs.Laws.{child-there, child-gone, both-right}
 use Rattle.words.proofs.Laws.{slot-room}
-use Rattle.iter.specs.Exact.{shouldGoExact, inOrder}
+use Rattle.iter.specs.Exact.{shouldGoExact, toward}
 use borrow.Author.Needs.{needs}
 use Rattle.iter.proofs.rules.should_go_right_exact.Statement.{statement}
 use Rattle.iter.proofs.rules.should_go_right_exact.Tie as tie
 
 pub should-go-right-exact-spec : {M : Type 1} → statement M
-unfolding shouldGoExact inOrder
+unfolding shouldGoExact toward
 should-go-right-exact-spec =
     tie.close
     (tie.spec

@@ -1,0 +1,4 @@
+pub mod Bounds
+pub mod Writes
+pub mod Rounds
+pub mod Begins

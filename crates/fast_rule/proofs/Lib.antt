@@ -1,0 +1,4 @@
+pub mod Trees
+pub mod Narrow
+pub mod Runs
+pub mod Three
