@@ -12,7 +12,7 @@ use Rattle.iter.specs.Cursors.{fresh, upTo}
 use Rattle.iter.specs.Walk.{deeper, mark, down, move, enters, hits, seek, step}
 use Rattle.iter.specs.Drains.{drain}
 use Rattle.iter.specs.Overlap.{meets, shouldGo}
-use Rattle.iter.specs.Exact.{equals, sorted, shouldGoExact, find}
+use Rattle.iter.specs.Exact.{equals, toward, shouldGoExact, find}
 use Rattle.iter.specs.Queries.{rules}
 use Rattle.iter.specs.declared.rules.Query.{Query}
 use Rattle.iter.specs.declared.rules.Query.the-variants.{Overlap, Exact}
@@ -34,7 +34,7 @@ only a b = Exact (record { start = a; end = b })
 
 -- what the rules compute with: to unfold one of these names is to unfold all that its line names
 fast : Unit {0}
-unfolding onLink word meets shouldEnter fastRules startAt entering fastNodes fastHits equals sorted shouldGoExact find
+unfolding onLink word meets shouldEnter fastRules startAt entering fastNodes fastHits equals toward shouldGoExact find
 fast = record {}
 
 pruned : Unit {0}
