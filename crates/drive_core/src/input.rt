@@ -15,20 +15,24 @@ pub struct Place {
     pub end: usize,
 }
 
-// A byte of the input, and where the next one stands. At the end of the input the byte is a line's end.
+// A byte of the input, and where the next one stands. At the end of the input, and if a read fails, the byte is a
+// line's end, and the last one.
 struct Byte {
     byte: u8,
     at: usize,
     end: usize,
     last: bool,
+    failed: bool,
 }
 
-// A line that was read: what it asks for, where the next one begins, and whether it is the last.
+// A line that was read: what it asks for, where the next one begins, whether it is the last, and whether that is
+// because a read failed.
 pub struct Asked {
     pub call: Call,
     pub at: usize,
     pub end: usize,
     pub last: bool,
+    pub failed: bool,
 }
 
 // Room for the longest name; a longer one fits nothing.
@@ -38,15 +42,18 @@ fn name_space() -> [u8; 32]
     [0; 32]
 }
 
-// The first byte of what is read anew.
+// The first byte of what is read anew: of a file as much as the buffer holds, of a pipe or a terminal what is
+// there by now.
 fn refilled(input: &mut [u8]) -> Byte {
-    let n = io::read_full(STDIN_FILENO, input);
+    let got = libc::read(STDIN_FILENO, input);
+    let n = io::count(got, input);
     if 0 < n {
         Byte {
             byte: input[0],
             at: 1,
             end: n,
             last: false,
+            failed: false,
         }
     } else {
         Byte {
@@ -54,8 +61,22 @@ fn refilled(input: &mut [u8]) -> Byte {
             at: 0,
             end: 0,
             last: true,
+            failed: got < 0,
         }
     }
+}
+
+// Whether the rest of the buffer has a line's end.
+pub(crate) fn has_line(input: &[u8], p: Place) -> bool {
+    let end = least(p.end, input.len());
+    let mut i = p.at;
+    while i < end {
+        if input[i] == LINE_END {
+            return true;
+        }
+        i += 1;
+    }
+    false
 }
 
 fn next(input: &mut [u8], at: usize, end: usize) -> Byte {
@@ -65,9 +86,19 @@ fn next(input: &mut [u8], at: usize, end: usize) -> Byte {
             at: at + 1,
             end,
             last: false,
+            failed: false,
         }
     } else {
         refilled(input)
+    }
+}
+
+// What a line asks for. One that a failed read cut off asks for nothing.
+fn call_in(line: Line, failed: bool, name: &[u8], numbers: &[u64]) -> Call {
+    if failed {
+        Call::Nothing
+    } else {
+        call::call_of(line, name, numbers)
     }
 }
 
@@ -75,10 +106,11 @@ fn next(input: &mut [u8], at: usize, end: usize) -> Byte {
 fn complete(line: Line, b: Byte, name: &[u8], numbers: &mut [u64]) -> Asked {
     let whole = line.end(numbers);
     Asked {
-        call: call::call_of(whole, name, numbers),
+        call: call_in(whole, b.failed, name, numbers),
         at: b.at,
         end: b.end,
         last: b.last,
+        failed: b.failed,
     }
 }
 

@@ -16,6 +16,7 @@ mod state;
 use crate::call::Call;
 use crate::input::Place;
 use crate::state::State;
+use libc::STDOUT_FILENO;
 use lines::output;
 ghost use mathlib.Core.Path.{_≡_};
 ghost use lib.ListN.{length};
@@ -47,9 +48,39 @@ fn answered(s: State, call: Call, numbers: &[u64], words: &mut [u64], out: &mut 
     }
 }
 
-// Answers line after line to the end of the input, and returns how much of the output is still in
-// its buffer. The loop is bounded by 2^64 rounds, so that the proof can show that it ends.
-fn session(input: &mut [u8], numbers: &mut [u64], words: &mut [u64], out: &mut [u8]) -> usize {
+// What is left of the output in its buffer, and whether to stop.
+struct Sent {
+    to: usize,
+    stop: bool,
+}
+
+// Whether what is in the buffer of the output could be written. If not, standard output is closed, for
+// output::close to say so.
+fn is_sent(out: &[u8], to: usize) -> bool {
+    if to <= out.len() {
+        if io::write_all(STDOUT_FILENO, &out[..to]) {
+            return true;
+        }
+        libc::close(STDOUT_FILENO);
+    }
+    false
+}
+
+// The answers go out before more input is read, so that another program can wait for each of them.
+fn hand_over(input: &[u8], place: Place, last: bool, out: &[u8], to: usize) -> Sent {
+    if input::has_line(input, place) {
+        Sent { to, stop: false }
+    } else {
+        Sent {
+            to: 0,
+            stop: last | !is_sent(out, to),
+        }
+    }
+}
+
+// Answers line after line to the end of the input, or until a read or a write fails, and says whether a read
+// did. The loop is bounded by 2^64 rounds, so that the proof can show that it ends.
+fn session(input: &mut [u8], numbers: &mut [u64], words: &mut [u64], out: &mut [u8]) -> bool {
     let mut s = State::new();
     let mut place = Place { at: 0, end: 0 };
     let mut turns = u64::MAX;
@@ -58,23 +89,28 @@ fn session(input: &mut [u8], numbers: &mut [u64], words: &mut [u64], out: &mut [
         let line = input::read(input, place, numbers);
         let call = line.call;
         s = answered(s, call, numbers, words, out);
-        if line.last {
-            return s.to;
-        }
         place = Place {
             at: line.at,
             end: line.end,
         };
+        let sent = hand_over(input, place, line.last, out, s.to);
+        if sent.stop {
+            return line.failed;
+        }
+        s = s.with_output(sent.to);
     }
-    s.to
+    false
 }
 
-// Answers the lines of standard input on standard output.
-pub fn answer_lines() {
+// Answers the lines of standard input on standard output. What fails is said on standard error, after the name
+// of the program.
+pub fn answer_lines(name: &[u8]) {
     let mut input = io::large_buffer();
     let mut out = io::large_buffer();
     let mut numbers = numbers_space();
     let mut words = words_space();
-    let to = session(&mut input, &mut numbers, &mut words, &mut out);
-    output::flush(&out, to);
+    if session(&mut input, &mut numbers, &mut words, &mut out) {
+        output::complain(name, b"read");
+    }
+    output::close(name);
 }

@@ -61,6 +61,11 @@ impl State {
         }
     }
 
+    pub(crate) fn with_output(self, to: usize) -> State {
+        let left = self.left;
+        self.after(left, to)
+    }
+
     // After a line that left this and wrote up to here.
     pub(crate) fn after(self, left: Left, to: usize) -> State {
         State {

@@ -1,15 +1,47 @@
 // Text gathered in a lent buffer, which goes out when it is full. `at` is where the next byte goes; each call answers
 // the place after it.
+use libc::STDERR_FILENO;
 use libc::STDOUT_FILENO;
 ghost use mathlib.Core.Path.{_≡_};
 ghost use Rattle.lines.specs.Output.{page, front, outByte, outText, number, next};
+
+// Writes a text to standard output. If that fails, standard output is closed: then nothing is written after a
+// part that is missing, and `close` says that something is.
+pub fn send(text: &[u8]) {
+    if io::write_all(STDOUT_FILENO, text) {
+        return;
+    }
+    libc::close(STDOUT_FILENO);
+}
+
+pub fn send_number(x: u64) {
+    let mut text = [0u8; 20];
+    let k = io::decimal(x, &mut text);
+    send(&text[..k]);
+}
+
+// Writes a line to standard error: the program's name, and what it cannot do.
+pub fn complain(name: &[u8], what: &[u8]) {
+    io::write_all(STDERR_FILENO, name);
+    io::write_all(STDERR_FILENO, b": cannot ");
+    io::write_all(STDERR_FILENO, what);
+    io::write_all(STDERR_FILENO, b"\n");
+}
+
+// A program's last act: closes standard output, and complains if a write failed before or the system says now
+// that one did.
+pub fn close(name: &[u8]) {
+    if libc::close(STDOUT_FILENO) < 0 {
+        complain(name, b"write");
+    }
+}
 
 // Writes out what is gathered; the buffer is empty then.
 pub fn flush(out: &[u8], at: usize) -> usize
     ensures { λ r. ⌜ r ≡ 0 ⌝ }
 {
     if at <= out.len() {
-        io::write_all(STDOUT_FILENO, &out[..at]);
+        send(&out[..at]);
     }
     0
 }

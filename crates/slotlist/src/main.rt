@@ -5,20 +5,38 @@ use lines::output;
 use slotlist_core::State;
 use slotlist_core::memory;
 
+// What was read, and whether a read failed.
+struct Fed {
+    state: State,
+    failed: bool,
+}
+
 // Reads to the end of the input. The loop is bounded by 2^64 rounds, so that the proof can show
 // that it ends.
-fn feed_all(input: &mut [u8], nodes: &mut [u64], colours: &mut [u8], entries: &mut [u64]) -> State {
+fn feed_all(input: &mut [u8], nodes: &mut [u64], colours: &mut [u8], entries: &mut [u64]) -> Fed {
     let mut state = State::new();
     let mut turns = u64::MAX;
     while 0 < turns {
         turns -= 1;
-        let n = io::read_full(STDIN_FILENO, input);
+        let got = libc::read(STDIN_FILENO, input);
+        let n = io::count(got, input);
         if n == 0 {
-            return state;
+            return Fed {
+                state,
+                failed: got < 0,
+            };
         }
         state = state.feed(&input[..n], nodes, colours, entries);
     }
-    state
+    Fed {
+        state,
+        failed: false,
+    }
+}
+
+fn print(state: State, nodes: &mut [u64], colours: &mut [u8], entries: &mut [u64], out: &mut [u8]) {
+    let n = state.finish(nodes, colours, entries, out);
+    output::flush(out, n);
 }
 
 fn run(
@@ -28,9 +46,12 @@ fn run(
     entries: &mut [u64],
     out: &mut [u8],
 ) {
-    let state = feed_all(input, nodes, colours, entries);
-    let n = state.finish(nodes, colours, entries, out);
-    output::flush(out, n);
+    let fed = feed_all(input, nodes, colours, entries);
+    if fed.failed {
+        output::complain(b"slotlist", b"read");
+    } else {
+        print(fed.state, nodes, colours, entries, out);
+    }
 }
 
 fn main() {
@@ -40,4 +61,5 @@ fn main() {
     let mut entries = memory::entry_numbers();
     let mut out = memory::text_bytes();
     run(&mut input, &mut nodes, &mut colours, &mut entries, &mut out);
+    output::close(b"slotlist");
 }

@@ -2,7 +2,7 @@
 // the colon the refusal's number, the bit read and the length, and the three bytes afterwards.
 use bitvec::Answer;
 use bitvec::BitVec;
-use libc::STDOUT_FILENO;
+use lines::output;
 use words::numbers::wide;
 use words::refusal::Refusal;
 
@@ -11,13 +11,9 @@ fn pattern() -> [u8; 3] {
     [165, 90, 15]
 }
 
-fn text(s: &[u8]) {
-    io::write_all(STDOUT_FILENO, s);
-}
-
 fn number(x: u64) {
-    text(b" ");
-    io::print_decimal(STDOUT_FILENO, x);
+    output::send(b" ");
+    output::send_number(x);
 }
 
 fn bit(v: bool) {
@@ -29,17 +25,17 @@ fn bit(v: bool) {
 }
 
 fn finish(no: u64, v: bool, len: usize, bytes: &[u8]) {
-    text(b" :");
+    output::send(b" :");
     number(no);
     bit(v);
     number(len as u64);
-    text(b" @");
+    output::send(b" @");
     let mut j = 0;
     while j < bytes.len() {
         number(wide(bytes[j]));
         j += 1;
     }
-    text(b"\n");
+    output::send(b"\n");
 }
 
 fn show(a: Answer, given: usize, bytes: &[u8]) {
@@ -99,8 +95,8 @@ fn from_elem_of(bytes: &mut [u8], n: usize, len: usize, elem: bool) -> Answer {
 }
 
 fn call(n: usize, name: &[u8], len: usize) {
-    io::print_decimal(STDOUT_FILENO, n as u64);
-    text(name);
+    output::send_number(n as u64);
+    output::send(name);
     number(len as u64);
 }
 
@@ -204,4 +200,5 @@ fn main() {
     get(3, 18446744073709551615, 0);
     // 10 ones fill two bytes and leave the third
     from_elem(3, 10, true);
+    output::close(b"test_bits");
 }

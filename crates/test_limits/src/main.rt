@@ -3,7 +3,7 @@
 // chain of nodes that hang below one another by their right links: how many they are, and the refusal of the check.
 use iset::Map;
 use iset::build::Built;
-use libc::STDOUT_FILENO;
+use lines::output;
 use words::interval::Interval;
 use words::ix::U;
 use words::node::Entry;
@@ -34,8 +34,8 @@ fn bytes_space() -> [u8; 8192]
 }
 
 fn number(x: u64) {
-    io::print_decimal(STDOUT_FILENO, x);
-    io::write_all(STDOUT_FILENO, b" ");
+    output::send_number(x);
+    output::send(b" ");
 }
 
 // The k-th entry: entries overlap, and they begin at the same address by twos.
@@ -75,7 +75,7 @@ fn build_list(k: usize, list: &[u64], nodes: &mut [u64], colours: &mut [u8]) {
     let n = least(k, list.len());
     let a = Map::build(nodes, colours, &list[..n]);
     show_built(a, nodes, colours);
-    io::write_all(STDOUT_FILENO, b"\n");
+    output::send(b"\n");
 }
 
 fn build(n: usize, list: &mut [u64], nodes: &mut [u64], colours: &mut [u8]) {
@@ -125,7 +125,7 @@ fn chain(n: u64, nodes: &mut [u64], colours: &[u8]) {
         number(n);
         let m = Map { count: n, root: 0 };
         number(m.check(nodes, colours).number());
-        io::write_all(STDOUT_FILENO, b"\n");
+        output::send(b"\n");
     }
 }
 
@@ -164,4 +164,5 @@ fn main() {
     builds(&mut list, &mut nodes, &mut colours);
     let black = bytes_space();
     chains(&mut nodes, &black);
+    output::close(b"test_limits");
 }

@@ -133,12 +133,23 @@ fn all_cases(cases: &[u8]) {
     }
 }
 
+// Whether the input has ended. After a read that failed the next one fails too.
+fn is_read() -> bool {
+    let mut more = [0u8; 1];
+    libc::read(STDIN_FILENO, &mut more) == 0
+}
+
 fn read_cases(cases: &mut [u8]) {
     let n = io::read_full(STDIN_FILENO, cases);
-    all_cases(&cases[..n]);
+    if is_read() {
+        all_cases(&cases[..n]);
+    } else {
+        output::complain(b"test_slotcases", b"read all of its input");
+    }
 }
 
 fn main() {
     let mut cases = cases_space();
     read_cases(&mut cases);
+    output::close(b"test_slotcases");
 }
