@@ -8,7 +8,7 @@ use mathlib.Core.List.{List, [], _∷_}
 use Prim.Native.Nat.{ℕ, zero, suc, _*_}
 use lib.Dec.{eqb}
 use lib.ListN.{replicate, take, drop}
-use Rattle.words.specs.Nodes.{kid}
+use Rattle.words.specs.Nodes.{kid, wordsOf}
 use Rattle.words.specs.declared.interval.Bound.{Bound}
 use Rattle.words.specs.declared.interval.Interval.{Interval}
 use Rattle.words.specs.declared.interval.Span.{Span}
@@ -144,7 +144,7 @@ tell (remove t s) =
     removed (r .answer) (r .colours)
 tell (insert t e) = inserted (insertCall (t .map) (t .words) (t .colours) e .answer) (leftIn (t plus e))
 tell (rootRight t) = link (kid (t .words) false (t .map .root))
-tell (slot t k) = holds (take 8 (drop (8 * k) (t .words)))
+tell (slot t k) = holds (take (wordsOf 1) (drop (wordsOf k) (t .words)))
 tell (overlap t lo hi) =
     found
     (foundFrom t (Overlap (span lo hi)) (fresh (t .map .root)))
