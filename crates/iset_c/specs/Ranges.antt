@@ -1,6 +1,6 @@
 -- A query by numbers: a range by the kinds and the numbers of its two bounds, an interval by its
 -- start and its end.
-use mathlib.Core.Bool.{Bool, cond, _&&_}
+use mathlib.Core.Bool.{Bool, _&&_}
 use Prim.Native.Nat.{ℕ}
 use lib.Dec.{leb}
 use Rattle.words.specs.Intervals.{boundOf}

@@ -2,7 +2,7 @@
 use mathlib.Core.Path.{_≡_, refl, sym, ap, _∙_}
 use mathlib.Core.Logic.{_≢_}
 use mathlib.Core.Bool.{Bool, true, false}
-use Prim.Native.Nat.{ℕ, zero, suc, _+_, _-_, _*_, _/_, _%_, _^_, _<_}
+use Prim.Native.Nat.{ℕ, zero, suc, _+_, _*_, _/_, _%_, _^_, _<_}
 use native.Mathlib.Omega.{arith}
 use native.Mathlib.Nat.{pow-suc, mul-comm, mul-assoc, div-one, mod-one, mul-one, add-zero, div-div-eq-div-mul, mul-add-div-right, div-eq-of-lt, mod-eq-of-lt, mod-lt, mul-add-mod-self-right}
 use lib.Arith.{mod-mul}

@@ -1,5 +1,4 @@
 use Rattle.iset_c.specs.Ranges.{kinds}
-use borrow.Author.Needs.{needs}
 use Rattle.iset_c.proofs.range.are_kinds.Statement.{statement}
 use Rattle.iset_c.proofs.range.are_kinds.Tie as tie
 
