@@ -29,7 +29,13 @@ pub(crate) fn end(
     let nodes = answer::put_words(words, WORDS, 0, w, out, sign);
     let colours = answer::put_words(words, COLOURS, NEW_BYTES, b, out, nodes);
     s.after(
-        Left::Store(count, root, reach, w, b),
+        Left::Store {
+            count,
+            root,
+            reach,
+            words: w,
+            colours: b,
+        },
         output::put_byte(out, colours, b'\n'),
     )
 }

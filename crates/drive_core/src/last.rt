@@ -6,7 +6,13 @@ use crate::state::State;
 pub(crate) fn request(s: State, out: &mut [u8]) -> State {
     let left = s.left;
     match left {
-        Left::Store(_, _, reach, _, _) => answer::line(s, 0, &[reach], 1, out),
+        Left::Store {
+            count: _,
+            root: _,
+            reach,
+            words: _,
+            colours: _,
+        } => answer::line(s, 0, &[reach], 1, out),
         _ => answer::what(s, out),
     }
 }

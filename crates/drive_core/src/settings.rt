@@ -56,7 +56,13 @@ fn commit(s: State, words: &mut [u64]) -> State {
     let left = s.left;
     match left {
         Left::Nothing => s,
-        Left::Store(count, root, _, w, b) => {
+        Left::Store {
+            count,
+            root,
+            reach: _,
+            words: w,
+            colours: b,
+        } => {
             arena::copy_words(words, 0, WORDS, w);
             arena::copy_words(words, NEW_BYTES, COLOURS, b);
             s.with_store(count, root, w, b)

@@ -1,11 +1,18 @@
 // What stays from line to line.
 use words::ix::U;
 
-// What the last request left in the arena's copy, for `commit`: a map with its node words and colour bytes, or the
-// bytes of the bit calls. Store: count, root, how many hulls changed (for `last`), how many words, how many bytes. Bytes: how many.
+// What the last request left in the arena's copy, for `commit`: a map with its node words and colour
+// bytes, or the bytes of the bit calls, by their number. `reach` is how many hulls changed, for
+// `last`.
 pub enum Left {
     Nothing,
-    Store(u64, u64, u64, usize, usize),
+    Store {
+        count: u64,
+        root: u64,
+        reach: u64,
+        words: usize,
+        colours: usize,
+    },
     Bytes(usize),
 }
 
