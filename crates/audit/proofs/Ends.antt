@@ -1,4 +1,5 @@
--- The first and the last interval of a tree; a node's entries rise exactly if those of its subtrees do, and the node's own lies between.
+-- The first and the last interval of a tree; a node's entries rise exactly if those of its subtrees
+-- do, and the node's own lies between.
 use mathlib.Core.Path.{_≡_, refl, sym, _∙_}
 use mathlib.Core.List.{List, [], _∷_, _++_, map, map-append}
 use Prim.Native.Nat.{ℕ}

@@ -12,7 +12,8 @@ use Rattle.tree.specs.Passes.{Passes}
 use Rattle.audit.specs.Survey.{survey, wholeOf}
 use Rattle.audit.proofs.Decides.{audit-sound}
 
--- "[10,20) 1, [10,30) 2, [25,40) 3, [40,50) 4, [45,60) 5: root 2; 2 has 1 and 4; 1 has left 0; 4 has left 3; colours 9"
+-- "[10,20) 1, [10,30) 2, [25,40) 3, [40,50) 4, [45,60) 5: root 2; 2 has 1 and 4; 1 has left 0; 4
+-- has left 3; colours 9"
 unfoldable pub store-A : List ℕ
 store-A =
     10 ∷ 20 ∷ 1 ∷ 10 ∷ 20 ∷ U ∷ U ∷ 1 ∷
@@ -25,8 +26,9 @@ store-A =
 unfoldable pub store-B : List ℕ
 store-B = 5 ∷ 9 ∷ 1 ∷ 5 ∷ 9 ∷ U ∷ U ∷ 1 ∷ 5 ∷ 9 ∷ 2 ∷ 5 ∷ 9 ∷ 0 ∷ 2 ∷ U ∷ 5 ∷ 9 ∷ 3 ∷ 5 ∷ 9 ∷ U ∷ U ∷ 1 ∷ []
 
--- Each damage from `red-root` on is against one clause alone. In `twins` both links of the root lead to slot 0, which is
--- then counted twice: without the test of the links such a store would pass, with slot 2 unreached.
+-- Each damage from `red-root` on is against one clause alone. In `twins` both links of the root
+-- lead to slot 0, which is then counted twice: without the test of the links such a store would
+-- pass, with slot 2 unreached.
 pub record Told : Type 0 where
   pub store-a : wholeOf store-A (9 ∷ []) 5 2 ≡ true
   pub store-b : wholeOf store-B (0 ∷ []) 3 1 ≡ true

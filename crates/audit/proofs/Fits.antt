@@ -1,4 +1,5 @@
--- What is found of a tree that is well, and that a node between two such trees is found right exactly if its own tree is well.
+-- What is found of a tree that is well, and that a node between two such trees is found right
+-- exactly if its own tree is well.
 use mathlib.Core.Path.{_≡_, sym, _∙_}
 use mathlib.Core.Bool.{true, false}
 use mathlib.Core.List.{List, _∷_}

@@ -17,7 +17,8 @@ use Rattle.audit.specs.Survey.{enters}
 use Rattle.audit.specs.Calls.{calls}
 use Rattle.audit.proofs.Tests.{entering}
 
--- The slots entered, as a tree. Whatever the words are, each is live, knows its parent, and its links differ.
+-- The slots entered, as a tree. Whatever the words are, each is live, knows its parent, and its
+-- links differ.
 record Entered (W : List ℕ) (n p k s : ℕ) (L R : Type 0) : Type 0 where
   here : k ≡ s
   real : s ≢ U
@@ -76,7 +77,8 @@ module _ (W : List ℕ) (n : ℕ) where
       (λ e. x (e ∙ sym (h .here)) (rw e (h .up)))
       (λ i. climb s (kid W false s) r a (h .right) i (λ e u. y (rw u (omega (arith, hit-same s)))) (λ j. y (omega arith)))
 
-  -- no slot is in both subtrees of the slot a: its parent would be too, and so on up to the two links of a
+  -- no slot is in both subtrees of the slot a: its parent would be too, and so on up to the two
+  -- links of a
   apart : (a : ℕ) (l r : Tree) → Near W n a (kid W true a) l → Near W n a (kid W false a) r
       → (kid W true a ≡ kid W false a → kid W true a ≡ U) → occ a l ≡ 0 → occ a r ≡ 0
       → (d s : ℕ) → Rank W n d s → 0 < occ s l → 0 < occ s r → ⊥

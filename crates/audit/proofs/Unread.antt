@@ -1,4 +1,5 @@
--- "Slots from count up are not read": on two stores that agree below the count the pass finds the same. Nothing is asked of the words.
+-- "Slots from count up are not read": on two stores that agree below the count the pass finds the
+-- same. Nothing is asked of the words.
 use mathlib.Core.Path.{_≡_, refl}
 use mathlib.Core.Bool.{Bool, true, false, cond, _&&_}
 use mathlib.Core.List.{List}

@@ -1,10 +1,12 @@
 // The store check: one pass over the links, on any words.
 //
-// It is linear in the count, on every input. Before the pass goes on below a slot, the slot's parent link must name the
-// slot that the pass came from, and its two links must differ unless both are U. So no slot is entered twice, and at most
-// two links are followed for each slot entered. Without the first test a damaged store could lead two slots to one, without
-// the second one slot twice to another, and each level would double the calls, up to 2^32 of them: the remaining height,
-// which falls from 33, would do no more than end it.
+// Its time is linear in the count, on every input. Before the pass continues below a slot, it makes
+// two tests. The slot's parent link must name the slot that the pass came from. The slot's two
+// child links must differ, unless both are U, the undefined link. So no slot is entered twice, and
+// at most two links are followed for each slot entered. Without the first test, two slots of a
+// damaged store could lead to the same slot. Without the second, one slot could lead to another
+// twice. Each level would then double the calls, up to 2^32 of them. The remaining height, which
+// falls from 33, would only make the pass end.
 use bitvec::colours::is_red;
 use words::interval::Interval;
 use words::ix::U;
@@ -33,9 +35,9 @@ pub struct Node {
 pub struct Found {
     // every clause of the check holds in the subtree
     pub ok: bool,
-    // how many nodes it has
+    // its number of nodes
     pub size: u64,
-    // how many black nodes its leftmost way down passes
+    // the number of black nodes on its leftmost path
     pub blacks: u64,
     // its root is red
     pub red: bool,
@@ -43,7 +45,7 @@ pub struct Found {
     pub first: Interval,
     // its last interval in tree order
     pub last: Interval,
-    // the hull of its root
+    // the hull of its root: the least interval that contains the intervals of the subtree
     pub hull: Interval,
 }
 
@@ -61,8 +63,10 @@ fn node_at(nodes: &[u64], colours: &[u8], slot: u64) -> Node
     }
 }
 
-// A subtree without nodes. The interval above it stands for its first, its last and its hull: it is in order with itself
-// and extends no hull, so that the node above needs no case for a missing child.
+// Returns what is found of a subtree without nodes. The interval of the node above is its first
+// interval, its last one and its hull. That interval is in order with itself and extends no hull,
+// so the node above needs no case for a missing child. A subtree that fails has the same record,
+// with `ok` false.
 fn no_nodes(ok: bool, above: Interval) -> Found
     ensures { λ r. ⌜ r ≡ noNodes ok above ⌝ }
 {
@@ -77,21 +81,23 @@ fn no_nodes(ok: bool, above: Interval) -> Found
     }
 }
 
-// A slot knows its parent, and its links differ unless they are undefined.
+// Whether a slot names its parent, and its two child links differ unless both are U.
 fn is_tied(x: Node, parent: u64) -> bool
     ensures { λ r. ⌜ r ≡ tied x parent ⌝ }
 {
     (x.parent == parent) & ((x.left != x.right) | (x.left == U))
 }
 
-// An interval is proper, and in order with the last one before it and the first one after it.
+// Whether an interval is proper, and in order with the last one before it and the first one after
+// it.
 fn is_ordered(own: Interval, last: Interval, first: Interval) -> bool
     ensures { λ r. ⌜ r ≡ ordered own last first ⌝ }
 {
     own.is_proper() & last.le(own) & own.le(first)
 }
 
-// A node's hull is that of its interval and its children's hulls.
+// Whether a node's hull is the least interval that contains its own interval and its children's
+// hulls.
 fn is_hulled(x: Node, left: Interval, right: Interval) -> bool
     ensures { λ r. ⌜ r ≡ hulled x left right ⌝ }
 {
@@ -100,14 +106,14 @@ fn is_hulled(x: Node, left: Interval, right: Interval) -> bool
     hull.eq(own.extend(left).extend(right))
 }
 
-// A red node has no red child, and both ways down pass equally many blacks.
+// Whether both subtrees have the same number of blacks, and the node has no red child if it is red.
 fn is_coloured(x: Node, l: Found, r: Found) -> bool
     ensures { λ a. ⌜ a ≡ coloured x l r ⌝ }
 {
     (l.blacks == r.blacks) & (!x.red | !(l.red | r.red))
 }
 
-// Whether a node is right, with what was found of its subtrees.
+// Whether a node passes, given what was found of its subtrees.
 fn is_fit(x: Node, l: Found, r: Found) -> bool
     ensures { λ a. ⌜ a ≡ fits x l r ⌝ }
 {
@@ -116,14 +122,14 @@ fn is_fit(x: Node, l: Found, r: Found) -> bool
     l.ok & r.ok & (order & hull & is_coloured(x, l, r))
 }
 
-// What a node adds to the blacks above it.
+// Returns what a node adds to the number of blacks: 0 if it is red, else 1.
 fn shade(red: bool) -> u64
     ensures { λ r. ⌜ (r ≡ blackOf red) × (r ≤ 1) ⌝ }
 {
     if red { 0 } else { 1 }
 }
 
-// What is found of a node, with what was found of its subtrees.
+// Returns what is found of a node, given what was found of its subtrees.
 fn combine(x: Node, l: Found, r: Found) -> Found
     requires { ⌜ (l .size + r .size + 1 < 18446744073709551616) × (l .blacks + 1 < 18446744073709551616) ⌝ }
     ensures { λ a. ⌜ a ≡ combined x l r ⌝ }
@@ -146,8 +152,8 @@ fn combine(x: Node, l: Found, r: Found) -> Found
     }
 }
 
-// Whether a link below the slot `parent` leads to a slot that knows its parent and has no children, and the height allows for the ways
-// past it.
+// Whether a link below the slot `parent` leads to a slot that names `parent` and has no children.
+// The height must also allow for the two undefined links below that slot.
 fn is_leaf(nodes: &[u64], count: u64, link: u64, parent: u64, height: u64) -> bool
     requires { ⌜ Holds (now nodes) count ⌝ }
     ensures { λ r. ⌜ r ≡ childless (now (nodes .entry)) count height parent link ⌝ }
@@ -162,7 +168,7 @@ fn is_leaf(nodes: &[u64], count: u64, link: u64, parent: u64, height: u64) -> bo
     }
 }
 
-// What is found of a node without children.
+// Returns what is found of a node without children.
 fn lone(x: Node) -> Found
     ensures { λ r. ⌜ r ≡ combined x (noNodes true (x .interval)) (noNodes true (x .interval)) ⌝ }
 {
@@ -171,8 +177,9 @@ fn lone(x: Node) -> Found
     combine(x, none, none)
 }
 
-// The subtree at a link below the slot `parent`, whose interval is `above`, with fewer than `height` nodes on its ways down. Half of all
-// nodes have no children, and are judged at once: three calls less for each.
+// Returns what is found of the subtree at a link below the slot `parent`, whose interval is
+// `above`. The subtree fails if a path down has `height` nodes or more. Half of all nodes have no
+// children and are judged at once, which saves three calls for each.
 fn below(
     nodes: &[u64],
     colours: &[u8],
@@ -192,7 +199,7 @@ fn below(
     }
 }
 
-// The same by its cases.
+// Returns the same as `below`, case by case.
 fn survey_at(
     nodes: &[u64],
     colours: &[u8],
@@ -225,8 +232,8 @@ fn survey_at(
     }
 }
 
-// Whether a store passes. No tree that passes is higher than 32. The root has no slot above it, so any interval stands
-// for that one's.
+// Whether a store passes. No tree that passes is higher than 32. The root has no slot above it, so
+// any interval serves as the one above.
 pub fn audit(nodes: &[u64], colours: &[u8], count: u64, root: u64) -> bool
     requires { ⌜ Holds (now nodes) count × HoldsBits (now colours) count ⌝ }
     ensures { λ r. ⌜ r ≡ wholeOf (now (nodes .entry)) (now (colours .entry)) count root ⌝ }

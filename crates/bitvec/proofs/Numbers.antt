@@ -1,4 +1,5 @@
--- One bit of a number is written: that bit is the one written, and every other is as it was. Over every number and every place.
+-- One bit of a number is written: that bit is the one written, and every other is as it was. Over
+-- every number and every place.
 use mathlib.Core.Path.{_≡_, refl, ap}
 use mathlib.Core.Logic.{_≢_}
 use mathlib.Core.Bool.{Bool, true, false, cond}

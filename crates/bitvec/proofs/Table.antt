@@ -1,4 +1,5 @@
--- The calls of the bit vector in the words of document 01: what each answers and leaves, and when it is refused.
+-- The calls of the bit vector in the words of document 01: what each answers and leaves, and when
+-- it is refused.
 use mathlib.Core.Path.{_≡_, refl, ap, _∙_}
 use mathlib.Core.Bool.{Bool, true, false, cond, _&&_}
 use mathlib.Core.List.{List}
@@ -34,7 +35,8 @@ module _ (s : List ℕ) (len : ℕ) (holds : HoldsBits s len) where
   unfolding getRule bitAt
   get-says i h = rw (allowed-is i h, bit-weight)
 
-  -- "`set` and `push` write that one bit and `pop` none"; the bytes are lent to `pop` and `get` by `&`
+  -- "`set` and `push` write that one bit and `pop` none"; the bytes are lent to `pop` and `get` by
+  -- `&`
   pub set-says : (i : ℕ) (v : Bool) → i < len → (setRule s len i ≡ done false len) × Writes s i v (setBytes s len i v)
   unfolding setRule setBytes
   set-says i v h = (rw (allowed-is i h), rw (allowed-is i h) (writes s i v (omega arith)))

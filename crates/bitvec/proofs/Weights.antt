@@ -1,4 +1,5 @@
--- The weights of bits: the table's rule, proved once for all of it; what is in a number at the weight of a bit, and the number with that bit written.
+-- The weights of bits: the table's rule, proved once for all of it; what is in a number at the
+-- weight of a bit, and the number with that bit written.
 use mathlib.Core.Path.{_≡_, refl, sym, ap, _∙_}
 use mathlib.Core.Bool.{Bool, true, false, not}
 use mathlib.Core.List.{List, [], _∷_}
@@ -32,7 +33,8 @@ pub weight-at : (t : List ℕ) (k : ℕ) → Weighs t → k < length t → getD 
 unfolding Weighs
 weight-at t k e h = ap (λ (l : List ℕ). getD l k 0) e ∙ powers-at 0 (length t) k h ∙ ap (λ (m : ℕ). 2 ^ m) (zero-add k)
 
--- a number's digit at a weight, taken away, and with another one in its place: to the base c, so that it may be a bit or two of them
+-- a number's digit at a weight, taken away, and with another one in its place: to the base c, so
+-- that it may be a bit or two of them
 module _ (x w c : ℕ) where
   digit-in : x / w / c * c * w + (x / w % c) * w + x % w ≡ x
   digit-in = rw (← add-mul, div-add-mod', div-add-mod')

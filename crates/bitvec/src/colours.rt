@@ -1,4 +1,4 @@
-// The colours of the nodes: a bit for each slot, 1 is red.
+// The colours of the nodes: one bit for each slot. A bit is 1 if its slot is red.
 use words::ix::Link;
 ghost use mathlib.Core.Path.{_≡_};
 ghost use mathlib.Core.Bool.{true, false, not};
@@ -19,7 +19,7 @@ pub fn is_black(colours: &[u8], ix: u64) -> bool
     !is_red(colours, ix)
 }
 
-// A link leads to a black slot or to none.
+// Whether a link leads to a black slot or to no slot.
 pub fn is_black_or_nil(colours: &[u8], count: u64, word: u64) -> bool
     requires { ⌜ HoldsBits (now colours) count ⌝ }
     ensures { λ r. ⌜ r ≡ not (redAt count (now (colours .entry)) word) ⌝ }
@@ -44,7 +44,7 @@ pub fn set_black(colours: &mut [u8], ix: u64)
     crate::put_bit(colours, ix as usize, false);
 }
 
-// Slot `to` gets the colour of slot `from`.
+// Gives slot `to` the colour of slot `from`.
 pub fn copy_colour(colours: &mut [u8], from: u64, to: u64)
     requires { ⌜ HasBit (now colours) from × HasBit (now colours) to ⌝ }
     ensures { λ _. ⌜ now (colours .exit) ≡ paint (now (colours .entry)) to (red (now (colours .entry)) from) ⌝ }
@@ -53,7 +53,7 @@ pub fn copy_colour(colours: &mut [u8], from: u64, to: u64)
     crate::put_bit(colours, to as usize, v);
 }
 
-// A link that leads to a slot has it made black.
+// Makes the slot that a link leads to black, if it leads to one.
 pub fn set_black_at(colours: &mut [u8], count: u64, word: u64)
     requires { ⌜ HoldsBits (now colours) count ⌝ }
     ensures { λ _. ⌜ now (colours .exit) ≡ paintAt count (now (colours .entry)) word false ⌝ }

@@ -1,5 +1,6 @@
-// A vector of bits in lent bytes: a port of src/bitvec.rs. Bit i is bit i mod 8 of byte i div 8. The vector is its
-// length, which goes in by value; a call that changes it hands the new one back.
+// A vector of bits in lent bytes: a port of src/bitvec.rs. Bit i is bit i mod 8 of byte i div 8.
+// The vector is its length, which is passed by value. A call that changes the length returns the
+// new vector.
 pub mod colours;
 
 use words::refusal::Refusal;
@@ -16,7 +17,8 @@ pub struct BitVec {
     pub len: usize,
 }
 
-// What a call answers: the bit that it read, false where it reads none, and the vector after it; or the refusal.
+// What a call returns: the bit that it read and the vector after the call, or the refusal. The bit
+// is false if the call reads no bit.
 pub enum Answer {
     Done(bool, BitVec),
     Refused(Refusal),
@@ -25,7 +27,7 @@ pub enum Answer {
 // The weights of the bits of a byte: bit j weighs 2 to the j.
 const WEIGHTS: [u8; 8] = [1, 2, 4, 8, 16, 32, 64, 128];
 
-// The weight of bit j.
+// Returns the weight of bit j.
 pub fn weight(j: usize) -> u8
     requires { ⌜ j < 8 ⌝ }
     ensures { λ r. ⌜ r ≡ 2 ^ j ⌝ }
@@ -33,7 +35,7 @@ pub fn weight(j: usize) -> u8
     WEIGHTS[j]
 }
 
-// Bit j of a byte: whether its weight is in the byte.
+// Returns bit j of a byte. `b & weight(j)` is the weight if the bit is set, and 0 if it is not.
 fn bit_of(b: u8, j: usize) -> bool
     requires { ⌜ j < 8 ⌝ }
     ensures { λ r. ⌜ r ≡ bit b j ⌝ }
@@ -42,7 +44,8 @@ fn bit_of(b: u8, j: usize) -> bool
     found != 0
 }
 
-// The byte b with v in bit j: the weight is taken away where it is in the byte, and added where the bit is to be set.
+// Returns the byte b with v in bit j. The bit is cleared first: its weight is subtracted if it is
+// set. Then the weight is added if v is true.
 fn with_bit(b: u8, j: usize, v: bool) -> u8
     requires { ⌜ j < 8 ⌝ }
     ensures { λ r. ⌜ r ≡ put b j v ⌝ }
@@ -52,7 +55,7 @@ fn with_bit(b: u8, j: usize, v: bool) -> u8
     if v { rest + w } else { rest }
 }
 
-// Bit i, which the bytes have.
+// Returns bit i. The bytes must have it.
 pub fn bit_at(bytes: &[u8], i: usize) -> bool
     requires { ⌜ i / 8 < length (now bytes) ⌝ }
     ensures { λ r. ⌜ r ≡ bitAt (now (bytes .entry)) i ⌝ }
@@ -61,7 +64,7 @@ pub fn bit_at(bytes: &[u8], i: usize) -> bool
     bit_of(bytes[at], i % 8)
 }
 
-// Writes bit i, which the bytes have, and no other.
+// Writes bit i and no other. The bytes must have it.
 pub fn put_bit(bytes: &mut [u8], i: usize, v: bool)
     requires { ⌜ i / 8 < length (now bytes) ⌝ }
     ensures { λ _. ⌜ now (bytes .exit) ≡ setBit (now (bytes .entry)) i v ⌝ }
@@ -70,7 +73,7 @@ pub fn put_bit(bytes: &mut [u8], i: usize, v: bool)
     bytes[at] = with_bit(bytes[at], i % 8, v);
 }
 
-// How many bytes `bit_len` bits take.
+// Returns how many bytes `bit_len` bits take.
 fn get_byte_len(bit_len: usize) -> usize
     ensures { λ r. ⌜ r ≡ bytesFor «bit_len» ⌝ }
 {
@@ -81,28 +84,29 @@ fn get_byte_len(bit_len: usize) -> usize
     }
 }
 
-// Whether n bytes hold len bits; len may be any number.
+// Whether n bytes hold len bits. `len` may be any number.
 fn holds(n: usize, len: usize) -> bool
     ensures { λ r. ⌜ r ≡ leb len (bitsOf n) ⌝ }
 {
     get_byte_len(len) <= n
 }
 
-// Whether bit i of len bits in n bytes can be asked for.
+// Whether bit i may be asked for: the n bytes hold the len bits, and i is below len.
 fn has_bit(n: usize, len: usize, i: usize) -> bool
     ensures { λ r. ⌜ r ≡ allowed n len i ⌝ }
 {
     holds(n, len) & (i < len)
 }
 
-// Whether n bytes have a bit after len bits. A length of 2^64 - 1 has no next one, in however many bytes.
+// Whether n bytes have room for a bit after len bits. The length 2^64 - 1 has no next one, whatever
+// n is.
 fn has_room(n: usize, len: usize) -> bool
     ensures { λ r. ⌜ r ≡ roomy n len ⌝ }
 {
     (len / 8 < n) & (len < 18446744073709551615)
 }
 
-// The byte whose eight bits are v.
+// Returns the byte whose eight bits are v.
 fn byte_of(v: bool) -> u8
     ensures { λ r. ⌜ r ≡ cond v 255 0 ⌝ }
 {
@@ -121,7 +125,7 @@ fn fill_bytes(bytes: &mut [u8], n: usize, x: u8)
     }
 }
 
-// The last of len bits takes the place of bit i, unless it is that bit.
+// Copies the last of len bits to bit i, unless bit i is the last one.
 fn close_gap(bytes: &mut [u8], len: usize, i: usize)
     requires { ⌜ HoldsBits (now bytes) len × (i < len) ⌝ }
     ensures { λ _. ⌜ now (bytes .exit) ≡ gapClosed (now (bytes .entry)) len i ⌝ }
@@ -133,7 +137,8 @@ fn close_gap(bytes: &mut [u8], len: usize, i: usize)
 }
 
 impl BitVec {
-    // A vector of len bits, each of them elem. Only the bytes that they take are written.
+    // Makes a vector of len bits, each of which is `elem`. Writes only the bytes that these bits
+    // take.
     pub fn from_elem(bytes: &mut [u8], len: usize, elem: bool) -> Answer
         ensures { λ r. ⌜ (numbers 0 r ≡ fromElemRule (now (bytes .entry)) len) × (now (bytes .exit) ≡ fromElemBytes (now (bytes .entry)) len elem) ⌝ }
     {
@@ -166,7 +171,7 @@ impl BitVec {
         }
     }
 
-    // The new bit is written; the others of its byte stay.
+    // Writes the new bit. The other bits of its byte stay unchanged.
     pub fn push(self, bytes: &mut [u8], value: bool) -> Answer
         ensures { λ r. ⌜ (numbers (self .len) r ≡ pushRule (now (bytes .entry)) (self .len)) × (now (bytes .exit) ≡ pushBytes (now (bytes .entry)) (self .len) value) ⌝ }
     {
@@ -179,7 +184,7 @@ impl BitVec {
         }
     }
 
-    // The last bit; no byte is written.
+    // Returns the last bit. Writes no byte.
     pub fn pop(self, bytes: &[u8]) -> Answer
         ensures { λ r. ⌜ numbers (self .len) r ≡ popRule (now (bytes .entry)) (self .len) ⌝ }
     {
@@ -191,7 +196,7 @@ impl BitVec {
         }
     }
 
-    // Bit i; the last bit takes its place.
+    // Returns bit i. The last bit takes its place.
     pub fn swap_remove(self, bytes: &mut [u8], i: usize) -> Answer
         ensures { λ r. ⌜ (numbers (self .len) r ≡ swapRemoveRule (now (bytes .entry)) (self .len) i) × (now (bytes .exit) ≡ swapRemoveBytes (now (bytes .entry)) (self .len) i) ⌝ }
     {

@@ -89,8 +89,9 @@ lowest (suc g) = rw (ne-eqb (suc (suc g)) 1 (omega arith), ne-eqb (suc g) 0 (ome
 abbrev half : ℕ → ℕ → ℕ
 half a b = (b - a) / 2
 
--- A span with a root has a level; its halves are spans of one level less. The bytes D, and then E, are those of C with some bits
--- written; the words of the left half come back as x, those of the right one as y.
+-- A span with a root has a level; its halves are spans of one level less. The bytes D, and then E,
+-- are those of C with some bits written; the words of the left half come back as x, those of the
+-- right one as y.
 module _ (S w C : List ℕ) (a b f : ℕ) (span : Lent S w C a b f) (some : a < b) where
   -- what holds for each number of levels but none
   deep : (P : ℕ → Type 0) → ((g : ℕ) → b - a < 2 ^ suc g → P (suc g)) → P f

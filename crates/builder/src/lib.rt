@@ -1,5 +1,6 @@
-// Builds the store of a map from a sorted list, by recursion over its spans. A span of slots is built in the part of the
-// node words that is its own; the colours, bits among others, are lent whole.
+// Builds the store of a map from a sorted list, by recursion over its spans. A span is the slots
+// [start, end). It is built in its own part of the node words. The colours are lent whole, because
+// a colour is a bit among others of its byte.
 pub mod list;
 
 use crate::list::entry_at;
@@ -16,7 +17,7 @@ ghost use Rattle.words.specs.Nodes.{putNode, Holds, HoldsBits, wordsOf};
 ghost use Rattle.builder.specs.Input.{entryOf};
 ghost use Rattle.builder.specs.Build.{center, rootOf, spanHull, spanWords, painted, log, levels, buildWords, buildColours, buildRoot, Lent};
 
-// The greatest D such that 2^D <= m, for m below 2^(g + 1).
+// Returns the greatest D such that 2^D <= m, for m from 1 up and below 2^(g + 1).
 fn log_of(g: u64, m: usize) -> u64
     requires { ⌜ g < 65 ⌝ }
     ensures { λ r. ⌜ (r ≡ log g m) × (r ≤ g) ⌝ }
@@ -30,7 +31,8 @@ fn log_of(g: u64, m: usize) -> u64
     log_of(g - 1, m / 2) + 1
 }
 
-// The levels of a map of n entries: those that it fills, and a last one, which is red.
+// Returns the number of levels of a map of n entries: those that it fills, and a last one, which is
+// red.
 fn max_depth(n: usize) -> u64
     requires { ⌜ n ≤ 65535 ⌝ }
     ensures { λ r. ⌜ (r ≡ levels n) × (r < 18) ⌝ }
@@ -38,7 +40,8 @@ fn max_depth(n: usize) -> u64
     log_of(16, n + 1) + 1
 }
 
-// The link to the root of the slots [start, end).
+// Returns the link to the root of the slots [start, end), or U, the undefined link, if there are
+// none.
 fn root_of(start: usize, end: usize) -> u64
     ensures { λ r. ⌜ r ≡ rootOf start end ⌝ }
 {
@@ -49,7 +52,7 @@ fn root_of(start: usize, end: usize) -> u64
     }
 }
 
-// Writes the root of the slots [start, end), in their part of the node words.
+// Writes the root of the slots [start, end) in their part of the node words.
 fn put_root(list: &[u64], nodes: &mut [u64], start: usize, end: usize, parent: u64, hull: Interval)
     requires { ⌜ (end * 3 ≤ length (now list)) × (length (now nodes) ≡ wordsOf (end - start)) × (start < end) ⌝ }
     ensures { λ _. ⌜ now (nodes .exit)
@@ -64,7 +67,7 @@ fn put_root(list: &[u64], nodes: &mut [u64], start: usize, end: usize, parent: u
     put_node(nodes, half as u64, entry, hull, left, right, parent);
 }
 
-// Writes the only slot of a span, whose words are `nodes`; the answer is `so_far`, extended by its
+// Writes the only slot of a span, whose words are `nodes`. Returns `so_far`, extended by the slot's
 // interval.
 fn put_leaf(
     list: &[u64],
@@ -86,9 +89,9 @@ fn put_leaf(
     so_far.extend(own)
 }
 
-// Initializes the slots [start, end), whose words are `nodes`, below `parent`. rev_depth: inverse depth (the top call has a
-// high one, the lowest level has 1, and is red). The answer is `so_far`, extended by the
-// intervals of these slots.
+// Initializes the slots [start, end), whose words are `nodes`, below `parent`. `rev_depth` is the
+// inverse depth: it is highest in the top call, and 1 at the lowest level, which is red. Returns
+// `so_far`, extended by the intervals of these slots.
 fn init_from_sorted(
     list: &[u64],
     nodes: &mut [u64],
@@ -138,7 +141,8 @@ fn init_from_sorted(
     so_far.extend(hull)
 }
 
-// Builds the store of the first n triples of the list; the answer is its root. Slots and colour bits from n up stay.
+// Builds the store of the first n triples of the list. Returns its root. Slots and colour bits from
+// n up stay unchanged.
 pub fn from_sorted(list: &[u64], nodes: &mut [u64], colours: &mut [u8], n: usize) -> u64
     requires { ⌜ (n ≤ 65535) × (n * 3 ≤ length (now list)) × Holds (now nodes) n × HoldsBits (now colours) n ⌝ }
     ensures { λ r. ⌜ (r ≡ buildRoot n) × (now (nodes .exit) ≡ buildWords (now (list .entry)) n (now (nodes .entry)))

@@ -1,4 +1,5 @@
-// The input of a build: a list of triples start, end, value, and the tests of it.
+// The input of a build: a list of triples of start, end and value. The tests of the list are here
+// too.
 use words::interval::Interval;
 use words::node::Entry;
 ghost use mathlib.Core.Path.{_≡_};
@@ -27,7 +28,7 @@ pub fn entry_at(list: &[u64], k: usize) -> Entry
     }
 }
 
-// Whether the interval of triple k is one.
+// Whether the start of triple k is below its end.
 fn is_proper_at(list: &[u64], k: usize) -> bool
     requires { ⌜ k * 3 + 3 ≤ length (now list) ⌝ }
     ensures { λ r. ⌜ r ≡ properAt (now (list .entry)) k ⌝ }
@@ -62,7 +63,7 @@ pub fn all_proper(list: &[u64]) -> bool
     true
 }
 
-// Whether the triples never fall, by start, then by end.
+// Whether no triple is after the next one. The order is by start, then by end.
 pub fn sorted(list: &[u64]) -> bool
     ensures { λ r. ⌜ r ≡ sorted (now (list .entry)) ⌝ }
 {

@@ -1,6 +1,8 @@
 // The fast lookup: no cursor and no stack. It goes down by recursion, and tests both ends of a
-// child's hull before it enters the child. It ends on any words: it goes down at most 32 nodes. In
-// a store that passes the check no way down is longer, so that number never decides there.
+// child's hull before it enters the child. The hull of a node is the least interval that contains
+// the intervals of its subtree. The lookup ends on any words: it goes down at most 32 nodes. In a
+// store that passes the check of crate audit no way down is longer, so that number never decides
+// there.
 use iter::rules::Query;
 use iter::rules::find_index;
 use iter::rules::goes;
@@ -31,7 +33,7 @@ ghost use Rattle.words.specs.Nodes.{Has, Holds};
 // The greatest number.
 const LAST: u64 = 18446744073709551615;
 
-// How many hits there are, also those for which the output has no place, and how many nodes the
+// How many hits there are, including those that the output has no place for, and how many nodes the
 // lookup entered.
 pub struct Tally {
     pub hits: u64,
@@ -61,7 +63,7 @@ fn has_no_start(hi: Bound) -> bool
     }
 }
 
-// The least number that goes past the lower bound.
+// Returns the least number that goes past the lower bound.
 fn least_end(lo: Bound) -> u64
     requires { ⌜ noEnd lo ≡ false ⌝ }
     ensures { λ r. ⌜ r ≡ leastEnd lo ⌝ }
@@ -73,7 +75,7 @@ fn least_end(lo: Bound) -> u64
     }
 }
 
-// The greatest number that the upper bound admits.
+// Returns the greatest number that the upper bound admits.
 fn last_start(hi: Bound) -> u64
     requires { ⌜ noStart hi ≡ false ⌝ }
     ensures { λ r. ⌜ r ≡ lastStart hi ⌝ }
@@ -135,7 +137,8 @@ fn write_at(out: &mut [u64], place: u64, slot: u64)
     }
 }
 
-// Writes `slot`, if it is a hit, after the `hits` that there are. Returns how many there are then.
+// Writes `slot`, if it is a hit, after the `hits` found so far. Returns how many hits are found
+// then.
 fn note(out: &mut [u64], hits: u64, slot: u64, hit: bool) -> u64
     requires { ⌜ hits < last ⌝ }
     ensures { λ r. ⌜ (r ≡ hits + length (when hit (slot ∷ []))) × (now (out .exit) ≡ sets (now (out .entry)) hits (when hit (slot ∷ []))) ⌝ }
@@ -149,7 +152,7 @@ fn note(out: &mut [u64], hits: u64, slot: u64, hit: bool) -> u64
 }
 
 // Finds the hits on the left of a slot, if the left child is entered. `hits` and `entered` are the
-// numbers so far, and those after it are returned.
+// numbers so far. Returns the numbers after it.
 fn overlap_left(
     nodes: &[u64],
     count: u64,
@@ -174,7 +177,7 @@ fn overlap_left(
 }
 
 // Finds the hits from a slot down, with at most `height` nodes on a way: those on its left, then
-// itself, then those on its right. The right child is the next turn of the loop.
+// the slot itself, then those on its right. The right child is the next turn of the loop.
 fn overlap_down(
     nodes: &[u64],
     count: u64,
@@ -214,7 +217,7 @@ fn overlap_down(
     }
 }
 
-// The two functions for an exact lookup.
+// `overlap_left` and `overlap_down` for an exact lookup.
 fn exact_left(
     nodes: &[u64],
     count: u64,

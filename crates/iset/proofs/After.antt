@@ -1,4 +1,5 @@
--- Slots that are kept over a removal: the entry that stood in a kept slot before stands in `slotAfter` of it afterwards.
+-- Slots that are kept over a removal: the entry that stood in a kept slot before stands in
+-- `slotAfter` of it afterwards.
 use mathlib.Core.Path.{_≡_, refl, sym, ap, _∙_}
 use mathlib.Core.Bool.{Bool, true, false, cond}
 use mathlib.Core.List.{List, [], _∷_, map}
@@ -42,7 +43,8 @@ module _ (a : ℕ) where
       go true z = z
       go false z = omega (arith, same-else a c (record { old = x; new = y }) (hit-zero a x (omega arith)))
 
-  -- where the entry of slot a is in the words X, whose slots in tree order are m: what the pairs tell of a is that alone
+  -- where the entry of slot a is in the words X, whose slots in tree order are m: what the pairs
+  -- tell of a is that alone
   abbrev Went : List ℕ → List ℕ → List ℕ → List ℕ → Type 0
   Went W X l m = (b : ℕ) × (0 < times b m) × (entry X b ≡ entry W a) × ((c : ℕ) → tally a c (changed l m) ≡ cond (eqb a b) 0 (hit c b))
 

@@ -1,5 +1,6 @@
--- What each public call answers where it is not refused, in the documents' words: said of the calls' own answers and of what they leave.
--- `Map::check` has nothing but its number (Refusals), steps and drains are in Runs.
+-- What each public call answers where it is not refused, in the documents' words: said of the
+-- calls' own answers and of what they leave. `Map::check` has nothing but its number (Refusals),
+-- steps and drains are in Runs.
 use mathlib.Core.Path.{_≡_, refl, sym, ap, _∙_}
 use mathlib.Core.Logic.{_⊎_, inl, inr}
 use mathlib.Core.Bool.{true, false}
@@ -95,7 +96,8 @@ build-answers W C S e =
     let z : buildNumber (length W) (length C) S ≡ 0 = sym (build-no W C S) ∙ e in
     (rw (eq-eqb (buildNumber (length W) (length C) S) 0 z), builds W C S z)
 
--- A removal: the count is one less; value, pairs, root and what is left are those of a removal of slot s.
+-- A removal: the count is one less; value, pairs, root and what is left are those of a removal of
+-- slot s.
 pub remove-answers : (m : Map) (W C : List ℕ) (s : ℕ) → removeCall m W C s .answer .no ≡ 0 → (P : Passes W C (m .count) (m .root))
     → (removeCall m W C s .answer .map .count ≡ m .count - 1)
     × RemovalGuarantee W C (m .count) (m .root) s P (removal m W C s)
@@ -106,7 +108,8 @@ remove-answers m W C s e P =
     rw (eq-eqb (removeNumber m W C s) 0 z)
     (refl, removed W C (m .count) (m .root) s (omega arith) (omega arith) (omega arith) (removals.accepts m W C s z .1) P)
 
--- An insertion: the count is one more; the slot it names is the old count, "slot count is always the next one", and there the new entry stands.
+-- An insertion: the count is one more; the slot it names is the old count, "slot count is always
+-- the next one", and there the new entry stands.
 pub insert-answers : (m : Map) (W C : List ℕ) (e : Entry) → insertCall m W C e .answer .no ≡ 0 → (P : Passes W C (m .count) (m .root))
     → (insertCall m W C e .answer .slot ≡ m .count)
     × (entry (insertCall m W C e .words) (insertCall m W C e .answer .slot) ≡ e)
@@ -132,7 +135,8 @@ module _ (m : Map) (W C : List ℕ) (x : Interval) (e : startCall m W C x .no �
       rw (eq-eqb (startNumber m W C (Exact x)) 0 z)
       (refl, exact-start W C (m .count) (m .root) x (few m W C (Exact x) z) P (λ u a. inl (u, a)) inr)
 
--- Said of the code: where an answer r that a call's promise allows from its arguments a is no refusal, its parts are those above.
+-- Said of the code: where an answer r that a call's promise allows from its arguments a is no
+-- refusal, its parts are those above.
 pub build-done : (κs : Lfts 3) (a : K.Dens κs build-kinds.ps) (r : K.resT build-kinds.r κs .Denot) (s : AtExit (K.endedOf 3 build-kinds.ps build-kinds.r) κs)
     → build-reads.Post κs a r s → (m : Map) → r ≡ built.Done m
     → buildCall (now (a .0)) (now (a .1 .0)) (now (a .1 .1 .0)) .answer ≡ record { no = 0; map = m }

@@ -1,5 +1,5 @@
--- "Slots from count up are not read": on two stores that agree below the count each public call answers the same, and leaves stores that agree
--- below the count that it answers.
+-- "Slots from count up are not read": on two stores that agree below the count each public call
+-- answers the same, and leaves stores that agree below the count that it answers.
 use mathlib.Core.Path.{_≡_, refl}
 use mathlib.Core.Bool.{Bool, true, false, cond, _&&_}
 use mathlib.Core.List.{List}

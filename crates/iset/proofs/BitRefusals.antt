@@ -1,5 +1,6 @@
--- Demand 1 of the bit calls and the stack calls: each is refused with 10 exactly as its row says, both ways; and a refused call answers the vector
--- or the stack as given, with no bit, and leaves the bytes.
+-- Demand 1 of the bit calls and the stack calls: each is refused with 10 exactly as its row says,
+-- both ways; and a refused call answers the vector or the stack as given, with no bit, and leaves
+-- the bytes.
 use mathlib.Core.Path.{_≡_, refl, sym}
 use mathlib.Core.Logic.{_⊎_, inl, inr, ⊎-elim}
 use mathlib.Core.Bool.{Bool, true, false, cond, not, _&&_, true≢false}

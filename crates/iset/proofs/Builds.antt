@@ -1,4 +1,5 @@
--- What a build guarantees: it accepts exactly what document 01 lets be built, and what it leaves passes the check.
+-- What a build guarantees: it accepts exactly what document 01 lets be built, and what it leaves
+-- passes the check.
 use mathlib.Core.Path.{_≡_, refl}
 use mathlib.Core.Bool.{Bool, true, false, cond}
 use mathlib.Core.List.{List}
@@ -41,7 +42,8 @@ module _ (words bytes : ℕ) (S : List ℕ) where
       let t : (allProper S ≡ true) × (sorted S ≡ true) = tests-complete S (a .input) in
       rw (eq-eqb (length S % 3) 0 (a .triples), le-ltb (capacity words bytes) (length S / 3) (a .room-for), t .0, t .1)
 
--- "The store after every build .. passes the check": the tree is the input in its order, entry k in slot k, and the rest is kept
+-- "The store after every build .. passes the check": the tree is the input in its order, entry k in
+-- slot k, and the rest is kept
 pub builds : (W C S : List ℕ) → buildNumber (length W) (length C) S ≡ 0
     → Built S W C (length S / 3) (buildCall W C S .words) (buildCall W C S .colours) (buildCall W C S .answer .map .root)
 unfolding buildCall

@@ -1,4 +1,5 @@
--- What an accepted query has: a store that passes, with at most 65,535 entries, and a fresh cursor that is accepted.
+-- What an accepted query has: a store that passes, with at most 65,535 entries, and a fresh cursor
+-- that is accepted.
 use mathlib.Core.Path.{_≡_, refl}
 use mathlib.Core.List.{List}
 use Prim.Native.Nat.{ℕ, _≤_}

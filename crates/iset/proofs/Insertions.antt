@@ -1,5 +1,6 @@
--- What an insertion guarantees: it is refused exactly as document 02 says, and what it leaves passes the check and holds the old entries in
--- their slots and their order, with the new one among them.
+-- What an insertion guarantees: it is refused exactly as document 02 says, and what it leaves
+-- passes the check and holds the old entries in their slots and their order, with the new one among
+-- them.
 use mathlib.Core.Path.{_≡_, refl}
 use mathlib.Core.Bool.{Bool, true, false, cond}
 use mathlib.Core.List.{List}

@@ -1,4 +1,5 @@
--- The refusals of the lookups, and what they leave: slices with room, and a cursor that is fit for a step.
+-- The refusals of the lookups, and what they leave: slices with room, and a cursor that is fit for
+-- a step.
 use mathlib.Core.Path.{_≡_, refl, sym, ap, _∙_}
 use mathlib.Core.Bool.{Bool, true, false, cond}
 use mathlib.Core.List.{List}

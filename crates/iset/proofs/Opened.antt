@@ -1,5 +1,6 @@
--- An opened call, which does not run the check, on a store that passes it: it answers and leaves exactly what the public call does. `Sequence` has
--- any number of calls one after the other on a store that was checked once.
+-- An opened call, which does not run the check, on a store that passes it: it answers and leaves
+-- exactly what the public call does. `Sequence` has any number of calls one after the other on a
+-- store that was checked once.
 use mathlib.Core.Path.{_≡_, refl, sym, ap, _∙_}
 use mathlib.Core.Bool.{false}
 use mathlib.Core.List.{List}
@@ -58,7 +59,8 @@ module _ (m : Map) (W C : List ℕ) (h : checkRule m W C ≡ 0) where
 some : (z : Refusal) → eqb (refusalNumber z) 0 ≡ false
 some z = ne-eqb (refusalNumber z) 0 (λ f. omega (arith, number-pos z))
 
--- the public calls' code, which is the check and then the opened call, in the form that `search` takes
+-- the public calls' code, which is the check and then the opened call, in the form that `search`
+-- takes
 module _ (m : Map) (W C : List ℕ) (t : Checked) (e : checkNumber t ≡ checkRule m W C) where
   module _ (q : t ≡ Sound) where
     sound : checkRule m W C ≡ 0

@@ -1,5 +1,5 @@
--- The numbers of the public calls as document 01's table has them, each row once. By their rules they are the check's and then the opened call's,
--- which tests the count again.
+-- The numbers of the public calls as document 01's table has them, each row once. By their rules
+-- they are the check's and then the opened call's, which tests the count again.
 use mathlib.Core.Path.{_≡_, refl}
 use mathlib.Core.Bool.{Bool, true, false, cond}
 use mathlib.Core.List.{List}

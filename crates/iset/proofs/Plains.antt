@@ -1,4 +1,5 @@
--- The plain lookup: what its tests leave, in the form that `search` takes; and document 02's item 5, of the public call.
+-- The plain lookup: what its tests leave, in the form that `search` takes; and document 02's item
+-- 5, of the public call.
 use mathlib.Core.Path.{_≡_, refl, sym, ap, _∙_}
 use mathlib.Core.Bool.{Bool, true, false, cond}
 use mathlib.Core.List.{List, [], _∷_, append-nil}
@@ -77,7 +78,8 @@ counted : {l k : List ℕ} {b y : ℕ} (out : List ℕ) → l ≡ k → b ≡ y
     (output (record { no = 0; hits = length k; entered = y }) (filled k out))
 counted out e f = λ i. output (record { no = 0; hits = length (e i); entered = f i }) (filled (e i) out)
 
--- An accepted lookup into an output that holds every entry. The store's tree is that of P, and L is a lookup of the same by steps and drains.
+-- An accepted lookup into an output that holds every entry. The store's tree is that of P, and L is
+-- a lookup of the same by steps and drains.
 module _ (m : Map) (W C : List ℕ) (q : Query) (e : startNumber m W C q ≡ 0) (P : Passes W C (m .count) (m .root)) (out : List ℕ) (h : m .count ≤ length out) where
   abbrev found : List ℕ
   found = filter (rules W (m .count) q .match) (slots (P .tree))

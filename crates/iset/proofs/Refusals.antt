@@ -1,5 +1,6 @@
--- Demand 1 of each public call: it is refused exactly as document 01's table says, both ways, with the first refusal in its order; and a refused
--- call leaves all that was lent, and answers the map or the cursor as given.
+-- Demand 1 of each public call: it is refused exactly as document 01's table says, both ways, with
+-- the first refusal in its order; and a refused call leaves all that was lent, and answers the map
+-- or the cursor as given.
 use mathlib.Core.Path.{_≡_, refl, sym, ap, _∙_}
 use mathlib.Core.Bool.{Bool, true, false, cond, true≢false}
 use mathlib.Core.Logic.{_↔_}
@@ -226,7 +227,8 @@ module _ (m : Map) (W C : List ℕ) (s : ℕ) where
       (λ e. passed-row 3 (NoSuch m s) accept 0 (ltb s (m .count)) (omega arith)
       (λ t p. omega (arith, ltb-true s (m .count) t)) (ltb-false s (m .count)) (λ t. refl)))
 
-  -- "the map .. as given .., value and counts 0, .. pairs U", and document 02, item 9: "a refusal 0"
+  -- "the map .. as given .., value and counts 0, .. pairs U", and document 02, item 9: "a refusal
+  -- 0"
   pub remove-leaves : (removeCall m W C s .answer .no ≡ 0 → ⊥)
       → removeCall m W C s
       ≡ effect (record {
@@ -452,7 +454,8 @@ module _ (m : Map) (W C : List ℕ) where
       unfolding drainCall
       drain-leaves q out d = rw (drain-no q out) (kept (drainNumber m W C q c limit (length out)) _ _ (λ e. d (drain-no q out ∙ e)))
 
--- Said of the code: whatever answer r and whatever slices at exit s a call's promise allows from its arguments a, a refusal leaves what was lent.
+-- Said of the code: whatever answer r and whatever slices at exit s a call's promise allows from
+-- its arguments a, a refusal leaves what was lent.
 refused-number : (k : ℕ) (y : Refusal) → refusalNumber y ≡ k → k ≡ 0 → ⊥
 refused-number k y e z = omega (arith, number-pos y)
 

@@ -1,5 +1,6 @@
--- What a removal guarantees: it is refused exactly as document 01's table says, and what it leaves passes the check, holds the other
--- entries in their order, and names exactly those that changed slot.
+-- What a removal guarantees: it is refused exactly as document 01's table says, and what it leaves
+-- passes the check, holds the other entries in their order, and names exactly those that changed
+-- slot.
 use mathlib.Core.Path.{_≡_, refl}
 use mathlib.Core.Bool.{Bool, true, false, cond}
 use mathlib.Core.List.{List}

@@ -1,5 +1,6 @@
--- Demand 3, said of the public calls: any steps and drains one after the other, in any mixture, with any limits and any outputs, from the fresh
--- cursor on an unchanged store that passes the check, over a range, or for an interval, that is accepted.
+-- Demand 3, said of the public calls: any steps and drains one after the other, in any mixture,
+-- with any limits and any outputs, from the fresh cursor on an unchanged store that passes the
+-- check, over a range, or for an interval, that is accepted.
 use mathlib.Core.Path.{_≡_, refl, sym, ap, _∙_}
 use mathlib.Core.Bool.{Bool, true, false, cond}
 use mathlib.Core.List.{List, [], _∷_, _++_, append-nil}

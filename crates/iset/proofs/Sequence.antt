@@ -1,5 +1,5 @@
--- "The store after every build and removal passes the check", and after every insertion: a build with any number of changes after it, and any
--- public calls one after the other.
+-- "The store after every build and removal passes the check", and after every insertion: a build
+-- with any number of changes after it, and any public calls one after the other.
 use mathlib.Core.Path.{_≡_, refl, ap}
 use mathlib.Core.Bool.{cond}
 use mathlib.Core.List.{List, [], _∷_}
@@ -126,8 +126,9 @@ pub calls-sound : (l : List Call) (S : State) → Sound S → Sound (allAnswered
 calls-sound [] S h = h
 calls-sound (x ∷ l) S h = calls-sound l (answered S x) (answered-sound (S .map) (S .words) (S .colours) h x)
 
--- a store that was checked once: the calls that do not run the check leave what the public ones do, and it passes. With `Opened` they, and the
--- lookups between them, answer what the public calls answer.
+-- a store that was checked once: the calls that do not run the check leave what the public ones do,
+-- and it passes. With `Opened` they, and the lookups between them, answer what the public calls
+-- answer.
 opened-call : (S : State) → Sound S → (x : Call) → openAnswered S x ≡ answered S x
 opened-call S h (build l) = refl
 opened-call S h (remove s) = ap removed (remove-is (S .map) (S .words) (S .colours) h s)

@@ -1,4 +1,5 @@
--- A slot that a host kept over a removal, by the numbers that the removal wrote: the entry of that slot stands where `iset_slot_after` says.
+-- A slot that a host kept over a removal, by the numbers that the removal wrote: the entry of that
+-- slot stands where `iset_slot_after` says.
 use mathlib.Core.Path.{_≡_, refl, sym, _∙_}
 use mathlib.Core.Bool.{Bool, true, false, cond}
 use mathlib.Core.List.{List}

@@ -1,4 +1,5 @@
--- Any two numbers, and any two contents of each lent slice at exit, that an export's promise allows are equal.
+-- Any two numbers, and any two contents of each lent slice at exit, that an export's promise allows
+-- are equal.
 use mathlib.Core.Path.{_≡_, sym, _∙_}
 use contract.Lifetimes.{Lfts}
 use borrow.Fn.Kinds as K

@@ -1,4 +1,5 @@
--- A step's slot alone says whether it is a hit: it is U exactly at the end. So the answer needs no number for that.
+-- A step's slot alone says whether it is a hit: it is U exactly at the end. So the answer needs no
+-- number for that.
 use mathlib.Core.Path.{_≡_, refl}
 use mathlib.Core.Bool.{Bool, true, false, cond, not}
 use mathlib.Core.List.{List}

@@ -1,4 +1,5 @@
--- "Nothing lent changes" where a call is refused, by an export's own refusals too: the answer, and each slice that the call may write.
+-- "Nothing lent changes" where a call is refused, by an export's own refusals too: the answer, and
+-- each slice that the call may write.
 use mathlib.Core.Path.{_≡_, refl}
 use mathlib.Core.Bool.{Bool, true, false, cond}
 use mathlib.Core.List.{List, [], _∷_}

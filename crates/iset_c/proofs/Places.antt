@@ -1,5 +1,6 @@
--- Each export, in the words of include/iset.h: which number it returns, exactly when, and what each place of its answer holds. Said of whatever
--- number r and slices at exit s its promise allows from its arguments a.
+-- Each export, in the words of include/iset.h: which number it returns, exactly when, and what each
+-- place of its answer holds. Said of whatever number r and slices at exit s its promise allows from
+-- its arguments a.
 use mathlib.Core.Path.{_≡_, refl, sym, ap, _∙_}
 use mathlib.Core.Bool.{Bool, true, cond}
 use mathlib.Core.List.{List, [], _∷_}
@@ -108,7 +109,8 @@ pub build-told : (κs : Lfts 4) (a : K.Dens κs build-kinds.ps) (r : K.resT buil
     Told (buildRows W C S) (b .map .count ∷ b .map .root ∷ []) (now (a .1 .1 .1 .0)) (now (s .1 .1 .1 .0)) r
 build-told κs a r s p = told _ true _ _ _ r (omega arith) (build-refusals _ _ _) _ _ _ p
 
--- `iset_remove`: value, count, root, then three pairs, old slot, new slot, and how many hulls changed
+-- `iset_remove`: value, count, root, then three pairs, old slot, new slot, and how many hulls
+-- changed
 pub remove-told : (κs : Lfts 3) (a : K.Dens κs remove-kinds.ps) (r : K.resT remove-kinds.r κs .Denot) (s : AtExit (K.endedOf 3 remove-kinds.ps remove-kinds.r) κs)
     → remove-reads.Post κs a r s
     → let m : Map = mapOf (a .0) (a .1 .0) in

@@ -1,4 +1,5 @@
--- Numbers written to the front of a slice, one by one: the first i places have the first i numbers, the others are as they were.
+-- Numbers written to the front of a slice, one by one: the first i places have the first i numbers,
+-- the others are as they were.
 use mathlib.Core.Path.{_≡_, sym, _∙_}
 use mathlib.Core.List.{List}
 use Prim.Native.Nat.{ℕ, _+_, _<_, _≤_}

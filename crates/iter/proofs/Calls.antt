@@ -1,4 +1,5 @@
--- The walk stands on the stack's calls: a move by them alone, as the Rust's `move_to_next` makes it, is the rule's move, and no call of it is refused.
+-- The walk stands on the stack's calls: a move by them alone, as the Rust's `move_to_next` makes
+-- it, is the rule's move, and no call of it is refused.
 use mathlib.Core.Path.{_≡_, refl, sym, _∙_}
 use mathlib.Core.Bool.{Bool, true, false, not, cond, _&&_}
 use mathlib.Core.List.{List}
@@ -89,7 +90,8 @@ module _ (W : List ℕ) (Q : Rules) (n : ℕ) (c : Cursor) (live : Live n c) whe
   unfolding enters
   entered-by-calls = rw (lt-ltb (c .slot) n (live .0), tested s (live .1) (live .2) justEntered)
 
-  -- it may be a hit exactly if `make_match` was made and nothing after it: `can_match` answers false, and `can_go_right` true
+  -- it may be a hit exactly if `make_match` was made and nothing after it: `can_match` answers
+  -- false, and `can_go_right` true
   pub hit-by-calls : hits n Q c ≡ (not (canMatchRule s .yes) && canGoRightRule s .yes && Q .match (c .slot))
   unfolding hits
   hit-by-calls = rw (lt-ltb (c .slot) n (live .0), tested s (live .1) (live .2) notReturned, tested s (live .1) (live .2) notRight) (go (top s) (top-low s))

@@ -1,4 +1,5 @@
--- What a step promises determines its answer. The other functions promise an equation of the answer and of each lent slice.
+-- What a step promises determines its answer. The other functions promise an equation of the answer
+-- and of each lent slice.
 use mathlib.Core.Path.{_≡_, sym, ap, _∙_}
 use mathlib.Core.Bool.{false≢true}
 use lib.Dec.{ltb}

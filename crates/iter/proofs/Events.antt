@@ -1,4 +1,5 @@
--- What happens in a walk, in order, read off the list of its states: the nodes entered and the hits.
+-- What happens in a walk, in order, read off the list of its states: the nodes entered and the
+-- hits.
 use mathlib.Core.Bool.{cond}
 use mathlib.Core.List.{List, [], _∷_, _++_}
 use Prim.Native.Nat.{ℕ, zero, suc}

@@ -1,4 +1,5 @@
--- The code of the drain against its rule. D is what the drain answers; the hits so far are the first i words of the output.
+-- The code of the drain against its rule. D is what the drain answers; the hits so far are the
+-- first i words of the output.
 use mathlib.Core.Path.{_≡_, refl, sym, ap, _∙_}
 use mathlib.Core.Bool.{Bool, true, false, cond}
 use mathlib.Core.List.{List, [], _∷_, _++_, append-assoc, append-nil}

@@ -1,4 +1,5 @@
--- However many steps are taken, and whatever the words are, a walk enters no more nodes than a tree of 32 levels has ways down.
+-- However many steps are taken, and whatever the words are, a walk enters no more nodes than a tree
+-- of 32 levels has ways down.
 use mathlib.Core.Path.{_≡_, refl, ap, _∙_}
 use mathlib.Core.Bool.{Bool, true, false, cond, _&&_}
 use mathlib.Core.List.{List, []}
@@ -18,7 +19,8 @@ use Rattle.iter.specs.Places.{Placed}
 use Rattle.iter.specs.declared.Cursor.{Cursor}
 use Rattle.iter.proofs.Moves.{deeper-room, move-placed, stepped}
 
--- how many nodes can be entered from a level on, by its state; the level's own node is among them in state 00
+-- how many nodes can be entered from a level on, by its state; the level's own node is among them
+-- in state 00
 unfoldable weigh : ℕ → ℕ → ℕ
 weigh k v = cond (eqb v 0) (2 * 2 ^ (31 - k) - 1) (cond (eqb v 3) 0 (2 ^ (31 - k) - 1))
 

@@ -1,4 +1,4 @@
-// The drain: steps until the end or a limit of hits.
+// The drain: it makes steps until the end or a limit of hits.
 use crate::Cursor;
 use crate::rules::Query;
 use crate::seek::Step;
@@ -11,7 +11,8 @@ ghost use Rattle.iter.specs.Places.{Placed};
 ghost use Rattle.iter.specs.Answers.{summary};
 ghost use Rattle.words.specs.Nodes.{Holds};
 
-// What a drain answers: the hits written, the nodes entered in its steps, and the next cursor.
+// What a drain returns: how many hits it wrote, how many nodes its steps entered, and the next
+// cursor.
 pub struct Drained {
     pub hits: u64,
     pub entered: u64,
@@ -19,8 +20,9 @@ pub struct Drained {
 }
 
 impl Cursor {
-    // Writes the slots of at most `limit` hits. The sum of the nodes entered fits a number, whatever the words of the store are:
-    // with 32 levels at most, a walk has no more than 2^32 ways down.
+    // Writes the slots of at most `limit` hits. The sum of the nodes entered fits a number,
+    // whatever the words of the store are: with at most 32 levels, a walk has no more than 2^32
+    // ways down.
     pub fn drain(
         self,
         nodes: &[u64],

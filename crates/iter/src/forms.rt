@@ -19,7 +19,7 @@ ghost use Rattle.iter.specs.Forms.{same, onSide, formed, heldForm, formO
 ghost use Rattle.iter.specs.Places.{Live};
 ghost use Rattle.words.specs.Nodes.{Has, Holds};
 
-// What stands in a number from a level's bits up.
+// Returns the bits of a number from a level's bits up.
 fn from_level(bits: u64, level: u64) -> u64
     requires { ⌜ level < 32 ⌝ }
     ensures { λ r. ⌜ r ≡ bits / 4 ^ level ⌝ }
@@ -27,7 +27,7 @@ fn from_level(bits: u64, level: u64) -> u64
     bits >> (2 * level)
 }
 
-// The slot is the child of `parent` on the side that its state says.
+// Whether the slot is the child of `parent` on the side that the state says.
 fn is_on_side(nodes: &[u64], state: u64, parent: u64, slot: u64) -> bool
     requires { ⌜ Has (now nodes) parent ⌝ }
     ensures { λ r. ⌜ r ≡ onSide (now (nodes .entry)) state parent slot ⌝ }
@@ -37,8 +37,8 @@ fn is_on_side(nodes: &[u64], state: u64, parent: u64, slot: u64) -> bool
     ((state == WAS_LEFT) & (left == slot)) | ((state == WAS_RIGHT) & (right == slot))
 }
 
-// Whether `start` is `links` links up from the slot, and each level says by which side the way
-// comes.
+// Whether `start` is `links` links up from the slot, and each level says on which side the way goes
+// down.
 fn is_way(nodes: &[u64], count: u64, start: u64, bits: u64, links: u64, slot: u64) -> bool
     requires { ⌜ Holds (now nodes) count × (slot < count) × (links ≤ 32) ⌝ }
     ensures { λ r. ⌜ r ≡ formed (now (nodes .entry)) count start bits links slot ⌝ }
@@ -85,7 +85,8 @@ impl Cursor {
         (self.slot == slot) & ((self.levels == levels) & (self.bits == bits))
     }
 
-    // The top level is 10 with nothing above it, and the levels below say the way from `start`.
+    // Whether the top level is 10, returned, with nothing above it, and the levels below say the
+    // way from `start`.
     fn is_reached(self, nodes: &[u64], count: u64, start: u64) -> bool
         requires { ⌜ Holds (now nodes) count × Live count self ⌝ }
         ensures { λ r. ⌜ r ≡ eqb (self .bits / 4 ^ (self .levels - 1)) returned
@@ -112,7 +113,8 @@ impl Cursor {
         self.is_reached(nodes, count, start)
     }
 
-    // The form of a cursor in the tree that begins at the slot `start`, judged against the present store.
+    // Returns the form of a cursor in the tree that begins at the slot `start`, judged against the
+    // present store.
     pub fn form(self, nodes: &[u64], count: u64, start: u64) -> Form
         requires { ⌜ Holds (now nodes) count ⌝ }
         ensures { λ r. ⌜ r ≡ formOf (now (nodes .entry)) count start self ⌝ }

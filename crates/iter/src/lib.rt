@@ -1,4 +1,5 @@
-// Looking up: a port of src/iter.rs. A cursor is the place of a walk: the slot that it is at, and the stack.
+// Lookups: a port of src/iter.rs. A cursor is the place of a walk: the slot that the walk is at,
+// and its stack.
 pub mod drain;
 pub mod forms;
 pub mod rules;
@@ -11,7 +12,7 @@ pub struct Cursor {
     pub bits: u64,
 }
 
-// The forms of a cursor; one that has no form is `Bad`.
+// The forms of a cursor. A cursor that has none of the first three is `Bad`.
 pub enum Form {
     Fresh,
     Held,

@@ -1,4 +1,4 @@
-// What a walk goes by: to which children it goes, and which entries it looks for.
+// The rules of a walk: which children it visits, and which entries it looks for.
 use words::interval::Bound;
 use words::interval::Interval;
 use words::interval::Span;
@@ -23,7 +23,7 @@ pub enum Query {
     Exact(Interval),
 }
 
-// Whether the walk goes left: some entry below may end at or past the lower bound.
+// Whether the walk goes left: an entry there may end at the lower bound or past it.
 fn should_go_left(nodes: &[u64], count: u64, index: u64, lo: Bound) -> bool
     requires { ⌜ Holds (now nodes) count × (index < count) ⌝ }
     ensures { λ r. ⌜ r ≡ shouldGoLeft (now (nodes .entry)) count lo index ⌝ }
@@ -34,7 +34,7 @@ fn should_go_left(nodes: &[u64], count: u64, index: u64, lo: Bound) -> bool
     lo.reached_by(hull_end_of(nodes, left))
 }
 
-// Whether the walk goes right: the upper bound admits the least start below.
+// Whether the walk goes right: the upper bound admits the least start there.
 fn should_go_right(nodes: &[u64], count: u64, index: u64, hi: Bound) -> bool
     requires { ⌜ Holds (now nodes) count × (index < count) ⌝ }
     ensures { λ r. ⌜ r ≡ shouldGoRight (now (nodes .entry)) count hi index ⌝ }
@@ -89,7 +89,8 @@ fn goes_exact(nodes: &[u64], count: u64, index: u64, query: Interval, left_side:
     }
 }
 
-// Whether the walk goes to a child of the slot `index`.
+// Whether the walk goes to the left child of the slot `index`, or to the right one if `left_side`
+// is false.
 pub fn goes(nodes: &[u64], count: u64, query: Query, index: u64, left_side: bool) -> bool
     requires { ⌜ Holds (now nodes) count × (index < count) ⌝ }
     ensures { λ r. ⌜ r ≡ rules (now (nodes .entry)) count query .go «left_side» index ⌝ }
@@ -100,7 +101,7 @@ pub fn goes(nodes: &[u64], count: u64, query: Query, index: u64, left_side: bool
     }
 }
 
-// Whether the entry of the slot `index` is looked for.
+// Whether the query looks for the entry of the slot `index`.
 pub fn matches(nodes: &[u64], count: u64, query: Query, index: u64) -> bool
     requires { ⌜ Holds (now nodes) count × (index < count) ⌝ }
     ensures { λ r. ⌜ r ≡ rules (now (nodes .entry)) count query .match index ⌝ }
@@ -112,7 +113,8 @@ pub fn matches(nodes: &[u64], count: u64, query: Query, index: u64) -> bool
     }
 }
 
-// The highest node equal to the query, below a link with at most `height` nodes on its ways down; U if there is none.
+// Returns the highest node equal to the query in the subtree at a link, at most `height` nodes
+// down. Returns U, the undefined link, if there is none.
 fn find_below(nodes: &[u64], count: u64, query: Interval, link: u64, height: u64) -> u64
     requires { ⌜ Holds (now nodes) count ⌝ }
     ensures { λ r. ⌜ r ≡ find (now (nodes .entry)) count query height link ⌝ }
@@ -136,7 +138,7 @@ fn find_below(nodes: &[u64], count: u64, query: Interval, link: u64, height: u64
     )
 }
 
-// Where exact lookup starts.
+// Returns the slot where an exact lookup starts, or U if it finds none.
 pub fn find_index(nodes: &[u64], count: u64, query: Interval, root: u64) -> u64
     requires { ⌜ Holds (now nodes) count ⌝ }
     ensures { λ r. ⌜ r ≡ findFrom (now (nodes .entry)) count query root ⌝ }

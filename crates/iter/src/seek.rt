@@ -10,14 +10,15 @@ ghost use Rattle.iter.specs.Places.{Placed};
 ghost use Rattle.iter.specs.Answers.{answer, isHit};
 ghost use Rattle.words.specs.Nodes.{Holds};
 
-// What a step answers: a hit with its cursor, which is the next one too, or the end; and the nodes entered in this call.
+// What a step returns: a hit with its cursor, which is also the next one, or the end. Both come
+// with the number of nodes entered in this call.
 pub enum Step {
     Hit(Cursor, u64),
     End(u64),
 }
 
 impl Step {
-    // The nodes entered.
+    // Returns the number of nodes entered.
     pub fn entered(self) -> u64
         ensures { λ r. ⌜ r ≡ answer self .entered ⌝ }
     {
@@ -29,7 +30,8 @@ impl Step {
 }
 
 impl Cursor {
-    // Moves until a hit or the end, with some nodes entered so far. `move_to_next_exact` is this at an exact query.
+    // Moves until a hit or the end. `before` is how many nodes were entered so far. The Rust's
+    // `move_to_next_exact` is this function with an exact query.
     fn move_to_next(self, nodes: &[u64], count: u64, query: Query, before: u64) -> Step
         requires { ⌜ Holds (now nodes) count × (count ≤ 65535) × Placed count self × (before ≤ 1) ⌝ }
         ensures { λ r. ⌜ (answer r ≡ seek (now (nodes .entry)) count (rules (now (nodes .entry)) count query) (fuel count) before self)

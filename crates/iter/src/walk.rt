@@ -1,4 +1,5 @@
-// The walk: one mark or one link a move.
+// The walk. Each move sets a mark or follows a link. The marks are the states of a level of the
+// stack: 00 entered, 01 was left, 10 returned, 11 was right.
 use crate::Cursor;
 use crate::rules::Query;
 use crate::rules::goes;
@@ -23,14 +24,15 @@ ghost use Rattle.iter.specs.Walk.{side, mark, down, deeper, move, enters
 ghost use Rattle.iter.specs.Queries.{rules};
 ghost use Rattle.iter.specs.Places.{Placed, Live};
 
-// The state that the top level gets before the walk goes down on a side.
+// Returns the state that the top level gets before the walk goes down on a side.
 fn side_mark(left_side: bool) -> u64
     ensures { λ r. ⌜ (r ≡ side «left_side») × (r < 4) ⌝ }
 {
     if left_side { WAS_LEFT } else { WAS_RIGHT }
 }
 
-// Where the walk goes up to: nowhere from the last level.
+// Returns the slot that the walk goes up to: the parent, or U, the undefined link, from the last
+// level.
 fn slot_above(levels: u64, parent: u64) -> u64
     ensures { λ r. ⌜ r ≡ cond (eqb levels 1) U parent ⌝ }
 {
@@ -47,7 +49,7 @@ impl Cursor {
         }
     }
 
-    // The state of the top level.
+    // Returns the state of the top level.
     fn state(self) -> u64
         requires { ⌜ (1 ≤ self .levels) × (self .levels ≤ 32) ⌝ }
         ensures { λ r. ⌜ r ≡ top (stackOf self) ⌝ }
@@ -93,7 +95,8 @@ impl Cursor {
         }
     }
 
-    // Whether the walk goes down on a side: the stack takes one more level, and the rules say so.
+    // Whether the walk goes down on a side: the stack has room for one more level, and the rules
+    // say so.
     fn goes_down(self, nodes: &[u64], count: u64, query: Query, left_side: bool) -> bool
         requires { ⌜ Holds (now nodes) count × (self .slot < count) ⌝ }
         ensures { λ r. ⌜ r ≡ deeper (rules (now (nodes .entry)) count query) «left_side» self ⌝ }
@@ -101,7 +104,7 @@ impl Cursor {
         (self.levels < 32) & goes(nodes, count, query, self.slot, left_side)
     }
 
-    // From 00: left, or mark 01.
+    // From state 00: goes left, or marks 01.
     fn left_or_mark(self, nodes: &[u64], count: u64, query: Query) -> Cursor
         requires { ⌜ Holds (now nodes) count × Live count self ⌝ }
         ensures { λ r. ⌜ r ≡ cond (deeper (rules (now (nodes .entry)) count query) true self)
@@ -114,7 +117,7 @@ impl Cursor {
         }
     }
 
-    // From 10: right, or up.
+    // From state 10: goes right, or up.
     fn right_or_up(self, nodes: &[u64], count: u64, query: Query) -> Cursor
         requires { ⌜ Holds (now nodes) count × Live count self ⌝ }
         ensures { λ r. ⌜ r ≡ cond (deeper (rules (now (nodes .entry)) count query) false self)
@@ -127,7 +130,7 @@ impl Cursor {
         }
     }
 
-    // One move.
+    // Makes one move.
     pub fn walk(self, nodes: &[u64], count: u64, query: Query) -> Cursor
         requires { ⌜ Holds (now nodes) count × Live count self ⌝ }
         ensures { λ r. ⌜ r ≡ move (now (nodes .entry)) (rules (now (nodes .entry)) count query) self ⌝ }
@@ -145,7 +148,7 @@ impl Cursor {
         self.up(nodes)
     }
 
-    // A live node is on top in state 00.
+    // Whether a live node, one with a slot below the count, is on top in state 00.
     fn is_entered(self, count: u64) -> bool
         requires { ⌜ Placed count self ⌝ }
         ensures { λ r. ⌜ r ≡ enters count self ⌝ }
@@ -156,7 +159,7 @@ impl Cursor {
         self.state() == ENTERED
     }
 
-    // 1 if this move entered a node, else 0.
+    // Returns 1 if this move entered a node, else 0.
     pub fn counted(self, count: u64) -> u64
         requires { ⌜ Placed count self ⌝ }
         ensures { λ r. ⌜ (r ≡ counts count self) × (r ≤ 1) ⌝ }
@@ -164,7 +167,7 @@ impl Cursor {
         if self.is_entered(count) { 1 } else { 0 }
     }
 
-    // A live node is on top in state 10, and its entry is looked for.
+    // Whether a live node is on top in state 10, and the query looks for its entry.
     pub fn is_hit(self, nodes: &[u64], count: u64, query: Query) -> bool
         requires { ⌜ Holds (now nodes) count × Placed count self ⌝ }
         ensures { λ r. ⌜ r ≡ hits count (rules (now (nodes .entry)) count query) self ⌝ }

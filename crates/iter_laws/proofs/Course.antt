@@ -1,4 +1,5 @@
--- The walk through a tree: from its root, entered, to the slot above it, in so many moves, with these events.
+-- The walk through a tree: from its root, entered, to the slot above it, in so many moves, with
+-- these events.
 use mathlib.Core.Path.{_≡_, refl, ap, _∙_}
 use mathlib.Core.Bool.{Bool, true, false, cond}
 use mathlib.Core.List.{List, [], _∷_, _++_, append-assoc}

@@ -1,4 +1,5 @@
--- Exact lookup on a store that passes the check: demand 2's equal entries, and the nodes entered on the way.
+-- Exact lookup on a store that passes the check: demand 2's equal entries, and the nodes entered on
+-- the way.
 use mathlib.Core.Path.{_≡_, refl, sym, ap, _∙_}
 use mathlib.Core.Logic.{_↔_}
 use mathlib.Core.Bool.{Bool, cond}

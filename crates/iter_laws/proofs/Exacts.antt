@@ -1,5 +1,5 @@
--- The rules of exact lookup, on a tree: pruning loses no hit, the walk goes where the entered rule says, and the search finds the
--- highest equal node.
+-- The rules of exact lookup, on a tree: pruning loses no hit, the walk goes where the entered rule
+-- says, and the search finds the highest equal node.
 use mathlib.Core.Path.{_≡_, refl, sym, _∙_}
 use mathlib.Core.Bool.{Bool, true, false, cond, _&&_, _||_, false≢true}
 use mathlib.Core.List.{List, [], _∷_}

@@ -1,4 +1,5 @@
--- The form test tells the forms of a cursor apart: fresh, ended, and exactly the held cursors of the tree.
+-- The form test tells the forms of a cursor apart: fresh, ended, and exactly the held cursors of
+-- the tree.
 use mathlib.Core.Path.{_≡_, refl, sym, ap, _∙_}
 use mathlib.Core.Logic.{_↔_}
 use mathlib.Core.Bool.{Bool, true, false, cond, _&&_, _||_, true≢false}

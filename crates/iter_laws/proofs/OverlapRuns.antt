@@ -46,7 +46,8 @@ module _ (W C : List ℕ) (n r : ℕ) (q : Span) (small : n ≤ 65535) (P : Pass
   walk : Walk W n (overlap W n q) (overlapRule W q) U r (P .tree)
   walk = overlap-walk W C n r q small P
 
-  -- from fresh to the end: exactly the intersecting entries, in tree order, and as many nodes entered as the entered rule says
+  -- from fresh to the end: exactly the intersecting entries, in tree order, and as many nodes
+  -- entered as the entered rule says
   pub overlap-run : (limit : ℕ) → length all < limit
       → drain W n Q limit (fresh r) ≡ record { slots = all; next = ended; entered = length (entered (overlapRule W q) (P .tree)) }
   overlap-run = fresh-run W n Q (overlapRule W q) U r (P .tree) walk

@@ -1,4 +1,5 @@
--- The rules of overlap lookup, on a tree: pruning loses no hit, and the walk goes where the entered rule says.
+-- The rules of overlap lookup, on a tree: pruning loses no hit, and the walk goes where the entered
+-- rule says.
 use mathlib.Core.Path.{_≡_, refl, sym, _∙_}
 use mathlib.Core.Bool.{Bool, true, false}
 use mathlib.Core.List.{List}

@@ -1,5 +1,6 @@
--- A lookup in parts: a cursor that has a form leads to one that has a form, with 32 levels at the most on the way; the parts of a lookup, put
--- together, are the lookup; and one that has come to its end has handed out all, and entered all that the entered rule names.
+-- A lookup in parts: a cursor that has a form leads to one that has a form, with 32 levels at the
+-- most on the way; the parts of a lookup, put together, are the lookup; and one that has come to
+-- its end has handed out all, and entered all that the entered rule names.
 use mathlib.Core.Path.{_≡_, refl, sym, ap, _∙_}
 use mathlib.Core.Bool.{Bool, true, false, cond}
 use mathlib.Core.List.{List, [], _++_, append-assoc, append-nil}

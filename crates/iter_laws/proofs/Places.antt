@@ -215,7 +215,8 @@ module _ (W : List ℕ) (n : ℕ) (Q : Rules) (E : Bool → ℕ → ℕ → Bool
       root-cases (λ h. stands-room (fresh k) h m q b)
       (λ i. let z : k < n = rw (after-end m (fresh k) i) at q in absurd (omega arith))
 
-  -- where the tree's root has no parent: the walk may end where the parent link is U, instead of where the stack becomes empty
+  -- where the tree's root has no parent: the walk may end where the parent link is U, instead of
+  -- where the stack becomes empty
   pub stands-top : p ≡ U → (c : Cursor) → Stands t c → (m : ℕ)
       → cond (eqb (after W n Q m c .levels) 1) U (par W (after W n Q m c .slot)) ≡ par W (after W n Q m c .slot)
   stands-top e c h m = top-up W n p k t (w .shape) e (after W n Q m c) (after-stands m c h)

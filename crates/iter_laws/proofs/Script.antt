@@ -15,7 +15,8 @@ use Rattle.iter_laws.specs.Place.{held, sides}
 abbrev pub Linked : List ℕ → ℕ → Rules → Type 0
 Linked W n Q = (b : Bool) (s : ℕ) → Q .go b s ≡ true → kid W b s < n
 
--- From here of a tree whose root is entered: the nodes entered, the hits, all events, the number of moves.
+-- From here of a tree whose root is entered: the nodes entered, the hits, all events, the number of
+-- moves.
 abbrev pub visits : Rules → Tree → List ℕ
 visits Q leaf = []
 visits Q (node l s r) = s ∷ (when (Q .go true s) (visits Q l) ++ when (Q .go false s) (visits Q r))

@@ -1,4 +1,5 @@
--- What is known of a walk under the rules Q through the tree t, which begins at the link k below the slot p.
+-- What is known of a walk under the rules Q through the tree t, which begins at the link k below
+-- the slot p.
 use mathlib.Core.Path.{_≡_, refl, sym, _∙_}
 use mathlib.Core.Bool.{Bool, true, false, cond, false≢true}
 use mathlib.Core.List.{List, [], _∷_}

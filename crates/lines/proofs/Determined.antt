@@ -1,4 +1,5 @@
--- Any two answers, and any two contents of each lent slice at exit, that a promise allows are equal.
+-- Any two answers, and any two contents of each lent slice at exit, that a promise allows are
+-- equal.
 use mathlib.Core.Path.{_≡_, sym, ap, _∙_}
 use mathlib.Core.List.{List}
 use Prim.Native.Nat.{ℕ}

@@ -1,6 +1,8 @@
-// The plain lookup goes through every entry in tree order by links alone, tests each and writes the hits. It has no stack
-// and reads no hull. It ends on any words: it goes through at most `count` entries, with at most 33 links between two of
-// them. In a store that passes the check no way down or up is longer than 32, so neither number decides there.
+// The plain lookup visits every entry in tree order by links alone, tests each and writes the hits.
+// Tree order is the left subtree, then the node, then the right subtree. The lookup has no stack
+// and reads no hull, the interval that a node keeps for its subtree. It ends on any words: it
+// visits at most `count` entries, with at most 33 links between two of them. In a store that passes
+// the check of crate audit no way down or up is longer than 32, so neither number decides there.
 use iter::rules::Query;
 use iter::rules::matches;
 use tree_links::leftmost_from;
@@ -18,13 +20,14 @@ ghost use Rattle.plain_rule.specs.Tour.{ascend, nextOf, firstOf, plain};
 ghost use Rattle.plain.specs.Answers.{tally};
 ghost use Rattle.words.specs.Nodes.{Holds};
 
-// How many hits were written, and how many entries the lookup went through.
+// How many hits were written, and how many entries the lookup visited.
 pub struct Tally {
     pub hits: u64,
     pub entered: u64,
 }
 
-// The first slot above `slot` that has it on the left, at most `height` links up; U if there is none.
+// Returns the first slot above `slot` that has it on its left, at most `height` links up. Returns
+// U, the undefined link, if there is none.
 fn next_above(nodes: &[u64], count: u64, slot: u64, height: u64) -> u64
     requires { ⌜ Holds (now nodes) count × (slot < count) ⌝ }
     ensures { λ r. ⌜ r ≡ ascend count height (now (nodes .entry)) slot ⌝ }
@@ -41,7 +44,7 @@ fn next_above(nodes: &[u64], count: u64, slot: u64, height: u64) -> u64
     next_above(nodes, count, parent, height - 1)
 }
 
-// The slot after `slot` in tree order; U if there is none.
+// Returns the slot after `slot` in tree order, or U if there is none.
 pub fn next_slot(nodes: &[u64], count: u64, slot: u64) -> u64
     requires { ⌜ Holds (now nodes) count × (slot < count) ⌝ }
     ensures { λ r. ⌜ r ≡ nextOf count (now (nodes .entry)) slot ⌝ }
@@ -52,7 +55,7 @@ pub fn next_slot(nodes: &[u64], count: u64, slot: u64) -> u64
     leftmost_from(nodes, count, right, 32)
 }
 
-// The first slot in tree order; U if there is none.
+// Returns the first slot in tree order, or U if there is none.
 pub fn first_slot(nodes: &[u64], count: u64, root: u64) -> u64
     requires { ⌜ Holds (now nodes) count ⌝ }
     ensures { λ r. ⌜ r ≡ firstOf count (now (nodes .entry)) root ⌝ }
@@ -63,7 +66,8 @@ pub fn first_slot(nodes: &[u64], count: u64, root: u64) -> u64
     leftmost_from(nodes, count, top, 32)
 }
 
-// If `slot` is a hit it is written after the `hits` that there are. Returns how many there are then.
+// Writes `slot`, if it is a hit, after the `hits` written so far. Returns how many hits are written
+// then.
 fn note(out: &mut [u64], hits: u64, slot: u64, hit: bool) -> u64
     requires { ⌜ hits < length (now out) ⌝ }
     ensures { λ r. ⌜ (r ≡ cond hit (hits + 1) hits) × (now (out .exit) ≡ cond hit (set (now (out .entry)) hits slot) (now (out .entry))) ⌝ }

@@ -1,5 +1,5 @@
--- The rule of the plain lookup, computed in a store of five equal entries. Slot 1 is the root, with 0 on its left and 3 on its right; 3 has 2 on its
--- left and 4 on its right.
+-- The rule of the plain lookup, computed in a store of five equal entries. Slot 1 is the root, with
+-- 0 on its left and 3 on its right; 3 has 2 on its left and 4 on its right.
 use mathlib.Core.Path.{_≡_, refl}
 use mathlib.Core.List.{List, [], _∷_}
 use Prim.Native.Nat.{ℕ}

@@ -1,4 +1,5 @@
--- On a store that passes the check the tour by links is the slots in tree order, and the plain lookup finds what a drain from the fresh cursor finds.
+-- On a store that passes the check the tour by links is the slots in tree order, and the plain
+-- lookup finds what a drain from the fresh cursor finds.
 use mathlib.Core.Path.{_≡_, refl, ap, _∙_}
 use mathlib.Core.Bool.{true, false}
 use mathlib.Core.List.{List, [], _∷_, _++_, append-assoc, append-nil}

@@ -49,7 +49,8 @@ module _ (n len : ℕ) (t : Bool) (e : t ≡ roomFor n len) (q : t ≡ true) whe
 pub listing : (k n : ℕ) → k ≡ n + 1 → Listing k ≡ Listing (n + 1)
 listing k n e = rw e
 
--- a byte and the end of a line, by what the line was; a space and the end after a number, by what stands before it
+-- a byte and the end of a line, by what the line was; a space and the end after a number, by what
+-- stands before it
 module _ (l z : Line) (e : l ≡ z) where
   pub byte-of : (b : ℕ) (r : Line) → r ≡ byteRule z b → r ≡ byteRule l b
   byte-of b r h = rw e h

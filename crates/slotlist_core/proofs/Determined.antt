@@ -1,4 +1,5 @@
--- Any two answers, and any two contents of each lent slice at exit, that a promise allows are equal.
+-- Any two answers, and any two contents of each lent slice at exit, that a promise allows are
+-- equal.
 use mathlib.Core.Path.{_≡_, sym, ap, _∙_}
 use contract.Lifetimes.{Lfts}
 use borrow.Fn.Kinds as K

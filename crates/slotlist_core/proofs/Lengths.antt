@@ -1,4 +1,5 @@
--- What is printed fits: at most 21,557 bytes for 256 entries. And what fits is written as it stands.
+-- What is printed fits: at most 21,557 bytes for 256 entries. And what fits is written as it
+-- stands.
 use mathlib.Core.Path.{_≡_, refl, ap, _∙_}
 use mathlib.Core.Bool.{Bool, true, false, cond}
 use mathlib.Core.List.{List, [], _∷_, _++_}

@@ -298,7 +298,8 @@ module _ (b : ℕ) (s : List ℕ) where
           go true = gap g
           go false = rw d
 
--- one byte more: the state that it leads to means, with the bytes after it, what the state before means with all of them
+-- one byte more: the state that it leads to means, with the bytes after it, what the state before
+-- means with all of them
 pub meaning-byte : (L : Line) (b : ℕ) (s : List ℕ) → meaning (byteRule L b) s ≡ meaning L (b ∷ s)
 meaning-byte Start b s = start-byte b s
 meaning-byte (Name k) b s = name-byte b s k

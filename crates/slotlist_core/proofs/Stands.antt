@@ -35,7 +35,8 @@ standOf (Listing n) X K E = listed (listedIn n E)
 standOf (Mapped m) X K E = mapped m X K
 standOf (Refused why) X K E = refused why
 
--- The work stands in memory that was W and C at first and is so while entries are listed; 256 entries at most are listed and held.
+-- The work stands in memory that was W and C at first and is so while entries are listed; 256
+-- entries at most are listed and held.
 abbrev pub Kept : List ℕ → List ℕ → Work → List ℕ → List ℕ → Type 0
 Kept W C (Listing n) X K = (n ≤ 256) × (X ≡ W) × (K ≡ C)
 Kept W C (Mapped m) X K = (m .count ≤ 256) × Holds X (m .count)

@@ -1,4 +1,5 @@
--- Cutting the input anywhere changes nothing, and the whole input prints what document 01 says of its lines.
+-- Cutting the input anywhere changes nothing, and the whole input prints what document 01 says of
+-- its lines.
 use mathlib.Core.Path.{_≡_, refl, sym, ap, subst, _∙_}
 use mathlib.Core.Bool.{Bool, true, false, cond}
 use mathlib.Core.List.{List, [], _∷_, _++_, foldl, foldl-append, flatten}

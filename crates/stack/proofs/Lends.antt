@@ -1,5 +1,6 @@
--- A function of `src/lending.rt` meets its contract: a walk of its MIR, by hand, over the name and the rule of the call on the record. The local is
--- lent for a lifetime of that call, and comes back as the call left it.
+-- A function of `src/lending.rt` meets its contract: a walk of its MIR, by hand, over the name and
+-- the rule of the call on the record. The local is lent for a lifetime of that call, and comes back
+-- as the call left it.
 use mathlib.Core.Path.{_≡_, refl}
 use Prim.Native.Nat.{ℕ}
 use mathlib.Core.List.{[], _∷_, List}
@@ -173,7 +174,8 @@ module _ (rule : ActionStack → Told) {M : Type 1} (𝓤 : URA M) (H : Heap �
             use1 W (some (λ (t : ActionStack). ‵ (fres δ (R .coded .code t)) ⊛ raw (fact 𝓤 (lent z t ≡ rule h)))) (of-called (α ∷ [], tt) (x l₂ δ) z) $
             pick ! (λ t. split ! $ move ! (1 ∷ []) $ heard ! (lent z t ≡ rule h) (λ e. move ! (1 ∷ []) $ split ! $ move ! (1 ∷ []) $
             peeks ! U.the-row (Is U.the-row) (shows 𝓤 H A U.the-row) z (v ∷ []) (λ its. drop ! $ split ! $ move ! (1 ∷ []) $ drop ! $
-            -- [the token; the last value; the lender's part; _5; …; _4; …; _3; …; _2's room; _1; …; _0; …]
+            -- [the token; the last value; the lender's part; _5; …; _4; …; _3; …; _2's room; _1; …;
+            -- _0; …]
             land ! (from ! (stop !)) (init ! 7 refl (outcome-typed W z v its)) $
             -- the lifetime is ended, and the local is taken back at its last value
             lft-end ! tt $ move ! (0 ∷ 2 ∷ 1 ∷ []) $
@@ -209,7 +211,8 @@ module _ (rule : ActionStack → Told) {M : Type 1} (𝓤 : URA M) (H : Heap �
       meets =
           walk-meets 𝓤 H A own.ended stayed W (goes-none 𝓤 H A W 0 (λ _. R) yes (λ κs x f. refl), tt) answers go (WpFn-mono 𝓤 H (W .laws) 𝓣 (lends callee)) walks
 
--- the same of the function's own routine: it stands in an environment at its name, beside the two that it calls
+-- the same of the function's own routine: it stands in an environment at its name, beside the two
+-- that it calls
 pub lends-to : (rule : ActionStack → Told) (name callee : Name) (called : Routine) (env : Env) → env callee ≡ called → env both-def.name ≡ both-def.routine
     → {M : Type 1} (𝓤 : URA M) (H : Heap 𝓤) (𝓜 : Model 𝓤 H) (𝓖 : GhostRules 𝓤 H) (𝓡 : Running 𝓤 H 𝓜)
     → Closed 𝓤 H (tables 𝓤 H 𝓜 𝓡 env .C) (tables 𝓤 H 𝓜 𝓡 env .Λ) name (lends callee)

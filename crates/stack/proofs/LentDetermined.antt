@@ -1,4 +1,5 @@
--- Any two answers and any two records at exit that a promise allows are equal, of the calls on the record and of those that lend it.
+-- Any two answers and any two records at exit that a promise allows are equal, of the calls on the
+-- record and of those that lend it.
 use mathlib.Core.Path.{_≡_, refl, sym, ap, _∙_}
 use mathlib.Core.Bool.{cond}
 use lib.Dec.{eqb}
@@ -47,7 +48,8 @@ lent-injective : (r t : Outcome) (s u : ActionStack) → lent r s ≡ lent t u �
 lent-injective r t s u e =
     (sym (outcome-back r s .0) ∙ ap outcomeAt e ∙ outcome-back t u .0, sym (outcome-back r s .1) ∙ ap (λ (x : Told). x .stack) e ∙ outcome-back t u .1)
 
--- the calls on the record, whose clauses are assertions: a promise kept by two answers and two records makes them equal
+-- the calls on the record, whose clauses are assertions: a promise kept by two answers and two
+-- records makes them equal
 module _ {M : Type 1} (𝓤 : URA M) where
   abbrev Determines : Clauses 𝓤 lent-push.ended → Type 1
   Determines c =

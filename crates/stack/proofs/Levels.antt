@@ -1,4 +1,5 @@
--- One level's state is written: that level has it, and every other is as it was. Over every number and every level.
+-- One level's state is written: that level has it, and every other is as it was. Over every number
+-- and every level.
 use mathlib.Core.Path.{_≡_, refl, sym, ap, _∙_}
 use mathlib.Core.Logic.{_≢_}
 use mathlib.Core.Bool.{Bool, true, false}

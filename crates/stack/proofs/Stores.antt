@@ -1,5 +1,6 @@
--- A function of `src/lent.rt` meets its contract: a walk of its MIR, by hand, since no reference to a struct is covered. The five differ in the
--- call by value alone, so the walk is over the call's name and its rule.
+-- A function of `src/lent.rt` meets its contract: a walk of its MIR, by hand, since no reference to
+-- a struct is covered. The five differ in the call by value alone, so the walk is over the call's
+-- name and its rule.
 use mathlib.Core.Path.{_≡_, refl, _∙_}
 use mathlib.Core.Bool.{false}
 use Prim.Native.Nat.{ℕ}
@@ -164,7 +165,8 @@ module _ (rule : ActionStack → Told) {M : Type 1} (𝓤 : URA M) (H : Heap �
             move ! (10 ∷ 11 ∷ 12 ∷ []) $ opens ! tt R {h = h} b o (λ vs.
             spelt ! R (Is R) (shows 𝓤 H A R) (SL.vals S.the-type S′.the-laws) (SL.tells S.the-type S′.the-laws) fullShare h vs b o $
             move ! (1 ∷ []) $ peeks ! R (Is R) (shows 𝓤 H A R) h vals (λ was. move ! (1 ∷ 0 ∷ []) $
-            -- [the record's cell; what it owns; the open borrow; obs; auth; _4; …; _3; …; _2; …; _1; …; room for _0; …]
+            -- [the record's cell; what it owns; the open borrow; obs; auth; _4; …; _3; …; _2; …;
+            -- _1; …; room for _0; …]
             -- _3 = *s, and _2 = callee(_3)
             assigns ! (of-opd ! (load ! (from ! (hop ! (look ! 11 refl) (stop !))) (look-raw ! 0 refl)))
             (from ! (stop !)) (init ! 7 refl (stack-typed W h _ was)) $
@@ -180,7 +182,8 @@ module _ (rule : ActionStack → Told) {M : Type 1} (𝓤 : URA M) (H : Heap �
             calls-at ! fm After known-after (to-after a u)
             (and-then ! (load ! (from ! (stop !)) (look ! 9 refl)) (and-then ! (load ! (from ! (stop !)) (look ! 5 refl)) (no-more !))) (λ v.
             hears ! tt R after.ended tt (a, (h, tt)) (λ r. r ≡ numbers h a .stack) v (λ r e is.
-            -- [what the new stack owns; the cell; the open borrow; obs; auth; _4; …; _3; …; _2; …; _1; …; room for _0; …]
+            -- [what the new stack owns; the cell; the open borrow; obs; auth; _4; …; _3; …; _2; …;
+            -- _1; …; room for _0; …]
             land ! (from ! (stop !)) (store ! 7 refl (stack-typed W r v is)) $
             -- *s = _3
             assigns ! (of-opd ! (load ! (from ! (stop !)) (look ! 7 refl)))
@@ -213,7 +216,8 @@ module _ (rule : ActionStack → Told) {M : Type 1} (𝓤 : URA M) (H : Heap �
       meets =
           walk-meets 𝓤 H A own.ended stayed W (goes-ref 𝓤 H A W 1 0 tt (plain (λ _. R)), tt) leaves go (WpFn-mono 𝓤 H (W .laws) 𝓣 (stores callee)) walks
 
--- the same of the function's own routine: it stands in an environment at its name, beside the three that it calls
+-- the same of the function's own routine: it stands in an environment at its name, beside the three
+-- that it calls
 pub stores-back : (rule : ActionStack → Told) → ((h : ActionStack) → rule h .yes ≡ false) → (name callee : Name) (called : Routine) (env : Env)
     → env callee ≡ called → env after-def.name ≡ after-def.routine → env without-def.name ≡ without-def.routine
     → {M : Type 1} (𝓤 : URA M) (H : Heap 𝓤) (𝓜 : Model 𝓤 H) (𝓖 : GhostRules 𝓤 H) (𝓡 : Running 𝓤 H 𝓜)

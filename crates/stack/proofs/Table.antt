@@ -1,5 +1,5 @@
--- The stack's calls in the words of document 01: what each test says of the four states, what state each mark leaves, what `push`, `pop` and `new` write,
--- and when a call is refused.
+-- The stack's calls in the words of document 01: what each test says of the four states, what state
+-- each mark leaves, what `push`, `pop` and `new` write, and when a call is refused.
 use mathlib.Core.Path.{_≡_, refl, _∙_}
 use mathlib.Core.Bool.{Bool, true, false, _&&_}
 use Prim.Native.Nat.{ℕ, zero, suc, _+_, _-_, _*_, _<_, _≤_}
@@ -107,7 +107,8 @@ pub is-empty-says : (s : ActionStack) → (s .levels ≡ 0 → isEmptyRule s ≡
 unfolding isEmptyRule
 is-empty-says s = (λ e. rw e, λ h l. rw (le-leb (s .levels) 32 l, ne-eqb (s .levels) 0 (omega arith)))
 
--- refusal 10: "pop or state mark of nothing; .. a state test of nothing; any stack call on more than 32 levels"
+-- refusal 10: "pop or state mark of nothing; .. a state test of nothing; any stack call on more
+-- than 32 levels"
 module _ (s : ActionStack) (outside : 1 ≤ s .levels → s .levels ≤ 32 → ⊥) where
   has-none : some s ≡ false
   unfolding some

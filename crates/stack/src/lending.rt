@@ -1,18 +1,19 @@
-// For a caller that holds a stack by value: the stack is lent to the call on the record, and handed back as that call left it. The library makes
-// none of these calls. The program `drive` runs the calls on the record through them.
+// For a caller that holds a stack by value: each function lends the stack to the call on the
+// record, and returns it as that call left it. The library makes none of these calls. The program
+// `drive` runs the calls on the record through them.
 use crate::ActionStack;
 use crate::lent;
 use crate::lent::Outcome;
 ghost use mathlib.Core.Path.{_≡_};
 ghost use Rattle.stack.specs.Calls.{lent, pushRule, goLeftRule, makeMatchRule, goRightRule, popRule};
 
-// What the call answered, and the record after it.
+// What the call returned, and the record after it.
 pub struct After {
     pub outcome: Outcome,
     pub stack: ActionStack,
 }
 
-// The two in one record.
+// Puts the two into one record.
 pub(crate) fn both(outcome: Outcome, stack: ActionStack) -> After
     ensures { λ r. ⌜ (r .outcome ≡ outcome) × (r .stack ≡ stack) ⌝ }
 {

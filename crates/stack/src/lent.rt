@@ -1,18 +1,20 @@
-// The five calls that change a stack, on the record itself, as the Rust's `&mut self` does. Each hands a copy of the record to the call by
-// value, and stores back the stack after it: after a refusal, the one that was there.
+// The five calls that change a stack, on the record itself, as the Rust's `&mut self` does. Each
+// passes a copy of the record to the call by value, and stores the stack after that call. After a
+// refusal the record is unchanged.
 use crate::ActionStack;
 use crate::Answer;
 use words::refusal::Refusal;
 ghost use mathlib.Core.Path.{_≡_};
 ghost use Rattle.stack.specs.Calls.{numbers, lent, outcomeOf, pushRule, goLeftRule, makeMatchRule, goRightRule, popRule};
 
-// What such a call answers; the stack after it is the record.
+// What such a call returns. The stack after it is the record.
 pub enum Outcome {
     Done,
     Refused(Refusal),
 }
 
-// The stack after a call by value on a given one.
+// Returns the stack after a call by value on the stack `given`. If the call was refused, that is
+// `given`.
 pub(crate) fn stack_after(a: Answer, given: ActionStack) -> ActionStack
     ensures { λ r. ⌜ r ≡ numbers given a .stack ⌝ }
 {
@@ -22,7 +24,8 @@ pub(crate) fn stack_after(a: Answer, given: ActionStack) -> ActionStack
     }
 }
 
-// An answer without its stack, and without what was tested: the calls here test nothing.
+// Returns an answer without its stack and without the result of its test. The calls here test
+// nothing.
 pub(crate) fn without_stack(a: Answer) -> Outcome
     ensures { λ r. ⌜ r ≡ outcomeOf a ⌝ }
 {

@@ -1,6 +1,7 @@
-// The stack of a walk: a port of `ActionStack` in src/iter.rs. Each level has a state of two bits, and level j uses the bits 2j and
-// 2j + 1 of one number. Here the stack goes in by value, and a call that changes it hands the new one back; `lent` has those calls on the
-// record itself, and `lending` lends them a stack that is held by value.
+// The stack of a walk: a port of `ActionStack` in src/iter.rs. Each level has a state of two bits.
+// Level j uses the bits 2j and 2j + 1 of one number. Here the stack is passed by value, and a call
+// that changes it returns the new stack. `lent` has those calls on the record itself. `lending`
+// lends them a stack that is held by value.
 pub mod lending;
 pub mod lent;
 
@@ -11,7 +12,8 @@ ghost use Prim.Native.Nat.{_*_, _^_, _≤_, _<_};
 ghost use Rattle.stack.specs.States.{stateAt, putState, start, top, marked, pushed, popped};
 ghost use Rattle.stack.specs.Calls.{some, numbers, pushRule, canGoLeftRule, goLeftRule, canMatchRule, makeMatchRule, canGoRightRule, goRightRule, popRule, isEmptyRule};
 
-// The states of a level, first bit then last: 00 entered, 01 was left, 10 returned, 11 was right. The first bit counts 1, the last one 2.
+// The states of a level, written first bit then last: 00 entered, 01 was left, 10 returned, 11 was
+// right. The first bit counts 1, the last one 2.
 pub const ENTERED: u64 = 0;
 
 pub const WAS_LEFT: u64 = 2;
@@ -25,13 +27,15 @@ pub struct ActionStack {
     pub bits: u64,
 }
 
-// What a call answers: what it tested, false where it tests nothing, and the stack after it; or the refusal.
+// What a call returns: the result of its test and the stack after the call, or the refusal. The
+// result is false if the call tests nothing.
 pub enum Answer {
     Done(bool, ActionStack),
     Refused(Refusal),
 }
 
-// The state of a level. Without the levels below it, its two bits are bit 0 and bit 1, and each is read by its weight.
+// Returns the state of a level. The shift removes the levels below it. The level's two bits are
+// then bit 0 and bit 1, and each is read by its weight.
 pub fn state_at(bits: u64, level: u64) -> u64
     requires { ⌜ level < 32 ⌝ }
     ensures { λ r. ⌜ r ≡ stateAt bits level ⌝ }
@@ -42,8 +46,9 @@ pub fn state_at(bits: u64, level: u64) -> u64
     (own & first) + (own & last)
 }
 
-// The weight of the first of a level's two bits, bit 2 * level. A byte has the bits of four levels: the table has their weights in it, and
-// each byte below weighs eight bits more.
+// Returns the weight of the first of a level's two bits, bit 2 * level. A byte holds the bits of
+// four levels. The table gives the bit's weight in its byte, which is shifted by eight bits for
+// each byte below.
 fn level_weight(level: u64) -> u64
     requires { ⌜ level < 32 ⌝ }
     ensures { λ r. ⌜ r ≡ 4 ^ level ⌝ }
@@ -52,7 +57,8 @@ fn level_weight(level: u64) -> u64
     in_byte << (8 * (level / 4))
 }
 
-// The bits with another state at a level: the old state is taken away at its weight, and the new one is added.
+// Returns the bits with another state at a level: subtracts the old state at the level's weight,
+// and adds the new one.
 pub fn put_state(bits: u64, level: u64, state: u64) -> u64
     requires { ⌜ (level < 32) × (state < 4) ⌝ }
     ensures { λ r. ⌜ r ≡ putState bits level state ⌝ }
@@ -63,21 +69,21 @@ pub fn put_state(bits: u64, level: u64, state: u64) -> u64
 }
 
 impl ActionStack {
-    // One level, just entered.
+    // Returns a stack with one level, which was just entered.
     pub fn new() -> ActionStack
         ensures { λ r. ⌜ r ≡ start ⌝ }
     {
         ActionStack { levels: 1, bits: 0 }
     }
 
-    // Whether there is a top level, and no more than 32 of them.
+    // Whether there is a top level, and there are at most 32 levels.
     fn has_top(self) -> bool
         ensures { λ r. ⌜ r ≡ some self ⌝ }
     {
         (1 <= self.levels) & (self.levels <= 32)
     }
 
-    // The state of the top level.
+    // Returns the state of the top level.
     pub fn top(self) -> u64
         requires { ⌜ (1 ≤ self .levels) × (self .levels ≤ 32) ⌝ }
         ensures { λ r. ⌜ r ≡ top self ⌝ }
@@ -85,7 +91,7 @@ impl ActionStack {
         state_at(self.bits, self.levels - 1)
     }
 
-    // The top level gets another state.
+    // Gives the top level another state.
     pub fn mark(self, state: u64) -> ActionStack
         requires { ⌜ (1 ≤ self .levels) × (self .levels ≤ 32) × (state < 4) ⌝ }
         ensures { λ r. ⌜ r ≡ marked state self ⌝ }
@@ -97,7 +103,7 @@ impl ActionStack {
         }
     }
 
-    // A level is added, just entered.
+    // Adds a level, which was just entered.
     pub fn deepen(self) -> ActionStack
         requires { ⌜ self .levels < 32 ⌝ }
         ensures { λ r. ⌜ r ≡ pushed self ⌝ }
@@ -109,7 +115,7 @@ impl ActionStack {
         }
     }
 
-    // The top level is cleared and taken away.
+    // Clears the top level and removes it.
     pub fn shorten(self) -> ActionStack
         requires { ⌜ (1 ≤ self .levels) × (self .levels ≤ 32) ⌝ }
         ensures { λ r. ⌜ r ≡ popped self ⌝ }
@@ -141,7 +147,7 @@ impl ActionStack {
         }
     }
 
-    // Sets the last bit and keeps the first.
+    // Sets the last bit of the top level and keeps the first.
     pub fn go_left(self) -> Answer
         ensures { λ r. ⌜ numbers self r ≡ goLeftRule self ⌝ }
     {

@@ -1,4 +1,5 @@
--- The tree that the table reads off the links is the check's, so its t and its bound are those of demand 3.
+-- The tree that the table reads off the links is the check's, so its t and its bound are those of
+-- demand 3.
 use mathlib.Core.Path.{_≡_, refl}
 use mathlib.Core.Bool.{true, false}
 use mathlib.Core.List.{List}

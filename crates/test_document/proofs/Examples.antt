@@ -38,7 +38,8 @@ use Rattle.test_document.specs.Rows.{Each, outcome, stepsFrom, foundFrom
 use Rattle.test_document.specs.Table.{storeA, storeA′, storeB, storeC, table}
 use Rattle.tree_edit.specs.Rounds.{loop}
 
--- What the rows compute with, layer by layer: to unfold one of these names is to unfold all that its line names.
+-- What the rows compute with, layer by layer: to unfold one of these names is to unfold all that
+-- its line names.
 reading : Unit {0}
 unfolding onLink word put putEntry putHull swap joined hullOf fix putNode bit putBit bitAt setBit
 reading = record {}

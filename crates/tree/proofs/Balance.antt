@@ -9,7 +9,8 @@ use Rattle.tree.specs.Tree.{Tree, leaf, node, size, height}
 use Rattle.tree.specs.RedBlack.{blackOf, rootRed, blacks, RedBlack}
 use Rattle.tree.proofs.Cases.{compare}
 
--- one node more on the longest way down: b blacks below a node with the colour d, and a nodes on the way below it
+-- one node more on the longest way down: b blacks below a node with the colour d, and a nodes on
+-- the way below it
 tall-step : (b a : ℕ) (d : Bool) → (d ≡ true → a ≤ 2 * b + 0) → 2 ^ (blackOf d + b) + 2 ^ (suc a - (blackOf d + b)) ≤ 2 ^ b + 2 ^ b + 2 ^ (a - b)
 tall-step b a true f =
     rw zero-add (compare b a

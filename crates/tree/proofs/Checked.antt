@@ -1,4 +1,5 @@
--- What every store that passes has: one tree, of live slots, each once, as many as the count; and it is low.
+-- What every store that passes has: one tree, of live slots, each once, as many as the count; and
+-- it is low.
 use mathlib.Core.Path.{_≡_}
 use mathlib.Core.List.{List}
 use Prim.Native.Nat.{ℕ, _<_, _≤_}

@@ -1,4 +1,5 @@
--- A tree, and a way up, stay where the words that they name stay; and the way from a place to the root and back.
+-- A tree, and a way up, stay where the words that they name stay; and the way from a place to the
+-- root and back.
 use lib.ListN.{length}
 use mathlib.Core.Path.{_≡_, refl, sym, _∙_}
 use mathlib.Core.Logic.{_≢_}

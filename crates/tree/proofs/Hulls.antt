@@ -1,4 +1,5 @@
--- Laws of the least and the greatest, each proved once over the operation; and the hull of a node from its children's hulls.
+-- Laws of the least and the greatest, each proved once over the operation; and the hull of a node
+-- from its children's hulls.
 use mathlib.Core.Path.{_≡_, refl, sym, ap, _∙_}
 use mathlib.Core.List.{List}
 use Prim.Native.Nat.{ℕ, _<_, _≤_, min, max}

@@ -1,4 +1,5 @@
--- Where nothing that a slot holds changes, the view stays; and order, hulls and colours go by the view alone.
+-- Where nothing that a slot holds changes, the view stays; and order, hulls and colours go by the
+-- view alone.
 use mathlib.Core.Path.{_≡_, refl, sym, ap, _∙_}
 use mathlib.Core.Bool.{Bool}
 use mathlib.Core.List.{List, _∷_, map, map-append}

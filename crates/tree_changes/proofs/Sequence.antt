@@ -1,5 +1,5 @@
--- Insertions and removals one after the other: the store passes after each, what lies above the arena stays, and room that a removal gives up is
--- used again.
+-- Insertions and removals one after the other: the store passes after each, what lies above the
+-- arena stays, and room that a removal gives up is used again.
 use mathlib.Core.Path.{_≡_, refl}
 use mathlib.Core.List.{List, [], _∷_, map}
 use Prim.Native.Nat.{ℕ, _+_, _-_, _<_, _≤_}
@@ -60,8 +60,9 @@ ran (x ∷ l) S n m small fit bits q h t =
     ran l T (counted n x) m small (rw (i .words-length) fit) (rw (i .colours-length) bits) (counted-most x n m q (t .0))
     (changed-passes x S n m small fit bits q h (t .0)) (t .1)
 
--- "Room given up by removals is used again, since slot count is always the next one": an arena that is full takes a new entry after any removal,
--- in the slot that the removal emptied, and is full again
+-- "Room given up by removals is used again, since slot count is always the next one": an arena that
+-- is full takes a new entry after any removal, in the slot that the removal emptied, and is full
+-- again
 module _ (W C : List ℕ) (n r s : ℕ) (e : Entry) (small : n ≤ 65535) (fit : Holds W n) (bits : HoldsBits C n) (ls : s < n)
     (proper : e .start < e .end) (h : Passes W C n r) where
   abbrev T : Store

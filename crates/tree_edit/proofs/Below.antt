@@ -1,5 +1,5 @@
--- "Slots from count up are not read": on two stores that agree below the count, what insertion and removal write with agrees below the count, and as many
--- hulls change.
+-- "Slots from count up are not read": on two stores that agree below the count, what insertion and
+-- removal write with agrees below the count, and as many hulls change.
 use mathlib.Core.Path.{_≡_, refl, sym, _∙_}
 use mathlib.Core.Bool.{Bool, true, false, cond, not}
 use mathlib.Core.List.{List, [], _∷_, _++_}

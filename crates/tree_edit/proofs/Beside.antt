@@ -1,4 +1,5 @@
--- Hulls: the trees beside the way up from a place keep their right hulls while entries change on the way, and through a rotation.
+-- Hulls: the trees beside the way up from a place keep their right hulls while entries change on
+-- the way, and through a rotation.
 use mathlib.Core.Path.{_≡_, refl}
 use mathlib.Core.Bool.{Bool, true, false}
 use mathlib.Core.List.{List, [], _∷_, _++_}

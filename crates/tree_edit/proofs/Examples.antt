@@ -5,8 +5,8 @@ use Rattle.words.specs.Ix.{U, onLink}
 use Rattle.words.specs.Nodes.{word, put, putHull, joined, hullOf, altered, fix}
 use Rattle.tree_edit.specs.Reach.{differs, changes, upHulls}
 
--- The walk from slot 0, which holds [0, 100), is below slot 2 and has a hull that is right: it goes on, and the hull of slot 2, which came up over it
--- in a rotation, changes.
+-- The walk from slot 0, which holds [0, 100), is below slot 2 and has a hull that is right: it goes
+-- on, and the hull of slot 2, which came up over it in a rotation, changes.
 pub reach-past : changes 4 (upHulls 4 32
     (0 ∷ 100 ∷ 1 ∷ 0 ∷ 100 ∷ U ∷ U ∷ 2 ∷
     0 ∷ 50 ∷ 2 ∷ 0 ∷ 50 ∷ U ∷ U ∷ 0 ∷

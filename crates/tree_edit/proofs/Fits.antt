@@ -1,4 +1,5 @@
--- Colours at a place. `Fits K c m red`: the way up c takes a tree with m blacks on each way down, whose root is red as told.
+-- Colours at a place. `Fits K c m red`: the way up c takes a tree with m blacks on each way down,
+-- whose root is red as told.
 use mathlib.Core.Path.{_≡_, refl, sym, _∙_}
 use mathlib.Core.Bool.{Bool, true, false}
 use mathlib.Core.List.{List, [], _∷_}

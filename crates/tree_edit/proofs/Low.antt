@@ -1,4 +1,5 @@
--- What holds on any words, whatever they hold: each writer of the rule writes to slots below the count alone.
+-- What holds on any words, whatever they hold: each writer of the rule writes to slots below the
+-- count alone.
 use mathlib.Core.Path.{_≡_, refl, _∙_}
 use mathlib.Core.Bool.{Bool, true}
 use mathlib.Core.List.{List}

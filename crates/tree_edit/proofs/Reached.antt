@@ -1,4 +1,5 @@
--- Between the hulls that are worked out one after the other no hull changes, and how many of them change. On any words.
+-- Between the hulls that are worked out one after the other no hull changes, and how many of them
+-- change. On any words.
 use mathlib.Core.Path.{_≡_, refl, _∙_}
 use mathlib.Core.Bool.{Bool, true, false, cond}
 use mathlib.Core.List.{List, [], _∷_, _++_}

@@ -1,4 +1,5 @@
--- Shape and slots: the sibling S of a place comes up into the place of its parent P, and the words that the repair writes hold the rotated tree.
+-- Shape and slots: the sibling S of a place comes up into the place of its parent P, and the words
+-- that the repair writes hold the rotated tree.
 use mathlib.Core.Path.{_≡_, refl, sym, _∙_}
 use mathlib.Core.Logic.{_≢_}
 use mathlib.Core.Bool.{Bool, true, false, not}
@@ -59,7 +60,8 @@ off-parent W n r (frame b a far ∷ c) g P s m h q z e =
     let y : occs a (frame b a far ∷ c) ≡ 0 = rw x at z in
     omega (arith, hit-same a)
 
--- The words X come from W by this rotation: the sibling S, on the far side of P, goes up over P, and S's near child goes to P.
+-- The words X come from W by this rotation: the sibling S, on the far side of P, goes up over P,
+-- and S's near child goes to P.
 pub record Rotated (n : ℕ) (W X : List ℕ) (b : Bool) (P S : ℕ) : Type 0 where
   pub kids : (d : Bool) (s : ℕ) → s ≢ P → s ≢ S → s ≢ par W P → kid X d s ≡ kid W d s
   pub pars : (s : ℕ) → s ≢ P → s ≢ S → s ≢ kid W b S → par X s ≡ par W s

@@ -1,4 +1,5 @@
--- Hulls: where a hull is worked out from its children's, and the walk up to the root that leaves every hull right.
+-- Hulls: where a hull is worked out from its children's, and the walk up to the root that leaves
+-- every hull right.
 use mathlib.Core.Path.{_≡_, refl, ap, fun-ext, _∙_, sym}
 use mathlib.Core.Bool.{Bool, true, false, not}
 use mathlib.Core.List.{List, [], _∷_, _++_}
@@ -129,7 +130,8 @@ module _ (n : ℕ) where
   fixUp-stops zero W k h = refl
   fixUp-stops (suc height) W k h = rw (on-none n k h)
 
--- the rotation of the fourth case, after which the hulls of S and then of Q are worked out: X are the rotated words
+-- the rotation of the fourth case, after which the hulls of S and then of Q are worked out: X are
+-- the rotated words
 pub by-four : (W X : List ℕ) (n p k : ℕ) (b : Bool) (P Q S : ℕ) (A B D : Tree) (i c : List Frame) → n ≤ 65535 → Holds X n
     → ((a : ℕ) → Kept W X a)
     → ((a : ℕ) → occs a i + (occ a A + hit a Q + (occ a B + hit a S + occ a D)) + occs a c ≤ 1)

@@ -9,7 +9,7 @@ ghost use Prim.Native.Nat.{_<_};
 ghost use Rattle.words.specs.Nodes.{kid, Has, Holds};
 ghost use Rattle.tree_in_rule.specs.Descent.{goesLeft, descend, under};
 
-// The new interval is less than that of slot k. An equal one goes right.
+// Whether the new interval is less than that of slot k. An equal one goes right.
 pub(crate) fn goes_left(nodes: &[u64], interval: Interval, k: u64) -> bool
     requires { ⌜ Has (now nodes) k ⌝ }
     ensures { λ r. ⌜ r ≡ goesLeft (now (nodes .entry)) interval k ⌝ }
@@ -17,7 +17,7 @@ pub(crate) fn goes_left(nodes: &[u64], interval: Interval, k: u64) -> bool
     !interval_of(nodes, k).le(interval)
 }
 
-// The link word of slot k on the side that the new interval goes to.
+// Returns the link word of slot k on the side that the new interval goes to.
 fn next_down(nodes: &[u64], interval: Interval, k: u64) -> u64
     requires { ⌜ Has (now nodes) k ⌝ }
     ensures { λ r. ⌜ r ≡ kid (now (nodes .entry)) (goesLeft (now (nodes .entry)) interval k) k ⌝ }
@@ -25,7 +25,8 @@ fn next_down(nodes: &[u64], interval: Interval, k: u64) -> u64
     child_of(nodes, k, goes_left(nodes, interval, k))
 }
 
-// The slot from `top` down under which there is nothing on the side to go to.
+// Goes down from `top`, at most 32 links. Returns the last slot. In a store that passes the check
+// of crate audit that slot has no child on the side that the new interval goes to.
 fn last_down(nodes: &[u64], count: u64, top: u64, interval: Interval) -> u64
     requires { ⌜ Holds (now nodes) count × (top < count) ⌝ }
     ensures { λ r. ⌜ r ≡ descend count 32 (now (nodes .entry)) interval top ⌝ }
@@ -42,7 +43,7 @@ fn last_down(nodes: &[u64], count: u64, top: u64, interval: Interval) -> u64
     current
 }
 
-// The way down: the slot that the new node hangs under, U if the map is empty.
+// Returns the slot that the new node hangs under, or U, the undefined link, if the map is empty.
 pub(crate) fn insert_inner(nodes: &[u64], count: u64, root: u64, interval: Interval) -> u64
     requires { ⌜ Holds (now nodes) count ⌝ }
     ensures { λ r. ⌜ r ≡ under count (now (nodes .entry)) root interval ⌝ }

@@ -1,5 +1,6 @@
-// The insertion of one entry: the crate's `force_insert` and what it calls. Each function works on any words; in a store that
-// passes the check a way down is never longer than 32.
+// The insertion of one entry: the Rust crate's `force_insert` and what it calls. Each function
+// works on any words. In a store that passes the check of crate audit a way down is never longer
+// than 32.
 pub mod descent;
 pub mod repair;
 
@@ -23,7 +24,7 @@ ghost use Rattle.tree_in_rule.specs.Insert.{own, hungNode, hungWords, hungRoot,
 ghost use Rattle.tree_in_rule.specs.Reach.{insertAtHulls, insertHulls};
 ghost use Rattle.words.specs.Nodes.{Has, HasBit};
 
-// The interval of an entry.
+// Returns the interval of an entry.
 fn interval_in(entry: Entry) -> Interval
     ensures { λ r. ⌜ r ≡ own entry ⌝ }
 {
@@ -33,7 +34,8 @@ fn interval_in(entry: Entry) -> Interval
     }
 }
 
-// Slot `index` holds a new node below the link word `parent`. It starts with its own interval as hull.
+// Writes a new node to slot `index`, below the link word `parent`. Its hull is its own interval at
+// first. The hull of a node is the least interval that contains the intervals of its subtree.
 fn new_node(nodes: &mut [u64], index: u64, entry: Entry, parent: u64)
     requires { ⌜ Has (now nodes) index ⌝ }
     ensures { λ _. ⌜ now (nodes .exit) ≡ hungNode (now (nodes .entry)) index entry parent ⌝ }
@@ -42,7 +44,8 @@ fn new_node(nodes: &mut [u64], index: u64, entry: Entry, parent: u64)
     put_node(nodes, index, entry, interval, U, U, parent);
 }
 
-// The new node in slot `count`, with a link from its parent where there is one; the answer is the root.
+// Writes the new node to slot `count`, and a link from its parent if there is one. Returns the
+// root.
 fn hang_node(nodes: &mut [u64], count: u64, root: u64, entry: Entry, parent: u64) -> u64
     requires { ⌜ Has (now nodes) count ⌝ }
     ensures { λ r. ⌜ (r ≡ hungRoot count root parent) × (now (nodes .exit) ≡ hungWords (now (nodes .entry)) count entry parent) ⌝ }
@@ -57,7 +60,7 @@ fn hang_node(nodes: &mut [u64], count: u64, root: u64, entry: Entry, parent: u64
     root
 }
 
-// Hangs the new red node in slot `count` below the link word `parent`; the answer is the root.
+// Hangs the new red node in slot `count` below the link word `parent`. Returns the root.
 fn hang_red(
     nodes: &mut [u64],
     colours: &mut [u8],
@@ -73,8 +76,8 @@ fn hang_red(
     hang_node(nodes, count, root, entry, parent)
 }
 
-// Hangs the new node, repairs the tree from it, and then works out its hull and those of all above it. The answer is the root
-// and how many hulls changed.
+// Hangs the new node, repairs the tree from it, and then computes its hull and all hulls above it
+// anew. Returns the root and how many hulls changed.
 fn insert_at(
     nodes: &mut [u64],
     colours: &mut [u8],
@@ -96,8 +99,8 @@ fn insert_at(
     }
 }
 
-// The new entry goes to slot `count`, and the count is one more then. The answer is the root and how many hulls changed. Equal
-// intervals are kept.
+// Inserts the new entry in slot `count`. The count is one more then. Returns the root and how many
+// hulls changed. Equal intervals are kept.
 pub fn force_insert(
     nodes: &mut [u64],
     colours: &mut [u8],

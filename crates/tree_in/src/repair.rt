@@ -1,4 +1,5 @@
-// The repair after an insertion: recolour while the uncle is red, otherwise one or two rotations, root black last.
+// The repair after an insertion. It recolours while the uncle, the parent's sibling, is red.
+// Otherwise it makes one or two rotations. If it reaches the root, it makes the root black.
 use bitvec::colours::is_black_or_nil;
 use bitvec::colours::is_red;
 use bitvec::colours::set_black;
@@ -24,8 +25,10 @@ ghost use Rattle.tree_links.specs.Answers.{next, reach};
 ghost use Rattle.tree_in_rule.specs.InsertRepair.{rotated, outer, inner, insertRoundAt, insertRoundBelow, insertRound, insertRepair};
 ghost use Rattle.tree_in_rule.specs.Reach.{rotatedHulls, outerHulls, innerHulls, insertRoundAtHulls, insertRoundBelowHulls, insertRoundHulls, insertRepairHulls};
 
-// Rotates left where `left_side`, else right: slot `up`, the child of `index` on the other side, comes up over it. The hull of
-// the one that went down is worked out first: the other's depends on it.
+// Rotates left if `left_side` is true, else right: slot `up`, the child of `index` on the other
+// side, takes its place. The hull of a slot is the least interval that contains the intervals of
+// its subtree. The hull of `index`, which went down, is computed first, because that of `up`
+// depends on it.
 fn rotate(
     nodes: &mut [u64],
     count: u64,
@@ -46,8 +49,8 @@ fn rotate(
     }
 }
 
-// The parent, on that side of the grandparent, comes up over it: the parent becomes black and the
-// grandparent red. In this round `before` hulls changed already.
+// The parent, which is on the given side of the grandparent, takes the grandparent's place. The
+// parent becomes black and the grandparent red. `before` hulls changed already in this round.
 fn rotate_outer(
     nodes: &mut [u64],
     colours: &mut [u8],
@@ -71,8 +74,8 @@ fn rotate_outer(
     }
 }
 
-// The slot `index` is the child of its parent on the other side: it comes up over the parent first. The root stays, since
-// the parent has one too.
+// The slot `index` is the child of its parent on the other side, and takes the parent's place
+// first. The root stays unchanged, since the parent has a parent too.
 fn rotate_inner(
     nodes: &mut [u64],
     colours: &mut [u8],
@@ -100,7 +103,7 @@ fn rotate_inner(
     )
 }
 
-// Parent and uncle become black, the grandparent red.
+// Makes the parent and the uncle black, and the grandparent red.
 fn recolour(colours: &mut [u8], parent: u64, uncle: u64, grandparent: u64)
     requires { ⌜ HasBit (now colours) parent × HasBit (now colours) uncle × HasBit (now colours) grandparent ⌝ }
     ensures { λ _. ⌜ now (colours .exit) ≡ paint (paint (paint (now (colours .entry)) parent false) uncle false) grandparent true ⌝ }
@@ -110,7 +113,7 @@ fn recolour(colours: &mut [u8], parent: u64, uncle: u64, grandparent: u64)
     set_red(colours, grandparent);
 }
 
-// One round where the uncle is not red.
+// Does one round if the uncle is not red.
 fn round_rotated(
     nodes: &mut [u64],
     colours: &mut [u8],
@@ -154,7 +157,7 @@ fn round_rotated(
     )
 }
 
-// One round, with the grandparent at hand and the side of it that the parent is on.
+// Does one round, given the grandparent and the side of it that the parent is on.
 fn round_at(
     nodes: &mut [u64],
     colours: &mut [u8],
@@ -190,7 +193,8 @@ fn round_at(
     }
 }
 
-// One round below a red parent. In a store that passes the check it has a parent too, since the root is black.
+// Does one round below a red parent. In a store that passes the check of crate audit the parent has
+// a parent too, since the root is black.
 fn round_below(
     nodes: &mut [u64],
     colours: &mut [u8],
@@ -219,7 +223,7 @@ fn round_below(
     )
 }
 
-// One round of the loop, at the red slot `index`.
+// Does one round of the loop, at the red slot `index`.
 fn one_round(nodes: &mut [u64], colours: &mut [u8], count: u64, root: u64, index: u64) -> Next
     requires { ⌜ Holds (now nodes) count × HoldsBits (now colours) count × (index < count) ⌝ }
     ensures { λ r. ⌜ (next r (now (nodes .exit)) (now (colours .exit)) ≡ insertRound count (now (nodes .entry)) (now (colours .entry)) root index)
@@ -235,8 +239,8 @@ fn one_round(nodes: &mut [u64], colours: &mut [u8], count: u64, root: u64, index
     Next::Done { root, reach: 0 }
 }
 
-// Repairs the tree from the red slot `index` upward. Each round that goes on goes up two levels, so in a store that passes the
-// check 32 rounds are enough.
+// Repairs the tree from the red slot `index` upward. Each round that does not end the repair goes
+// up two levels, so in a store that passes the check 32 rounds are enough.
 pub(crate) fn insert_repair(
     nodes: &mut [u64],
     colours: &mut [u8],

@@ -1,5 +1,6 @@
--- "Slots from count up are not read", of an insertion on any words with room for it: on two stores that agree below the count it leaves stores, one
--- root among them, that agree up to the new slot, and as many hulls change.
+-- "Slots from count up are not read", of an insertion on any words with room for it: on two stores
+-- that agree below the count it leaves stores, one root among them, that agree up to the new slot,
+-- and as many hulls change.
 use mathlib.Core.Path.{_≡_, refl, sym, ap, _∙_}
 use mathlib.Core.Bool.{Bool, true, false, cond, not}
 use mathlib.Core.List.{List, []}

@@ -1,4 +1,5 @@
--- A greater number of links down than the rule's 32 comes to the same; `loop-more` and `fixUp-more` of tree_edit say it of the rounds and of the hulls.
+-- A greater number of links down than the rule's 32 comes to the same; `loop-more` and `fixUp-more`
+-- of tree_edit say it of the rounds and of the hulls.
 use mathlib.Core.Path.{_≡_, refl}
 use mathlib.Core.List.{List}
 use Prim.Native.Nat.{ℕ, zero, suc, _≤_}

@@ -1,4 +1,5 @@
--- Insertions worked out by the rule: each store is the one that tests/model.py leaves, and so is the sum of changed hulls.
+-- Insertions worked out by the rule: each store is the one that tests/model.py leaves, and so is
+-- the sum of changed hulls.
 use mathlib.Core.Path.{_≡_, refl}
 use mathlib.Core.List.{List, [], _∷_}
 use Prim.Native.Nat.{ℕ, _+_}
@@ -129,8 +130,9 @@ pub uncle-in-A : filled storeA 5 (entryOf 10 30 6 ∷ entryOf 10 25 7 ∷ []) �
 unfolding reading linking inserting
 uncle-in-A = refl
 
--- how many hulls change: [12, 14) goes between [10, 15) red and [20, 30), by two rotations. The hulls of slots 1 and 2, then those of slots 0 and 2: all but
--- that of slot 1; and none on the way up.
+-- how many hulls change: [12, 14) goes between [10, 15) red and [20, 30), by two rotations. The
+-- hulls of slots 1 and 2, then those of slots 0 and 2: all but that of slot 1; and none on the way
+-- up.
 pub inner-reach : changes 3 (insertHulls
     (20 ∷ 30 ∷ 1 ∷ 10 ∷ 30 ∷ 1 ∷ U ∷ U ∷
     10 ∷ 15 ∷ 2 ∷ 10 ∷ 15 ∷ U ∷ U ∷ 0 ∷

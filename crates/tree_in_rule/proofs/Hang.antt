@@ -35,7 +35,8 @@ above-more W n r (frame b s far ∷ c) p k h =
       rest = above-more W n r c (par W s) s (h .rest);
     }
 
--- The new node at its place, in the words X with the root q: the way up from it, and that the entries lie parted around it.
+-- The new node at its place, in the words X with the root q: the way up from it, and that the
+-- entries lie parted around it.
 pub record Hung (W : List ℕ) (n : ℕ) (x : Interval) (t : Tree) (X : List ℕ) (q : ℕ) : Type 0 where
   pub c : List Frame
   pub p : ℕ

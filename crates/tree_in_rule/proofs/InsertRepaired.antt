@@ -1,4 +1,5 @@
--- The repair, step by step on the bytes: each round goes up two slots or ends, so that 32 rounds suffice.
+-- The repair, step by step on the bytes: each round goes up two slots or ends, so that 32 rounds
+-- suffice.
 use mathlib.Core.Path.{_≡_, refl, sym, _∙_}
 use mathlib.Core.Bool.{Bool, true, false, not}
 use mathlib.Core.List.{List, [], _∷_}

@@ -1,6 +1,8 @@
 -- The whole insertion. Four separate arguments meet here.
--- Shape and slots: HungWords, Hang, Rotate. Entries and order: Ways, Between. Hulls: Partly. Colours: Reds.
--- They are joined along the rule: Hang up to the repair, Loop and InsertRepaired for the repair itself. Inside holds on any words, whatever tree there is.
+-- Shape and slots: HungWords, Hang, Rotate. Entries and order: Ways, Between. Hulls: Partly.
+-- Colours: Reds.
+-- They are joined along the rule: Hang up to the repair, Loop and InsertRepaired for the repair
+-- itself. Inside holds on any words, whatever tree there is.
 use mathlib.Core.Path.{_≡_, refl, ap, _∙_}
 use mathlib.Core.Logic.{_≢_}
 use mathlib.Core.Bool.{Bool, true, false}

@@ -1,4 +1,5 @@
--- An insertion on any words, whatever they hold: it writes to slots up to the new one alone, and moves no entry.
+-- An insertion on any words, whatever they hold: it writes to slots up to the new one alone, and
+-- moves no entry.
 use mathlib.Core.Path.{_≡_, refl, _∙_}
 use mathlib.Core.Logic.{_≢_}
 use mathlib.Core.Bool.{Bool, true, false, cond, not}

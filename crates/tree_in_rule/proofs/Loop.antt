@@ -1,4 +1,5 @@
--- The invariant of the repair's loop, where shape, order, hulls and colours meet; and that each round of it keeps it or ends it.
+-- The invariant of the repair's loop, where shape, order, hulls and colours meet; and that each
+-- round of it keeps it or ends it.
 use mathlib.Core.Path.{_≡_, refl, sym, _∙_}
 use mathlib.Core.Logic.{_≢_}
 use mathlib.Core.Bool.{Bool, true, false, not, false≢true, true≢false}
@@ -33,7 +34,8 @@ rooted true l x e false = (e, l, refl)
 rooted false l x e true = (e, l, refl)
 rooted false l x e false = (l, e, refl)
 
--- The red slot x stands where the way up c takes no red root: a black one with as many blacks would fit.
+-- The red slot x stands where the way up c takes no red root: a black one with as many blacks would
+-- fit.
 pub record LoopInvariant (n z : ℕ) (base W : List ℕ) (K : ℕ → Bool) (r x p : ℕ) (c : List Frame) (t : Tree) (m : ℕ) : Type 0 where
   pub placed : Placed W n z base r x p c t
   pub root : Rooted x t
@@ -81,7 +83,8 @@ placed-up W n z base r ix p b s far c t h =
       has = omega (arith, h .has);
     }
 
--- The child T of G, on the side b, comes up over G, and T becomes black and G red: X and Y are T's subtrees, and u is G's other one.
+-- The child T of G, on the side b, comes up over G, and T becomes black and G red: X and Y are T's
+-- subtrees, and u is G's other one.
 pub crowned : (W : List ℕ) (n z : ℕ) (base : List ℕ) (K : ℕ → Bool) (r p : ℕ) (b : Bool) (T G : ℕ) (c : List Frame) (X Y u : Tree) (m : ℕ)
     → Placed W n z base r G p c (bin b (bin b X T Y) G u) → BlackHeight K m X → BlackRoot K m Y → BlackRoot K m u → Fits K c (1 + m) false
     → Settled n z base (rotated n W (not b) G T) (withColour (withColour K T false) G true) (rootAfter n W r G T)

@@ -1,4 +1,5 @@
--- Hulls while the repair runs: those of the subtrees that the new slot z is not in are right. A rotation keeps that, by working out two hulls.
+-- Hulls while the repair runs: those of the subtrees that the new slot z is not in are right. A
+-- rotation keeps that, by working out two hulls.
 use mathlib.Core.Path.{_≡_}
 use mathlib.Core.Bool.{Bool, true, false}
 use mathlib.Core.List.{List, [], _∷_}
@@ -67,7 +68,8 @@ partly-same W X z (node l s r) f h = (
 pub partly-fix : (n : ℕ) (W : List ℕ) (z s : ℕ) (t : Tree) → occ s t ≡ 0 → Partly W z t → Partly (fix n W s) z t
 partly-fix n W z s t o = partly-same W (fix n W s) z t (λ a i g q. word-fix-slot n W s g a (apart a s t o i))
 
--- S came up over P by a rotation, and the hulls of P and then of S are worked out: X are the rotated words
+-- S came up over P by a rotation, and the hulls of P and then of S are worked out: X are the
+-- rotated words
 module _ (X : List ℕ) (n z p k : ℕ) (b : Bool) (P S : ℕ) (t C D : Tree) (small : n ≤ 65535) (room : Holds X n)
     (one : (a : ℕ) → occ a t + hit a P + occ a C + hit a S + occ a D ≤ 1) (sh : Shape X n p k (bin b (bin b t P C) S D)) where
   abbrev Y : List ℕ

@@ -1,4 +1,5 @@
--- Between the hulls that an insertion works out, one after the other, no hull changes once the new node is hung. On any words.
+-- Between the hulls that an insertion works out, one after the other, no hull changes once the new
+-- node is hung. On any words.
 use mathlib.Core.Path.{_≡_, refl, _∙_}
 use mathlib.Core.Logic.{_≢_}
 use mathlib.Core.Bool.{Bool, true, false, cond, not}

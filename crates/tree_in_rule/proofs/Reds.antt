@@ -1,4 +1,5 @@
--- Colours: trees with m blacks on each way down, and what becomes of them when a root is made black or red.
+-- Colours: trees with m blacks on each way down, and what becomes of them when a root is made black
+-- or red.
 use mathlib.Core.Path.{_≡_, sym, _∙_}
 use mathlib.Core.Bool.{Bool, true, false, false≢true}
 use mathlib.Core.List.{List}

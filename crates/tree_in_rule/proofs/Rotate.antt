@@ -19,7 +19,8 @@ use Rattle.tree_edit.proofs.Rows.{rotated-slots}
 use Rattle.tree_in_rule.specs.InsertRepair.{rotated}
 use Rattle.tree_in_rule.proofs.Partly.{Partly, open-partly, partly-same, partly-rotated}
 
--- A tree at a place, with its slots in tree order; hulls are right beside the way, and in the subtrees that the new slot z is not in.
+-- A tree at a place, with its slots in tree order; hulls are right beside the way, and in the
+-- subtrees that the new slot z is not in.
 pub record Placed (W : List ℕ) (n z : ℕ) (base : List ℕ) (r ix p : ℕ) (c : List Frame) (t : Tree) : Type 0 where
   pub stand : Stand W n r ix p c t
   pub order : slots (plug c t) ≡ base

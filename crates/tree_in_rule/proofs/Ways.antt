@@ -1,4 +1,5 @@
--- Entries and order: the way down to the place of a new entry has those that are not greater before it, and the greater ones after it.
+-- Entries and order: the way down to the place of a new entry has those that are not greater before
+-- it, and the greater ones after it.
 use mathlib.Core.Path.{_≡_, refl, sym, ap, _∙_}
 use mathlib.Core.Bool.{Bool, true, false, not, true≢false}
 use mathlib.Core.List.{List, [], _∷_, _++_, append-assoc, append-nil}
@@ -41,7 +42,8 @@ by-near X true l s r f = f true l r refl
 by-near X false l s r f = f false r l refl
 
 module _ (W : List ℕ) (x : Interval) where
-  -- at each step of a way, what it leaves to the left is not greater than x, and what it leaves to the right is greater
+  -- at each step of a way, what it leaves to the left is not greater than x, and what it leaves to
+  -- the right is greater
   abbrev pub Parted : List Frame → Type 0
   Parted [] = Unit {0}
   Parted (frame b s far ∷ c) = ((a : ℕ) → 0 < hit a s + occ a far → le (interval W a) x ≡ not b) × Parted c
@@ -62,7 +64,8 @@ module _ (W : List ℕ) (x : Interval) where
       rw (times-append a (slots far) (back c), times-slots a far) in
       compare (times a (back c)) 0 (λ q. h .0 a (omega arith)) (λ q. back-gt c (h .1) a q)
 
-  -- the slot p has nothing on the side that the new entry goes to, and all the tree lies parted around that place
+  -- the slot p has nothing on the side that the new entry goes to, and all the tree lies parted
+  -- around that place
   pub record Hangs (t : Tree) (p : ℕ) : Type 0 where
     pub far : Tree
     pub c : List Frame
@@ -104,7 +107,8 @@ module _ (W : List ℕ) (x : Interval) where
   height-near true near s far = omega arith
   height-near false near s far = omega arith
 
-  -- the way down from the slot s, which has the tree bin b near s far, to such a place: W is a store of n entries
+  -- the way down from the slot s, which has the tree bin b near s far, to such a place: W is a
+  -- store of n entries
   module _ (n : ℕ) (small : n ≤ 65535) where
     -- the link on the side b, where there is nothing
     pub no-link : (s : ℕ) → kid W (goesLeft W x s) s ≡ U → (levels : ℕ) → descend n levels W x s ≡ s

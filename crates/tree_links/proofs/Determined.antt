@@ -1,4 +1,5 @@
--- A promise of a store and a sum determines the root, the sum and every word that a repair was lent.
+-- A promise of a store and a sum determines the root, the sum and every word that a repair was
+-- lent.
 use mathlib.Core.Path.{_≡_, sym, _∙_}
 use mathlib.Core.List.{List}
 use Prim.Native.Nat.{ℕ}

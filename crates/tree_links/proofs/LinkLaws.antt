@@ -1,4 +1,5 @@
--- What the code learns of a link word, and the walk up to the root, in the form that `search` takes.
+-- What the code learns of a link word, and the walk up to the root, in the form that `search`
+-- takes.
 use mathlib.Core.Path.{_≡_, refl, sym, ap, _∙_}
 use mathlib.Core.Bool.{Bool, true, false, cond, true≢false}
 use mathlib.Core.List.{List, []}

@@ -1,4 +1,5 @@
--- A loop of rounds, in the form that `search` takes: that of the repair before a removal, and that of the repair after an insertion.
+-- A loop of rounds, in the form that `search` takes: that of the repair before a removal, and that
+-- of the repair after an insertion.
 use mathlib.Core.Path.{_≡_, refl, sym, ap, _∙_}
 use mathlib.Core.Bool.{Bool, true, false, cond}
 use mathlib.Core.List.{List, []}

@@ -1,5 +1,6 @@
-// Links between slots, the rotation that two of them make, and the hulls up to the root: what insertion and removal both write;
-// and the answers of their repairs.
+// What insertion and removal both write: links between slots, the rotation made of them, and the
+// hulls up to the root. A hull is the least interval that contains the intervals of a subtree. What
+// the repairs return is here too.
 use words::ix::Link;
 use words::ix::U;
 use words::node::child_of;
@@ -15,11 +16,11 @@ ghost use Rattle.tree_edit.specs.Links.{adopt, setChild, redirected, removeChil
 ghost use Rattle.tree_edit.specs.Rotations.{rotate};
 ghost use Rattle.tree_edit.specs.Reach.{differs, changes, bothHulls, upHulls};
 
-// What a round of a repair comes to: the root, and how many hulls changed in the round.
+// What a round of a repair returns: the root, and how many hulls changed in the round.
 pub enum Next {
     // The repair is done.
     Done { root: u64, reach: u64 },
-    // It goes on at the slot `at`.
+    // The repair continues at the slot `at`.
     Again { root: u64, at: u64, reach: u64 },
 }
 
@@ -40,7 +41,8 @@ pub fn adopt_child(nodes: &mut [u64], count: u64, child: u64, parent: u64)
     put_parent(nodes, s, parent);
 }
 
-// The link of slot `parent` that leads to `old` leads to `new`: the left one if that is it, else the right one.
+// Makes the link of slot `parent` that leads to `old` lead to `new`: the left link if it leads to
+// `old`, else the right one.
 fn replace_child(nodes: &mut [u64], parent: u64, old: u64, new: u64)
     requires { ⌜ Has (now nodes) parent ⌝ }
     ensures { λ _. ⌜ now (nodes .exit) ≡ redirected (now (nodes .entry)) parent old new ⌝ }
@@ -49,7 +51,7 @@ fn replace_child(nodes: &mut [u64], parent: u64, old: u64, new: u64)
     put_child(nodes, parent, is_left, new);
 }
 
-// Like `replace_child`, for a parent link that may lead nowhere.
+// Like `replace_child`, for a parent link that may lead to no slot.
 pub fn replace_child_at(nodes: &mut [u64], count: u64, parent: u64, old: u64, new: u64)
     requires { ⌜ Holds (now nodes) count ⌝ }
     ensures { λ _. ⌜ now (nodes .exit) ≡ redirect count (now (nodes .entry)) parent old new ⌝ }
@@ -75,7 +77,7 @@ pub fn set_child(nodes: &mut [u64], count: u64, parent: u64, child: u64, left_si
     put_child(nodes, parent, left_side, child);
 }
 
-// The leftmost slot from slot k down, `height` links at the most.
+// Follows left links from slot k, at most `height` of them. Returns the slot that it reaches.
 pub fn leftmost_from(nodes: &[u64], count: u64, k: u64, height: u64) -> u64
     requires { ⌜ Holds (now nodes) count × (k < count) ⌝ }
     ensures { λ r. ⌜ (r ≡ leftmost count height (now (nodes .entry)) k) × (r < count) ⌝ }
@@ -89,7 +91,8 @@ pub fn leftmost_from(nodes: &[u64], count: u64, k: u64, height: u64) -> u64
     leftmost_from(nodes, count, left, height - 1)
 }
 
-// The root after `new` has taken the place of a slot below the link word `parent`.
+// Returns the root after `new` took the place of a slot whose parent link is `parent`. It is `new`
+// if that link leads to no slot.
 fn root_below(count: u64, root: u64, parent: u64, new: u64) -> u64
     ensures { λ r. ⌜ r ≡ onLink count parent (λ s. root) new ⌝ }
 {
@@ -99,8 +102,9 @@ fn root_below(count: u64, root: u64, parent: u64, new: u64) -> u64
     root
 }
 
-// What led to `old` leads to `new`; the answer is the root. A parent link that leads to no slot is handed on as it is: in a
-// store that passes the check it is U.
+// Makes the link that led to `old` lead to `new`. Returns the root. `new` gets the parent link of
+// `old` as it is, even if it leads to no slot. In a store that passes the check of crate audit it
+// is U then.
 pub fn replace_children(nodes: &mut [u64], count: u64, root: u64, old: u64, new: u64) -> u64
     requires { ⌜ Holds (now nodes) count × (old < count) × (new < count) ⌝ }
     ensures { λ r. ⌜ (r ≡ rootAfter count (now (nodes .entry)) root old new) × (now (nodes .exit) ≡ replaced count (now (nodes .entry)) old new) ⌝ }
@@ -111,8 +115,9 @@ pub fn replace_children(nodes: &mut [u64], count: u64, root: u64, old: u64, new:
     root_below(count, root, parent, new)
 }
 
-// The sibling comes up into the place of the parent, as in case two with the last two writes in the other order: case five's
-// links, and those of a rotation after an insertion. The answer is the root.
+// The sibling takes the place of the parent. These are the links of case five of the repair before
+// a removal, and those of a rotation after an insertion. Case two differs only in the order of the
+// last two writes. Returns the root.
 pub fn rotate_up(
     nodes: &mut [u64],
     count: u64,
@@ -131,7 +136,7 @@ pub fn rotate_up(
     top
 }
 
-// Works the hull of slot ix out: 1 where either end changed, else 0.
+// Computes the hull of slot ix anew. Returns 1 if either end changed, else 0.
 pub fn rework_hull(nodes: &mut [u64], count: u64, ix: u64) -> u64
     requires { ⌜ Holds (now nodes) count × (ix < count) ⌝ }
     ensures { λ r. ⌜ (r ≡ differs count (now (nodes .entry)) ix) × (now (nodes .exit) ≡ fix count (now (nodes .entry)) ix) ⌝ }
@@ -139,7 +144,8 @@ pub fn rework_hull(nodes: &mut [u64], count: u64, ix: u64) -> u64
     update_subtree_interval(nodes, count, ix) as u64
 }
 
-// Works the hull of slot `first` out, then that of slot `second`; the answer is how many of the two changed.
+// Computes the hull of slot `first` anew, then that of slot `second`. Returns how many of the two
+// changed.
 pub fn rework_both(nodes: &mut [u64], count: u64, first: u64, second: u64) -> u64
     requires { ⌜ Holds (now nodes) count × (first < count) × (second < count) ⌝ }
     ensures { λ r. ⌜ (r ≡ changes count (bothHulls count (now (nodes .entry)) first second)) × (now (nodes .exit) ≡ fix count (fix count (now (nodes .entry)) first) second) ⌝ }
@@ -149,8 +155,8 @@ pub fn rework_both(nodes: &mut [u64], count: u64, first: u64, second: u64) -> u6
     changed + again
 }
 
-// The hulls from the link word `from` up to the root; the answer is how many changed. No way up is longer than 32 in a store
-// that passes the check.
+// Computes the hulls from the link word `from` up to the root anew. Returns how many changed. In a
+// store that passes the check no way up is longer than 32.
 pub fn fix_intervals_up(nodes: &mut [u64], count: u64, from: u64) -> u64
     requires { ⌜ Holds (now nodes) count ⌝ }
     ensures { λ r. ⌜ (r ≡ changes count (upHulls count 32 (now (nodes .entry)) from)) × (now (nodes .exit) ≡ fixUp count 32 (now (nodes .entry)) from) ⌝ }

@@ -1,4 +1,5 @@
--- What a removal promises determines its answer and every word that it was lent: stated of the generated postcondition.
+-- What a removal promises determines its answer and every word that it was lent: stated of the
+-- generated postcondition.
 use mathlib.Core.Path.{_≡_, sym, ap, _∙_}
 use mathlib.Core.List.{List}
 use Prim.Native.Nat.{ℕ}

@@ -32,7 +32,7 @@ ghost use Rattle.tree_edit.specs.Reach.{changes};
 ghost use Rattle.tree_rm_rule.specs.Reach.{cutHulls, vacateHulls, removeHullsFrom, removeHulls};
 ghost use Rattle.tree_rm.specs.Answers.{removal};
 
-// Swap values and intervals for `i`-th and `j`-th nodes.
+// Swaps the values and the intervals of nodes `i` and `j`.
 fn swap_nodes(nodes: &mut [u64], i: u64, j: u64)
     requires { ⌜ Has (now nodes) i × Has (now nodes) j ⌝ }
     ensures { λ _. ⌜ now (nodes .exit) ≡ swap (now (nodes .entry)) i j ⌝ }
@@ -40,7 +40,7 @@ fn swap_nodes(nodes: &mut [u64], i: u64, j: u64)
     swap_with(nodes, i, j);
 }
 
-// All eight words of slot `from` go to slot `to` too.
+// Copies all eight words of slot `from` to slot `to`.
 fn copy_node(nodes: &mut [u64], from: u64, to: u64)
     requires { ⌜ Has (now nodes) from × Has (now nodes) to ⌝ }
     ensures { λ _. ⌜ now (nodes .exit) ≡ copied (now (nodes .entry)) from to ⌝ }
@@ -59,7 +59,8 @@ fn copy_node(nodes: &mut [u64], from: u64, to: u64)
     );
 }
 
-// A slot without an entry points at nobody: 0 would be a slot.
+// Clears a slot that has no entry. Its links become U, the undefined link, because 0 would be a
+// slot.
 fn clear_node(nodes: &mut [u64], ix: u64)
     requires { ⌜ Has (now nodes) ix ⌝ }
     ensures { λ _. ⌜ now (nodes .exit) ≡ cleared (now (nodes .entry)) ix ⌝ }
@@ -72,7 +73,8 @@ fn clear_node(nodes: &mut [u64], ix: u64)
     put_node(nodes, ix, nothing, Interval { start: 0, end: 0 }, U, U, U);
 }
 
-// The node of slot `from` goes to slot `to`: its children and its parent lead there.
+// Moves the node of slot `from` to slot `to`. Its children's and its parent's links lead there
+// then.
 fn move_node(nodes: &mut [u64], count: u64, from: u64, to: u64)
     requires { ⌜ Holds (now nodes) count × (from < count) × (to < count) ⌝ }
     ensures { λ _. ⌜ now (nodes .exit) ≡ relinked count (now (nodes .entry)) from to ⌝ }
@@ -86,8 +88,9 @@ fn move_node(nodes: &mut [u64], count: u64, from: u64, to: u64)
     replace_child_at(nodes, count, up, from, to);
 }
 
-// Removes slot ix by moving the last slot into it, and updates all links that lead to the node that was the last one;
-// the answer is the root. The last slot's links become U and its other words 0; its colour bit stays.
+// Removes slot ix: moves the last slot into it, and updates all links that lead to the moved node.
+// Returns the root. The last slot's links become U and its other words 0. Its colour bit stays
+// unchanged.
 fn swap_remove(nodes: &mut [u64], colours: &mut [u8], count: u64, root: u64, ix: u64) -> u64
     requires { ⌜ Holds (now nodes) count × HoldsBits (now colours) count × (ix < count) ⌝ }
     ensures { λ r. ⌜ store (now (nodes .exit)) (now (colours .exit)) r ≡ swapRemove count (now (nodes .entry)) (now (colours .entry)) root (count - 1) ix ⌝ }
@@ -103,8 +106,9 @@ fn swap_remove(nodes: &mut [u64], colours: &mut [u8], count: u64, root: u64, ix:
     after_move(last, ix, root)
 }
 
-// The slot to vacate for slot ix: the minimal node in the right subtree, where there is one. Document 01 keeps the file's
-// doubled test of the right link; that a test of both links gives the same store is `harmless` of tree_rm_rule.
+// Returns the slot to vacate for slot ix: the minimal node in the right subtree if there is one,
+// else ix. Document 01 keeps the doubled test of the right link in src/tree_rm.rs. The theorem
+// `harmless` of tree_rm_rule says that a test of both links gives the same store.
 fn slot_to_vacate(nodes: &[u64], count: u64, ix: u64) -> u64
     requires { ⌜ Holds (now nodes) count × (ix < count) ⌝ }
     ensures { λ r. ⌜ (r ≡ vacated count (now (nodes .entry)) ix) × (r < count) ⌝ }
@@ -117,7 +121,7 @@ fn slot_to_vacate(nodes: &[u64], count: u64, ix: u64) -> u64
     }
 }
 
-// The two slots exchange interval and value, unless they are one.
+// Exchanges the intervals and the values of two slots, unless they are the same slot.
 fn exchange(nodes: &mut [u64], ix: u64, rm: u64)
     requires { ⌜ Has (now nodes) ix × Has (now nodes) rm ⌝ }
     ensures { λ _. ⌜ now (nodes .exit) ≡ exchanged (now (nodes .entry)) ix rm ⌝ }
@@ -127,7 +131,7 @@ fn exchange(nodes: &mut [u64], ix: u64, rm: u64)
     }
 }
 
-// The least of the two links.
+// Returns the smaller of the two child links.
 fn least_child(nodes: &[u64], rm: u64) -> u64
     requires { ⌜ Has (now nodes) rm ⌝ }
     ensures { λ r. ⌜ r ≡ child (now (nodes .entry)) rm ⌝ }
@@ -135,14 +139,15 @@ fn least_child(nodes: &[u64], rm: u64) -> u64
     smaller(child_of(nodes, rm, true), child_of(nodes, rm, false))
 }
 
-// The slot that is vacated, the root, and how many hulls changed.
+// The slot that is vacated, the root, and how many hulls changed. A hull is the least interval that
+// contains the intervals of a subtree.
 struct Cut {
     slot: u64,
     root: u64,
     reach: u64,
 }
 
-// Removed node has no child, just cut off the node.
+// The removed node has no child: cuts off the node.
 fn cut_leaf(nodes: &mut [u64], count: u64, root: u64, rm: u64) -> Cut
     requires { ⌜ Holds (now nodes) count × (rm < count) ⌝ }
     ensures { λ r. ⌜ (r .slot ≡ rm) × (r .root ≡ cutRoot count root (par (now (nodes .entry)) rm)) × (now (nodes .exit) ≡ cutWords count (now (nodes .entry)) (par (now (nodes .entry)) rm) rm)
@@ -164,7 +169,7 @@ fn cut_leaf(nodes: &mut [u64], count: u64, root: u64, rm: u64) -> Cut
     }
 }
 
-// Slot rm is vacated. If there is a child, it gives its interval and value to rm and is cut off
+// Vacates slot rm. If there is a child, it exchanges interval and value with rm and is cut off
 // instead.
 fn cut_off(nodes: &mut [u64], count: u64, root: u64, rm: u64, child: u64) -> Cut
     requires { ⌜ Holds (now nodes) count × (rm < count) ⌝ }
@@ -192,7 +197,8 @@ pub struct Removed {
     pub reach: u64,
 }
 
-// Slot rm with its child link is vacated, for the entry of slot ix.
+// Vacates slot rm, whose child link is `child`, for the entry of slot ix. `before` hulls changed
+// already.
 fn finish_rm(
     nodes: &mut [u64],
     colours: &mut [u8],
@@ -219,7 +225,8 @@ fn finish_rm(
     }
 }
 
-// Slot rm with its child link is made ready and vacated, for the entry of slot ix.
+// Repairs the tree before the cut, then vacates slot rm, whose child link is `child`, for the entry
+// of slot ix.
 fn vacate(
     nodes: &mut [u64],
     colours: &mut [u8],
@@ -246,7 +253,7 @@ fn vacate(
     )
 }
 
-// The entry of slot ix is removed, and slot rm vacated for it.
+// Removes the entry of slot ix, and vacates slot rm for it.
 fn remove_from(
     nodes: &mut [u64],
     colours: &mut [u8],
@@ -264,7 +271,7 @@ fn remove_from(
     vacate(nodes, colours, count, root, ix, rm, child)
 }
 
-// The entry of slot ix is removed; the count is one less.
+// Removes the entry of slot ix. The count is one less then.
 pub fn remove_at(nodes: &mut [u64], colours: &mut [u8], count: u64, root: u64, ix: u64) -> Removed
     requires { ⌜ Holds (now nodes) count × HoldsBits (now colours) count × (ix < count) ⌝ }
     ensures { λ r. ⌜ (removal r (now (nodes .exit)) (now (colours .exit)) ≡ removeRule (now (nodes .entry)) (now (colours .entry)) count root ix)

@@ -8,14 +8,14 @@ ghost use mathlib.Core.Bool.{cond};
 ghost use Prim.Native.Nat.{_<_};
 ghost use Rattle.tree_rm_rule.specs.Pairs.{none, movedTo, emptied, home, named, lower, upper, byOldSlot, moved};
 
-// Where what was in `slot` is after what was in `from` went to `to`.
+// Returns the slot of the entry that was in `slot`, after the entry of `from` moved to `to`.
 pub fn after_move(from: u64, to: u64, slot: u64) -> u64
     ensures { λ r. ⌜ r ≡ movedTo from to slot ⌝ }
 {
     if slot == from { to } else { slot }
 }
 
-// The slot that is emptied: the child's where there is one.
+// Returns the slot that is emptied: the child's if there is a child, else `rm`.
 fn emptied_slot(count: u64, rm: u64, child: u64) -> u64
     ensures { λ r. ⌜ r ≡ emptied count rm child ⌝ }
 {
@@ -25,7 +25,8 @@ fn emptied_slot(count: u64, rm: u64, child: u64) -> u64
     child_ix
 }
 
-// Where the entry of `slot` is at the end: rm's went to ix, then the child's to rm, then the last slot's to the emptied one.
+// Returns the slot that has the entry of `slot` at the end. The entry of rm moved to ix, then that
+// of the child to rm, then that of the last slot to the emptied slot.
 fn home_of(count: u64, last: u64, ix: u64, rm: u64, child: u64, slot: u64) -> u64
     ensures { λ r. ⌜ r ≡ home count last ix rm child slot ⌝ }
 {
@@ -34,7 +35,7 @@ fn home_of(count: u64, last: u64, ix: u64, rm: u64, child: u64, slot: u64) -> u6
     after_move(last, emptied_slot(count, rm, child), second)
 }
 
-// The pair of two slots, unless they are one.
+// Returns the pair of two slots, or (U, U) if they are equal. U is the undefined link.
 fn pair_of(old: u64, new: u64) -> Pair
     ensures { λ r. ⌜ r ≡ named old new ⌝ }
 {
@@ -45,7 +46,7 @@ fn pair_of(old: u64, new: u64) -> Pair
     }
 }
 
-// No pair where there is no entry to name, or it is named already.
+// Returns (U, U) if `skip` is true: there is no entry to name, or it is named already.
 fn pair_unless(skip: bool, old: u64, new: u64) -> Pair
     ensures { λ r. ⌜ r ≡ cond skip none (named old new) ⌝ }
 {
@@ -68,7 +69,7 @@ fn upper_of(p: Pair, q: Pair) -> Pair
     if q.old < p.old { p } else { q }
 }
 
-// By rising old slot; U is above every slot.
+// Sorts the pairs by old slot. U is above every slot.
 fn sorted_pairs(p: Pair, q: Pair, o: Pair) -> Pairs
     ensures { λ r. ⌜ r ≡ byOldSlot p q o ⌝ }
 {
@@ -85,8 +86,9 @@ fn sorted_pairs(p: Pair, q: Pair, o: Pair) -> Pairs
     }
 }
 
-// The entry of slot ix was removed and slot rm vacated for it. The entries that may have moved are those of rm, of its
-// child, and of the last slot where it is none of the others.
+// Returns the pairs of a removal: the entry of slot ix was removed, and slot rm was vacated for it.
+// The entries that may have moved are those of rm, of its child, and of the last slot if it is not
+// one of the others.
 pub fn moved_pairs(count: u64, last: u64, ix: u64, rm: u64, child: u64) -> Pairs
     ensures { λ r. ⌜ r ≡ moved count last ix rm child ⌝ }
 {

@@ -1,4 +1,6 @@
-// The repair before a removal: the root test and the five cases of `restructure_rm_complex_cases`, in the file's order.
+// The repair before a removal: the root test and the five cases of `restructure_rm_complex_cases`,
+// in the order of src/tree_rm.rs. The nephews are the sibling's children. The close nephew is on
+// the node's side of the sibling, the distant one on the other side.
 use bitvec::colours::copy_colour;
 use bitvec::colours::is_black;
 use bitvec::colours::is_black_or_nil;
@@ -44,7 +46,8 @@ pub enum Case {
     Five,
 }
 
-// Which of parent, sibling, close and distant nephew are black decides the case.
+// Returns the case. The bools say whether the parent, the sibling, the close and the distant nephew
+// are black.
 fn case_of(parent: bool, sibling: bool, close: bool, distant: bool) -> Case
     ensures { λ r. ⌜ caseOf r ≡ choose (not parent) (not sibling) (not close) (not distant) ⌝ }
 {
@@ -59,8 +62,8 @@ fn case_of(parent: bool, sibling: bool, close: bool, distant: bool) -> Case
     }
 }
 
-// The relatives of the node that a round stands at: the slots of its parent and its sibling, the link words of its close and
-// its distant nephew, and whether it is the left child.
+// The relatives of the node that a round is at: the slots of its parent and its sibling, the link
+// words of its close and its distant nephew, and whether it is the left child.
 struct Kin {
     parent: u64,
     sibling: u64,
@@ -69,7 +72,7 @@ struct Kin {
     left: bool,
 }
 
-// Which case the relatives' colours make.
+// Returns the case that the relatives' colours make.
 fn case_at(colours: &[u8], count: u64, kin: Kin) -> Case
     requires { ⌜ HoldsBits (now colours) count × (kin .parent < count) × (kin .sibling < count) ⌝ }
     ensures { λ r. ⌜ caseOf r ≡ choose (red (now (colours .entry)) (kin .parent)) (red (now (colours .entry)) (kin .sibling)) (redAt count (now (colours .entry)) (kin .close)) (redAt count (now (colours .entry)) (kin .distant)) ⌝ }
@@ -86,7 +89,7 @@ fn case_at(colours: &[u8], count: u64, kin: Kin) -> Case
     )
 }
 
-// Case two's links: the sibling comes up into the place of the parent; the answer is the root.
+// Writes the links of case two: the sibling takes the place of the parent. Returns the root.
 fn rotate_two(nodes: &mut [u64], count: u64, root: u64, kin: Kin) -> u64
     requires { ⌜ Holds (now nodes) count × (kin .parent < count) × (kin .sibling < count) ⌝ }
     ensures { λ r. ⌜ (r ≡ rootAfter count (now (nodes .entry)) root (kin .parent) (kin .sibling)) × (now (nodes .exit) ≡ rotate-2 count (now (nodes .entry)) (kin .left) (kin .parent) (kin .sibling)) ⌝ }
@@ -98,7 +101,7 @@ fn rotate_two(nodes: &mut [u64], count: u64, root: u64, kin: Kin) -> u64
     top
 }
 
-// Case four's links: the close nephew comes up into the place of the sibling.
+// Writes the links of case four: the close nephew takes the place of the sibling.
 fn rotate_four(nodes: &mut [u64], count: u64, kin: Kin)
     requires { ⌜ Holds (now nodes) count × (kin .parent < count) × (kin .sibling < count) × (kin .close < count) ⌝ }
     ensures { λ _. ⌜ now (nodes .exit) ≡ rotate-4 count (now (nodes .entry)) (kin .left) (kin .parent) (kin .sibling) (kin .close) ⌝ }
@@ -159,7 +162,7 @@ fn case_five(nodes: &mut [u64], colours: &mut [u8], count: u64, root: u64, kin: 
     }
 }
 
-// What the case writes, for the node ix with its relatives.
+// Does what the case asks for, for the node ix with its relatives.
 fn act_on(
     nodes: &mut [u64],
     colours: &mut [u8],
@@ -193,7 +196,8 @@ fn act_on(
     }
 }
 
-// One round with the parent at hand. In a store that passes the check there is a sibling.
+// Does one round, given the parent. In a store that passes the check of crate audit the node has a
+// sibling.
 fn round_at(
     nodes: &mut [u64],
     colours: &mut [u8],
@@ -223,7 +227,7 @@ fn round_at(
     act_on(nodes, colours, count, root, ix, kin, case)
 }
 
-// One round of the loop, at the node ix.
+// Does one round of the loop, at the node ix.
 fn one_round(nodes: &mut [u64], colours: &mut [u8], count: u64, root: u64, ix: u64) -> Next
     requires { ⌜ Holds (now nodes) count × HoldsBits (now colours) count × (ix < count) ⌝ }
     ensures { λ r. ⌜ (next r (now (nodes .exit)) (now (colours .exit)) ≡ round count (now (nodes .entry)) (now (colours .entry)) root ix)
@@ -237,7 +241,8 @@ fn one_round(nodes: &mut [u64], colours: &mut [u8], count: u64, root: u64, ix: u
     round_at(nodes, colours, count, root, ix, parent, left)
 }
 
-// Restructure the tree before removing ix. In a store that passes the check 36 rounds suffice.
+// Restructures the tree before ix is removed. In a store that passes the check 36 rounds are
+// enough.
 fn restructure_rm_complex_cases(
     nodes: &mut [u64],
     colours: &mut [u8],
@@ -276,7 +281,7 @@ fn restructure_rm_complex_cases(
     Repaired { root: top, reach }
 }
 
-// Restructure the tree before removing ix with the child link `child`.
+// Restructures the tree before ix, with the child link `child`, is removed.
 pub fn restructure_rm(
     nodes: &mut [u64],
     colours: &mut [u8],

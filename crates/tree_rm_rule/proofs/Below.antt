@@ -1,5 +1,6 @@
--- "Slots from count up are not read", of a removal on any words: on two stores that agree below the count it answers the same value, pairs,
--- root and sum of changed hulls, and leaves stores that agree below the count.
+-- "Slots from count up are not read", of a removal on any words: on two stores that agree below the
+-- count it answers the same value, pairs, root and sum of changed hulls, and leaves stores that
+-- agree below the count.
 use mathlib.Core.Path.{_≡_, refl}
 use mathlib.Core.Bool.{Bool, true, false, cond, not}
 use mathlib.Core.List.{List, []}

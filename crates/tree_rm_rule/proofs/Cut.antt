@@ -1,4 +1,5 @@
--- From a store that is ready for it, the vacated slot is cut off and the hulls are worked out up to the root.
+-- From a store that is ready for it, the vacated slot is cut off and the hulls are worked out up to
+-- the root.
 use mathlib.Core.Path.{_≡_, refl, sym, ap, _∙_}
 use mathlib.Core.Bool.{Bool, false}
 use mathlib.Core.List.{List, _∷_, _++_}

@@ -1,6 +1,7 @@
--- The doubled test of `remove_at` is harmless: read as a test of both links it gives the same store, value and pairs, and works out the same
--- hulls.
--- The readings part only at a node with a right child alone. That child is red and bare, so either way it is the slot that is cut off.
+-- The doubled test of `remove_at` is harmless: read as a test of both links it gives the same
+-- store, value and pairs, and works out the same hulls.
+-- The readings part only at a node with a right child alone. That child is red and bare, so either
+-- way it is the slot that is cut off.
 use mathlib.Core.Path.{_≡_, refl, sym, _∙_}
 use mathlib.Core.Logic.{_≢_}
 use mathlib.Core.Bool.{Bool, true, false, cond, _||_}

@@ -1,5 +1,5 @@
--- The rule's numbers of rounds, of links and of hulls suffice: on every store that passes the check any greater ones come to the same store, value
--- and pairs.
+-- The rule's numbers of rounds, of links and of hulls suffice: on every store that passes the check
+-- any greater ones come to the same store, value and pairs.
 use mathlib.Core.Path.{_≡_, refl, sym, _∙_}
 use mathlib.Core.Bool.{Bool, true, false}
 use mathlib.Core.List.{List, [], _∷_}
@@ -151,7 +151,8 @@ module _ (W C : List ℕ) (n r s : ℕ) (small : n ≤ 65535) (fit : Holds W n) 
     unfolding removeFromWith finishWith
     from-more = rw (same-store, same-words) refl
 
-  -- greater numbers of rounds, of links and of hulls than the rule's 36, 32 and 32 come to the same store, value and pairs
+  -- greater numbers of rounds, of links and of hulls than the rule's 36, 32 and 32 come to the same
+  -- store, value and pairs
   pub enough : (rounds links hulls : ℕ) → 36 ≤ rounds → 32 ≤ links → 32 ≤ hulls → removeWith rounds links hulls W C n r s ≡ removeRule W C n r s
   unfolding removeWith
   enough rounds links hulls i j k =

@@ -28,8 +28,9 @@ reaching : Unit {0}
 unfolding leftmost vacatedWith exchanged child restructureWith handed above emptied differs upHulls roundOfHulls roundAtHulls roundHulls loopHulls restructureHulls cutHulls vacateHulls removeHullsFrom removeHulls
 reaching = record {}
 
--- [0, 5) black in slot 0, and [10, 15) red to its right. Slot 0 is removed: the entry of slot 1 goes there, and its hull, which stayed, changes. Had the
--- two exchanged their hulls too, it would be found as it is.
+-- [0, 5) black in slot 0, and [10, 15) red to its right. Slot 0 is removed: the entry of slot 1
+-- goes there, and its hull, which stayed, changes. Had the two exchanged their hulls too, it would
+-- be found as it is.
 pub reach-two : changes 2 (removeHulls
     (0 ∷ 5 ∷ 1 ∷ 0 ∷ 15 ∷ U ∷ 1 ∷ U ∷
     10 ∷ 15 ∷ 2 ∷ 10 ∷ 15 ∷ U ∷ U ∷ 0 ∷ [])
@@ -37,7 +38,8 @@ pub reach-two : changes 2 (removeHulls
 unfolding reading repairing reaching
 reach-two = refl
 
--- The close nephew's case: slot 3 comes up over slot 2, to the right of slot 0, and both hulls change.
+-- The close nephew's case: slot 3 comes up over slot 2, to the right of slot 0, and both hulls
+-- change.
 pub reach-nephew : changes 4 (actHulls 4 four
     (10 ∷ 20 ∷ 1 ∷ 0 ∷ 60 ∷ 1 ∷ 2 ∷ U ∷
     0 ∷ 5 ∷ 2 ∷ 0 ∷ 5 ∷ U ∷ U ∷ 0 ∷

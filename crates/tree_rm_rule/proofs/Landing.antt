@@ -1,4 +1,5 @@
--- The last slot moves into the vacated one: the tree of a store that has one slot less, with all data and colours.
+-- The last slot moves into the vacated one: the tree of a store that has one slot less, with all
+-- data and colours.
 use mathlib.Core.Path.{_≡_, refl, sym, ap, _∙_}
 use mathlib.Core.Logic.{_≢_}
 use mathlib.Core.Bool.{Bool, true, false, cond}

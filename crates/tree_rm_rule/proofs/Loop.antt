@@ -1,4 +1,5 @@
--- The invariant of the repair's loop, where shape, order, hulls and colours meet; and that each of the five cases keeps it, or ends it.
+-- The invariant of the repair's loop, where shape, order, hulls and colours meet; and that each of
+-- the five cases keeps it, or ends it.
 use mathlib.Core.Path.{_≡_, refl, sym, _∙_}
 use mathlib.Core.Logic.{_≢_}
 use mathlib.Core.Bool.{Bool, true, false, not, false≢true}
@@ -31,12 +32,14 @@ use Rattle.tree_edit.proofs.Rows.{rotated-slots, slots-four}
 abbrev pub Bare : ℕ → Tree
 Bare x = node leaf x leaf
 
--- The way i, from x up, fits below any way that takes m blacks, once x is cut off: as long as the colours of its slots stay.
+-- The way i, from x up, fits below any way that takes m blacks, once x is cut off: as long as the
+-- colours of its slots stay.
 abbrev Thin : (ℕ → Bool) → ℕ → List Frame → ℕ → Type 0
 Thin K x i m =
     (L : ℕ → Bool) → ((s : ℕ) → 0 < occ s (plug i (Bare x)) → L s ≡ K s) → (d : List Frame) → Fits L d m false → Fits L (i ++ d) 0 false
 
--- The slot x is short of one black; ix is x or above it, i is the way from x up to ix, c that from ix up; `base` are all slots in tree order.
+-- The slot x is short of one black; ix is x or above it, i is the way from x up to ix, c that from
+-- ix up; `base` are all slots in tree order.
 pub record LoopInvariant (n x : ℕ) (base W : List ℕ) (K : ℕ → Bool) (r ix p : ℕ) (c i : List Frame) (m : ℕ) : Type 0 where
   pub live : ix < n
   pub stand : Stand W n r ix p c (plug i (Bare x))

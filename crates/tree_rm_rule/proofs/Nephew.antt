@@ -1,4 +1,5 @@
--- Shape and slots: the close nephew Q comes up into the place of the sibling S. It is the rotation of Rotations, seen from the distant nephew D.
+-- Shape and slots: the close nephew Q comes up into the place of the sibling S. It is the rotation
+-- of Rotations, seen from the distant nephew D.
 use mathlib.Core.Path.{_≡_, refl, sym, _∙_}
 use mathlib.Core.Bool.{Bool, true, not}
 use mathlib.Core.List.{List, _∷_}

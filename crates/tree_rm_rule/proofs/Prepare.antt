@@ -1,4 +1,5 @@
--- `restructure_rm` and the child's exchange: a store whose emptied slot has no child and may be cut off.
+-- `restructure_rm` and the child's exchange: a store whose emptied slot has no child and may be cut
+-- off.
 use mathlib.Core.Path.{_≡_, refl, sym, ap, fun-ext, _∙_}
 use mathlib.Core.Logic.{_≢_}
 use mathlib.Core.Bool.{Bool, true, false, not, false≢true}
@@ -33,8 +34,8 @@ use Rattle.tree_rm_rule.proofs.Loop.{Bare, Lighter, Fixed}
 use Rattle.tree_rm_rule.proofs.Repaired.{Finished, repaired}
 use Rattle.tree_rm_rule.proofs.RepairInPlace.{repair-in-place}
 
--- A store of words Y, colours D and root q is ready: its slot v, which is x or the child y of x, hangs from g and may be cut off.
--- X are the words before the repair.
+-- A store of words Y, colours D and root q is ready: its slot v, which is x or the child y of x,
+-- hangs from g and may be cut off. X are the words before the repair.
 pub record Ready (n x y v g : ℕ) (base X Y D : List ℕ) (q : ℕ) : Type 0 where
   pub live : v < n
   pub fixed : Fixed n v base Y (red D) q

@@ -1,4 +1,5 @@
--- Between the hulls that a removal works out, one after the other, no hull changes before its last step. On any words.
+-- Between the hulls that a removal works out, one after the other, no hull changes before its last
+-- step. On any words.
 use mathlib.Core.Path.{_≡_, refl}
 use mathlib.Core.Bool.{Bool, true, false, cond, not}
 use mathlib.Core.List.{List, [], _++_}

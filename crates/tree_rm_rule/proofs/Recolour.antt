@@ -1,4 +1,5 @@
--- Colours: the five cases of the repair. The place is short of one black: its way up wants suc m, and what is there will count as m.
+-- Colours: the five cases of the repair. The place is short of one black: its way up wants suc m,
+-- and what is there will count as m.
 use mathlib.Core.Path.{_≡_, refl, sym, _∙_}
 use mathlib.Core.Bool.{Bool, true, false, false≢true}
 use mathlib.Core.List.{List, _∷_}
@@ -112,7 +113,8 @@ module _ (K L : ℕ → Bool) (b : Bool) (P S : ℕ) (c : List Frame) (m : ℕ)
         rest = rw lp (way (blackOf (K P) + suc m) (K P) (h .rest));
       }
 
-  -- black sibling, red distant nephew Q: the sibling comes up into the place of the parent and takes its colour. That is the end
+  -- black sibling, red distant nephew Q: the sibling comes up into the place of the parent and
+  -- takes its colour. That is the end
   pub case-5 : (C X : Tree) (Q : ℕ) (Y : Tree) → K S ≡ false → K Q ≡ true
       → L P ≡ false → L S ≡ K P → L Q ≡ false → Keeps K L C → Keeps K L X → Keeps K L Y
       → Fits K (frame b P (bin b C S (bin b X Q Y)) ∷ c) (suc m) false

@@ -1,8 +1,9 @@
 -- The whole removal. Four separate arguments meet here.
--- Shape and slots: Links, Stand, Rotations, Nephew, Moves. Entries and order: Carried, Rows, Rename. Hulls: Beside, Upward.
--- Colours: Paint, Fits, Recolour, Repaint.
--- They are joined along the rule: Vacate, Steps, Spot and Prepare up to the repair, Weight, Loop and Repaired for the repair itself, Cut and
--- Landing for what comes after it, PairLaws for the pairs. Low, RepairInPlace and Inside hold on any words, whatever tree there is.
+-- Shape and slots: Links, Stand, Rotations, Nephew, Moves. Entries and order: Carried, Rows,
+-- Rename. Hulls: Beside, Upward. Colours: Paint, Fits, Recolour, Repaint.
+-- They are joined along the rule: Vacate, Steps, Spot and Prepare up to the repair, Weight, Loop
+-- and Repaired for the repair itself, Cut and Landing for what comes after it, PairLaws for the
+-- pairs. Low, RepairInPlace and Inside hold on any words, whatever tree there is.
 use mathlib.Core.Path.{_≡_, refl, ap, _∙_}
 use mathlib.Core.Logic.{_≢_}
 use mathlib.Core.Bool.{Bool, true, false, cond}

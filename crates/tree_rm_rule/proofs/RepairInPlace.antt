@@ -1,4 +1,5 @@
--- The repair on any words, whatever they hold: it writes to slots below the count alone, and moves no entry.
+-- The repair on any words, whatever they hold: it writes to slots below the count alone, and moves
+-- no entry.
 use mathlib.Core.Path.{_≡_, refl, sym, ap, _∙_}
 use mathlib.Core.Bool.{Bool, true, false, cond, not, false≢true}
 use mathlib.Core.List.{List}

@@ -1,4 +1,5 @@
--- The repair, step by step on the bytes: each round keeps the loop's invariant and weighs less, so that 36 rounds suffice.
+-- The repair, step by step on the bytes: each round keeps the loop's invariant and weighs less, so
+-- that 36 rounds suffice.
 use mathlib.Core.Path.{_≡_, refl, sym, _∙_}
 use mathlib.Core.Bool.{Bool, true, false, not, false≢true}
 use mathlib.Core.List.{List, [], _∷_}

@@ -96,7 +96,8 @@ module _ (d : Bool) (a b : ℕ) (A B : List ℕ) (one : (c : ℕ) → times c (A
       go true q e = rw (eq-eqb a a refl, ne-eqb b a e, q)
       go false q e = rw (ne-eqb b a e, eq-eqb a a refl, q)
 
-  -- the entries of neighbours exchanged, and the second slot left out: the entries without the first
+  -- the entries of neighbours exchanged, and the second slot left out: the entries without the
+  -- first
   pub exchange : (E F : ℕ → Entry) → F a ≡ E b → ((c : ℕ) → c ≢ a → c ≢ b → F c ≡ E c)
       → map F (without b (A ++ couple d a b B)) ≡ map E (without a (A ++ couple d a b B))
   exchange E F fa f =

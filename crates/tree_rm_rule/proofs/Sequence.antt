@@ -1,4 +1,5 @@
--- Removals one after the other: the store passes after each, and what lies from the first count up stays.
+-- Removals one after the other: the store passes after each, and what lies from the first count up
+-- stays.
 use mathlib.Core.Path.{_≡_, refl}
 use mathlib.Core.List.{List, [], _∷_}
 use Prim.Native.Nat.{ℕ, suc, _-_, _≤_}

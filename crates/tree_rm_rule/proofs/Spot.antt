@@ -18,7 +18,8 @@ use Rattle.tree_edit.proofs.Beside.{HullsBy}
 use Rattle.tree_edit.proofs.Fits.{Fits, open-redBlack, blacks-bin, root-bin, plug-fits}
 use Rattle.tree_rm_rule.proofs.Loop.{Bare}
 
--- The slot x of a store that passes but for the entries on the way from x up; `near` is its subtree on the side b, and there is none on the other.
+-- The slot x of a store that passes but for the entries on the way from x up; `near` is its subtree
+-- on the side b, and there is none on the other.
 pub record Spot (X C : List ℕ) (n r x : ℕ) (b : Bool) (c : List Frame) (near : Tree) : Type 0 where
   pub small : n ≤ 65535
   pub fit : Holds X n

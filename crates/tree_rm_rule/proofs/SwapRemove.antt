@@ -1,5 +1,5 @@
--- The Rust's `self.colors.swap_remove(i)`: the colours after the last slot has moved into the vacated one are the bytes that the bit vector's `swap_remove`
--- leaves.
+-- The Rust's `self.colors.swap_remove(i)`: the colours after the last slot has moved into the
+-- vacated one are the bytes that the bit vector's `swap_remove` leaves.
 use mathlib.Core.Path.{_≡_, refl}
 use mathlib.Core.Bool.{Bool, true, false}
 use mathlib.Core.List.{List}

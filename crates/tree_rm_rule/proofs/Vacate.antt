@@ -39,7 +39,8 @@ leftmost-at W n small (suc steps) p k (node a b c) s r h q go =
     (rw (h .here) (on-slot n (kid W true s) (rw (h .left .here) (h .left .live)) (λ m. leftmost n steps W m) s ∙ f))
     (ap (λ (u : List ℕ). u ++ (s ∷ slots r)) g))
 
--- The slot x is the one to vacate for s: it has one child tree at the most, on the side b. X are the words after the exchange of entries.
+-- The slot x is the one to vacate for s: it has one child tree at the most, on the side b. X are
+-- the words after the exchange of entries.
 pub record Chosen (s x : ℕ) (t : Tree) (W X : List ℕ) : Type 0 where
   pub b : Bool
   pub c : List Frame

@@ -1,4 +1,5 @@
--- How many rounds of the repair's loop are left at the most: the first case goes up, any other ends within three.
+-- How many rounds of the repair's loop are left at the most: the first case goes up, any other ends
+-- within three.
 use mathlib.Core.Path.{_≡_, refl}
 use mathlib.Core.Bool.{Bool, true, false, not}
 use mathlib.Core.List.{List, [], _∷_}

@@ -1,4 +1,5 @@
--- A test that the code made, against a rule that goes by the same test: in the form that `search` takes.
+-- A test that the code made, against a rule that goes by the same test: in the form that `search`
+-- takes.
 use mathlib.Core.Path.{_≡_, sym, _∙_}
 use mathlib.Core.Bool.{Bool, true, false, cond}
 use Prim.Native.Nat.{ℕ, _<_, _≤_}

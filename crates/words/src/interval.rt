@@ -16,7 +16,7 @@ pub struct Span {
     pub hi: Bound,
 }
 
-// The addresses from `start` on and below `end`.
+// The addresses from `start` up to `end`, without `end` itself.
 pub struct Interval {
     pub start: u64,
     pub end: u64,
@@ -35,8 +35,9 @@ pub fn larger(a: u64, b: u64) -> u64
 }
 
 impl Bound {
-    // The bound of a kind: 0 Included, 1 Excluded, any other Unbounded, whose number is not read. A caller that
-    // takes only the kinds 0 to 2 tests them first.
+    // Returns the bound of a kind: 0 is Included, 1 is Excluded, and any other kind is Unbounded.
+    // The number x is not read if the bound is Unbounded. A caller that takes only the kinds 0 to 2
+    // tests the kind first.
     pub fn of_kind(kind: u64, x: u64) -> Bound
         ensures { λ r. ⌜ r ≡ boundOf kind x ⌝ }
     {
@@ -49,7 +50,8 @@ impl Bound {
         Bound::Unbounded
     }
 
-    // As a lower bound: what ends at `end` goes past it. An Excluded bound is passed as an Included one is.
+    // For a lower bound: whether something that ends at `end` goes past it. An Excluded bound is
+    // passed like an Included one.
     pub fn passed_by(self, end: u64) -> bool
         ensures { λ r. ⌜ r ≡ passed self end ⌝ }
     {
@@ -60,7 +62,7 @@ impl Bound {
         }
     }
 
-    // As a lower bound: what ends at `end` goes past it or touches it.
+    // For a lower bound: whether something that ends at `end` goes past it or touches it.
     pub fn reached_by(self, end: u64) -> bool
         ensures { λ r. ⌜ r ≡ reached self end ⌝ }
     {
@@ -71,7 +73,7 @@ impl Bound {
         }
     }
 
-    // As an upper bound: it admits what starts at `start`.
+    // For an upper bound: whether it admits something that starts at `start`.
     pub fn admits_start(self, start: u64) -> bool
         ensures { λ r. ⌜ r ≡ admits self start ⌝ }
     {
@@ -84,14 +86,14 @@ impl Bound {
 }
 
 impl Interval {
-    // An interval holds some address.
+    // Whether the interval holds an address.
     pub fn is_proper(self) -> bool
         ensures { λ r. ⌜ r ≡ proper self ⌝ }
     {
         self.start < self.end
     }
 
-    // Not after `other`: by start, then by end.
+    // Whether this interval is not after `other`. The order is by start, then by end.
     pub fn le(self, other: Interval) -> bool
         ensures { λ r. ⌜ r ≡ le self other ⌝ }
     {
@@ -110,7 +112,7 @@ impl Interval {
         (self.start <= other.start) & (other.end <= self.end)
     }
 
-    // The least interval that contains both.
+    // Returns the least interval that contains both.
     pub fn extend(self, other: Interval) -> Interval
         ensures { λ r. ⌜ r ≡ extended self other ⌝ }
     {

@@ -1,19 +1,20 @@
-// Links between slots.
+// Links between slots: a link word is the number of a slot, or the undefined link U.
 ghost use mathlib.Core.Path.{_≡_};
 ghost use Rattle.words.specs.Ix.{linkOf};
 
 // The undefined link.
 pub const U: u64 = 4294967295;
 
-// Where a link word leads: to a slot, or to none.
+// Where a link word leads: to a slot, or to no slot.
 pub enum Link {
     Slot(u64),
     Nil,
 }
 
 impl Link {
-    // A link word in a store of `count` entries. What is not below the count is no slot, whatever the words of the
-    // store are; in a store that passes the check it is U.
+    // Reads a link word of a store with `count` entries. A word that is not below the count leads
+    // to no slot, whatever the words of the store are. In a store that passes the check of crate
+    // audit such a word is U.
     pub fn new(word: u64, count: u64) -> Link
         ensures { λ r. ⌜ r ≡ linkOf count word ⌝ }
     {

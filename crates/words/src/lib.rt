@@ -1,5 +1,5 @@
-// What every layer shares: links, refusals, intervals and the bounds of a range, the eight words of a
-// node, and two functions on plain numbers.
+// What every layer shares: links, refusals, intervals and the bounds of a range, the eight words of
+// a node, the entries that a removal moved, and two functions on plain numbers.
 pub mod interval;
 pub mod ix;
 pub mod node;

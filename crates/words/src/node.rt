@@ -1,4 +1,5 @@
-// The eight words of a node, read and written by slot. This is the only place that knows where a word of a node stands.
+// The eight words of a node, read and written by slot. Only this file knows the place of each word
+// in its node.
 use crate::interval::Interval;
 use crate::interval::smaller;
 use crate::ix::Link;
@@ -6,7 +7,7 @@ ghost use mathlib.Core.Path.{_≡_};
 ghost use Prim.Native.Nat.{_+_, _*_, _<_};
 ghost use Rattle.words.specs.Nodes.{place, word, put, start, stop, value, lo, hi, kid, par, interval, hull, entry, putKid, putPar, putEntry, putHull, putNode, swap, joined, hullOf, altered, fix, slotsIn, capacity, Has, Holds};
 
-// How many words a node has: where the words of a store can be cut between two slots.
+// How many words a node has. The words of a store can be cut between two slots at its multiples.
 pub const NODE_WORDS: usize = 8;
 
 // What a slot holds for its user: an interval and a value.
@@ -16,14 +17,14 @@ pub struct Entry {
     pub value: u64,
 }
 
-// How many slots `words` node words hold.
+// Returns how many slots `words` node words hold.
 pub fn slots_in(words: usize) -> u64
     ensures { λ r. ⌜ r ≡ slotsIn words ⌝ }
 {
     (words / NODE_WORDS) as u64
 }
 
-// How many entries `words` node words and `bytes` colour bytes can hold.
+// Returns how many entries `words` node words and `bytes` colour bytes can hold, at most 65,535.
 pub fn capacity(words: usize, bytes: usize) -> u64
     ensures { λ r. ⌜ r ≡ capacity words bytes ⌝ }
 {
@@ -34,7 +35,8 @@ pub fn capacity(words: usize, bytes: usize) -> u64
     smaller(nodes, 65535)
 }
 
-// The words of a node. A child link is the left one where its bool holds.
+// The words of a node. The hull of a slot is the least interval that contains the intervals of its
+// subtree. A child link is the left one if its bool is true, else the right one.
 pub enum Field {
     Start,
     End,
@@ -46,7 +48,7 @@ pub enum Field {
 }
 
 impl Field {
-    // Where the word stands among the eight of its node.
+    // Returns the word's place among the eight words of its node.
     fn place(self) -> u64
         ensures { λ r. ⌜ (r ≡ place self) × (r < 8) ⌝ }
     {
@@ -111,7 +113,7 @@ pub fn hull_end_of(nodes: &[u64], s: u64) -> u64
     word_of(nodes, s, Field::HullEnd)
 }
 
-// The child link of slot s: the left one where `left_side` holds.
+// Returns the child link of slot s: the left one if `left_side` is true, else the right one.
 pub fn child_of(nodes: &[u64], s: u64, left_side: bool) -> u64
     requires { ⌜ Has (now nodes) s ⌝ }
     ensures { λ r. ⌜ r ≡ kid (now (nodes .entry)) «left_side» s ⌝ }
@@ -136,7 +138,7 @@ pub fn interval_of(nodes: &[u64], s: u64) -> Interval
     }
 }
 
-// The hull of slot s: the least interval that contains those of its subtree.
+// Returns the hull of slot s, as the node has it.
 pub fn hull_at(nodes: &[u64], s: u64) -> Interval
     requires { ⌜ Has (now nodes) s ⌝ }
     ensures { λ r. ⌜ r ≡ hull (now (nodes .entry)) s ⌝ }
@@ -189,7 +191,7 @@ pub fn put_parent(nodes: &mut [u64], s: u64, v: u64)
     put_word(nodes, s, Field::Parent, v);
 }
 
-// All eight words of slot s.
+// Writes all eight words of slot s.
 pub fn put_node(nodes: &mut [u64], s: u64, e: Entry, h: Interval, left: u64, right: u64, up: u64)
     requires { ⌜ Has (now nodes) s ⌝ }
     ensures { λ _. ⌜ now (nodes .exit) ≡ putNode (now (nodes .entry)) s e h left right up ⌝ }
@@ -201,7 +203,8 @@ pub fn put_node(nodes: &mut [u64], s: u64, e: Entry, h: Interval, left: u64, rig
     put_parent(nodes, s, up);
 }
 
-// Swaps values and intervals between two nodes: six words. The hulls belong to the places in the tree and stay.
+// Swaps the values and the intervals of two nodes: six words. The hulls belong to the places in the
+// tree and stay unchanged.
 pub fn swap_with(nodes: &mut [u64], i: u64, j: u64)
     requires { ⌜ Has (now nodes) i × Has (now nodes) j ⌝ }
     ensures { λ _. ⌜ now (nodes .exit) ≡ swap (now (nodes .entry)) i j ⌝ }
@@ -212,7 +215,8 @@ pub fn swap_with(nodes: &mut [u64], i: u64, j: u64)
     put_entry(nodes, j, a);
 }
 
-// The interval d, extended by the hull behind a link if that leads to a slot.
+// Returns the interval d, extended by the hull of the slot that the link leads to, if it leads to
+// one.
 fn extend_by(nodes: &[u64], count: u64, word: u64, d: Interval) -> Interval
     requires { ⌜ Holds (now nodes) count ⌝ }
     ensures { λ r. ⌜ r ≡ joined count (now (nodes .entry)) word d ⌝ }
@@ -223,7 +227,7 @@ fn extend_by(nodes: &[u64], count: u64, word: u64, d: Interval) -> Interval
     d.extend(hull_at(nodes, k))
 }
 
-// The hull from the node's own interval and its children's hulls.
+// Returns the hull that the node's own interval and its children's hulls make.
 pub fn subtree_interval(nodes: &[u64], count: u64, index: u64) -> Interval
     requires { ⌜ Holds (now nodes) count × (index < count) ⌝ }
     ensures { λ r. ⌜ r ≡ hullOf count (now (nodes .entry)) index ⌝ }
@@ -233,7 +237,7 @@ pub fn subtree_interval(nodes: &[u64], count: u64, index: u64) -> Interval
     extend_by(nodes, count, child_of(nodes, index, false), left)
 }
 
-// Works the hull of slot `index` out afresh, and says whether either end changed.
+// Computes the hull of slot `index` anew and writes it. Returns whether either end changed.
 pub fn update_subtree_interval(nodes: &mut [u64], count: u64, index: u64) -> bool
     requires { ⌜ Holds (now nodes) count × (index < count) ⌝ }
     ensures { λ r. ⌜ (r ≡ altered count (now (nodes .entry)) index) × (now (nodes .exit) ≡ fix count (now (nodes .entry)) index) ⌝ }

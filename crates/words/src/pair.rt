@@ -6,7 +6,8 @@ pub struct Pair {
     pub new: u64,
 }
 
-// By rising old slot; those that are not used are (U, U).
+// The pairs of a removal, sorted by old slot. At most three entries move. An unused pair is (U, U).
+// U is the undefined link.
 pub struct Pairs {
     pub first: Pair,
     pub second: Pair,

@@ -17,7 +17,7 @@ pub enum Refusal {
 }
 
 impl Refusal {
-    // The refusal's number, from 1; 0 stands for none.
+    // Returns the refusal's number, from 1 to 10. The number 0 means: not refused.
     pub fn number(self) -> u64
         ensures { λ r. ⌜ r ≡ refusalNumber self ⌝ }
     {

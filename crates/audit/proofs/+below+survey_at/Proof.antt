@@ -18,7 +18,8 @@ use Rattle.audit.proofs.node_at.Reads as node-at-reads
 use Rattle.audit.proofs.+below+survey_at.{statement}
 use Rattle.audit.proofs.+below+survey_at.Tie.{close}
 
--- the height that is left, twice: `below` hands its own on to `survey_at`, and `survey_at` one less to `below`
+-- the height that is left, twice: `below` hands its own on to `survey_at`, and `survey_at` one less
+-- to `below`
 abbrev μ-below : Measures 2 below-kinds.ps ℕ
 μ-below κs a = 2 * a .1 .1 .1 .1 .1 .1 .0 + 1
 
