@@ -1,16 +1,18 @@
 // What stays from line to line.
 use words::ix::U;
 
-// What the last request left in the arena's copy, for `commit`: a map with its node words and colour bytes, or the
-// bytes of the bit calls. Store: count, root, how many hulls changed (for `last`), how many words, how many bytes. Bytes: how many.
+// What the last request left in the arena's copy, for `commit`: a map with its node words and
+// colour bytes, or the bytes of the bit calls. Store holds the count, the root, how many hulls
+// changed (for `last`), how many words and how many bytes. Bytes holds how many bytes. A slot's
+// hull is the least range that holds all entries of its subtree.
 pub enum Left {
     Nothing,
     Store(u64, u64, u64, usize, usize),
     Bytes(usize),
 }
 
-// The store: its map, how many node words and colour bytes it has; how many bytes the bit calls have; what the last
-// request left; and the place of the next byte of output in its buffer.
+// The store's map, how many node words and colour bytes it has, how many bytes the bit calls have,
+// what the last request left, and the place of the next byte in the output's buffer.
 pub struct State {
     pub count: u64,
     pub root: u64,
@@ -22,7 +24,7 @@ pub struct State {
 }
 
 impl State {
-    // Before the first line: the empty map, and no bytes at all.
+    // The state before the first line: the empty map, and no words or bytes.
     pub(crate) fn new() -> State {
         State {
             count: 0,
@@ -66,7 +68,7 @@ impl State {
         self.after(left, to)
     }
 
-    // After a line that left this and wrote up to here.
+    // The state after a line that left `left` and wrote the output up to `to`.
     pub(crate) fn after(self, left: Left, to: usize) -> State {
         State {
             count: self.count,
