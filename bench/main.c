@@ -1,8 +1,11 @@
-/* The crate iset 0.3.3 and this library in one program on the same inputs. Each case is run in rounds, the two sides one after the other in
-   each round, and the ratio of their times (this library's over the other's) is taken in each round; printed are the median, the least and the
-   greatest ratio, and how this library's time for one entry or one lookup grows from the least size on. Both sides' answers are compared on the
-   way. This library's calls are the exports: the opened ones, from C and through the Rust type `Store`, and of the public ones the check, the build and,
-   where it says so, the point lookups, each of which checks the whole store. Where a case says `against` another call of this library, both sides are. */
+/* The crate iset 0.3.3 and this library in one program on the same inputs. Each case is run in
+   rounds. In each round the two sides run one after the other, and the ratio of their times, this
+   library's over the other's, is taken. Printed are the median, the least and the greatest ratio,
+   and how this library's time for one entry or one lookup grows from the least size on. The answers
+   of both sides are compared. This library's calls are the exports. These are the opened calls,
+   from C and through the Rust type `Store`, and of the public calls the check, the build and, if
+   the case says so, the point lookups, each of which checks the whole store. If a case says
+   `against` another call of this library, both sides are this library's. */
 #include <stdbool.h>
 #include <stdint.h>
 #include <stdio.h>
@@ -68,7 +71,7 @@ static void same(uint64_t a, uint64_t b, const char *what) {
     }
 }
 
-/* The sum of the values of the hits: a drain hands out slots. */
+/* The sum of the values of the hits. A drain returns only their slots. */
 static uint64_t values(uint64_t hits) {
     uint64_t sum = 0;
     for (uint64_t i = 0; i < hits; i++)
@@ -76,7 +79,8 @@ static uint64_t values(uint64_t hits) {
     return sum;
 }
 
-/* Each side answers a number that is to be equal; the time of what prepares a round is not taken. */
+/* Each side returns a number, and the two must be equal. The time to prepare a round is not
+   taken. */
 typedef struct {
     const char *name;
     void (*prepare)(void);
@@ -93,7 +97,7 @@ static int by_size(const void *a, const void *b) {
     return (x > y) - (x < y);
 }
 
-/* A case that goes through `calls` entries or lookups. */
+/* A case that makes `calls` lookups or visits that many entries. */
 static void measure(bench_case *c, size_t calls) {
     double ratios[ROUNDS], times[ROUNDS];
     for (int k = 0; k < ROUNDS; k++) {
@@ -117,7 +121,7 @@ static void measure(bench_case *c, size_t calls) {
     fflush(stdout);
 }
 
-/* Removal of every entry, in one order by chance. */
+/* Removal of every entry, in one random order. */
 static map *victim;
 static void before_removal(void) {
     victim = rust_clone(crate);
@@ -139,7 +143,7 @@ static uint64_t remove_ours(void) {
     return sum;
 }
 static void after_removal(void) { rust_free(victim); }
-/* The same by the Rust type `Store`, which checks where it is opened. */
+/* The same by the Rust type `Store`, which checks the store when it is opened. */
 static store *opened;
 static void before_store_removal(void) {
     before_removal();
@@ -156,7 +160,8 @@ static void after_store_removal(void) {
     after_removal();
 }
 
-/* Insertion of every entry into the map of none, in one order by chance. The two stores are the same, word for word. */
+/* Insertion of every entry into the map of no entries, in one random order. The two stores are the
+   same, word for word. */
 static map *grown;
 static uint64_t grown_root;
 static void grow(map *m, const uint64_t *entries) {
@@ -216,7 +221,7 @@ static uint64_t all_by(uint64_t piece) {
 static uint64_t all_at_once(void) { return all_by(n); }
 static uint64_t all_in_pieces(void) { return all_by(PIECE); }
 
-/* Points by chance. Each public lookup checks the whole store, so there may be fewer of them a round. */
+/* Random points. Each public lookup checks the whole store, so a round may have fewer of them. */
 static uint64_t points[LOOKUPS], range_end;
 static size_t publics = LOOKUPS;
 static void before_points(void) {
@@ -260,7 +265,8 @@ static uint64_t points_public(void) {
     return sum;
 }
 
-/* The plain lookup, over the whole map beside the drain, and at points beside the pruned lookup: both sides are this library's. */
+/* The plain lookup, over the whole map beside the drain, and at points beside the pruned lookup.
+   Both sides are this library's. */
 static uint64_t plain(uint64_t kind, uint64_t at) {
     uint64_t answer[2] = {0};
     iset_open_plain(n, root, words, 8 * n, bytes, colour_bytes, kind, at, kind, at, out, n, answer, 2);
@@ -304,7 +310,7 @@ static uint64_t exact_by_store(void) {
 static uint64_t check_theirs(void) { return rust_check(words, 8 * n, bytes, colour_bytes, n, root); }
 static uint64_t check_ours(void) { return iset_check(n, root, words, 8 * n, bytes, colour_bytes) == ISET_OK; }
 
-/* The words are the same; the crate's colours differ at 65,535 entries, see docs/DIFFERENCES.md. */
+/* The words are the same. The crate's colours differ at 65,535 entries, see docs/DIFFERENCES.md. */
 static map *built;
 static uint64_t built_root;
 static uint64_t build_theirs(void) {
@@ -323,7 +329,7 @@ static void after_build(void) {
     rust_free(built);
 }
 
-/* The entries of the list in an order by chance. */
+/* The entries of the list in a random order. */
 static void mix(void) {
     memcpy(mixed, list, 24 * n);
     for (size_t k = 0; k < n; k++) {
@@ -334,7 +340,7 @@ static void mix(void) {
     }
 }
 
-/* n entries; `equals` of them in a row have the same range. */
+/* Lists n entries. Each `equals` of them in a row have the same range. */
 static void start(size_t size, uint64_t equals) {
     n = size;
     colour_bytes = n / 8 + 1;

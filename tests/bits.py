@@ -1,5 +1,6 @@
 #!/usr/bin/env python3
-"""What the program `test_bits` should print, by tests/model.py and not by its code: crates/test_bits/stdout is this."""
+"""What the program `test_bits` should print, by tests/model.py and not by its code. The output is
+crates/test_bits/stdout."""
 import model
 
 PATTERN = [165, 90, 15]

@@ -1,6 +1,6 @@
 #!/usr/bin/env python3
-"""What the program `drive` should answer to the lines on standard input, by tests/model.py and docs/DRIVE.md and not by its code:
-crates/drive/stdout is this of crates/drive/stdin."""
+"""What the program `drive` should answer to the lines on standard input, by tests/model.py and
+docs/DRIVE.md and not by its code. crates/drive/stdout is its output for crates/drive/stdin."""
 import re
 import sys
 

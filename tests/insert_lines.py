@@ -1,6 +1,7 @@
 #!/usr/bin/env python3
-"""Lines for `drive` about insertion: into the empty map, at every place of small stores, each case of the repair on each side, every refusal and each
-pair of them, and room that removals gave up. crates/drive/stdin has this before the lines of tests/reach_lines.py."""
+"""Lines for `drive` about insertion: into the empty map, at every place of small stores, each case
+of the repair on each side, every refusal and each pair of refusals, and into room that removals
+gave up. crates/drive/stdin has these lines before those of tests/reach_lines.py."""
 import model
 from stores import A, B, built, show
 

@@ -1,6 +1,7 @@
 #!/usr/bin/env python3
-"""Chains of builds, insertions and removals through tests/model.py: after each the check passes, no old slot moves at an insertion, the new
-entry is in slot count and comes after every entry that is not greater, and what lies above it stays."""
+"""Chains of builds, insertions and removals through tests/model.py. After each change the store
+passes the check. An insertion moves no old slot. The new entry is in slot count and comes after
+every entry that is not greater, and the slots above it are unchanged."""
 import random
 
 from model import U, START, END, VALUE, Store, build, in_order, insert, remove

@@ -1,6 +1,7 @@
 #!/usr/bin/env python3
-"""Lines for `drive` about removal, looking up and the stack: document 01's examples, every kind of range, good and bad cursors, outputs of
-every size that matters. crates/drive/stdin has this after the lines of tests/stores.py."""
+"""Lines for `drive` about removal, looking up and the stack: document 01's examples, every kind of
+range, valid and invalid cursors, outputs of every size that matters. crates/drive/stdin has these
+lines after those of tests/stores.py."""
 import model
 from stores import A, B, built, show
 

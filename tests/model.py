@@ -1,6 +1,7 @@
 #!/usr/bin/env python3
-"""What the calls answer and leave, from the words of document 01, and of document 02 for insertion and the plain lookup, in plain lists and
-recursion: neither the crate's code nor this project's. tests/drive.py speaks for it."""
+"""What the calls return and leave, from the words of document 01, and of document 02 for insertion
+and the plain lookup, in plain lists and recursion. It takes nothing from the code of the crate iset
+or of this project. tests/drive.py prints what it returns."""
 
 U = 4294967295
 START, END, VALUE, LO, HI, LEFT, RIGHT, PARENT = range(8)

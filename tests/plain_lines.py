@@ -1,6 +1,7 @@
 #!/usr/bin/env python3
-"""Lines for `drive` about the plain lookup: each query once by a drain from the fresh cursor to its end and then by the plain lookup, into outputs of every
-size that matters, and every refusal and each pair of them. crates/drive/stdin ends in this."""
+"""Lines for `drive` about the plain lookup. Each query is made by a drain from the fresh cursor to
+its end, and then by the plain lookup, into outputs of every size that matters. Every refusal and
+each pair of refusals is tried. crates/drive/stdin ends with these lines."""
 import random
 
 import model

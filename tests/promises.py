@@ -1,10 +1,14 @@
 #!/usr/bin/env python3
-"""promises.py: no public function stands without a promise (docs/DECISIONS.md, 'What is a public function').
+"""promises.py: every public function has a promise (docs/DECISIONS.md, 'What is a public
+function').
 
-A public function is a `pub fn` or a `pub extern "C" fn`: what another crate, or a host, can call. This reads the sources and the proofs, and asks of
-each an `ensures` that says what it returns and what is left, at its exit, in all that it is lent by `&mut`. These are equations of the answer and of
-each lent thing by itself, or a theorem NAME-determined says that the promise leaves one choice. A public call has no `requires`, and has that theorem
-always; an inner function may have premises. One that returns nothing and is lent nothing by `&mut` has nothing to promise.
+A public function is a `pub fn` or a `pub extern "C" fn`: another crate, or a host, can call it.
+This reads the sources and the proofs. Each public function must have an `ensures` that says what it
+returns, and what it leaves at its exit in all that is lent to it by `&mut`. Either these are
+equations, of the answer and of each lent thing by itself, or a theorem NAME-determined says that
+the promise leaves one choice. A public call has no `requires`, and always has that theorem. An
+inner function may have premises. A function that returns nothing and is lent nothing by `&mut` has
+nothing to promise.
 """
 import pathlib
 import re
@@ -14,9 +18,10 @@ TOP = pathlib.Path(__file__).resolve().parent.parent
 
 # Here every public function is a public call.
 CALLS = {'iset', 'iset_c', 'iset_c_open', 'slotlist_core', 'lines'}
-# But these modules hold what one face of the exports lends to the other: inner functions.
+# But these modules hold what one crate of exports takes from the other: inner functions.
 INNER = {('iset_c', 'answer'), ('iset_c', 'range')}
-# Here the public calls are those that answer one of these types, and `new`; the others are inner functions, as in all other crates.
+# Here the public calls are those that return one of these types, and `new`. The others are inner
+# functions, as in all other crates.
 ANSWERS = {'bitvec': {'Answer'}, 'stack': {'Answer', 'Outcome', 'After'}}
 # The whole tree has more; a reading that finds fewer has gone wrong.
 FEWEST_FUNCTIONS, FEWEST_CALLS = 100, 50

@@ -1,5 +1,7 @@
 #!/usr/bin/env python3
-"""Lines for `drive` about how many hulls a removal or an insertion changed: each with `last` after it. The last part of crates/drive/stdin is this."""
+"""Lines for `drive` about how many hulls a removal or an insertion changed, each with `last` after
+it. A slot's hull is the least range that holds all entries of its subtree. crates/drive/stdin has
+these lines between those of tests/insert_lines.py and those of tests/plain_lines.py."""
 import random
 
 import model

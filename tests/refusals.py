@@ -1,21 +1,28 @@
 #!/usr/bin/env python3
-"""refusals.py: every change of every must-fail edit is refused on its own account, and for what it says.
+"""refusals.py: every change of every must-fail edit is refused by itself, and for the named reason.
 
-rt tries an edit, and asks that the crate be refused. An edit may hold several changes, and one of them would be enough for that. So this holds each edit,
-crates/NAME/must-fail/LABEL.edit, to the form below, and the log that `rt ci` or `rt must-fail` left of it, in target/must-fail, to the names in it.
+rt tries an edit, and asks that the crate be refused. An edit may hold several changes, and one of
+them would be enough for that. So this compares each edit, crates/NAME/must-fail/LABEL.edit, with
+the form below. It compares the names in the edit with the log that `rt ci` or `rt must-fail` left
+of it in target/must-fail.
 
 The form. An edit is a list of changes. A change is, in this order:
-  `# ..`              a sentence on what the change makes wrong, on one line or more. A change without one is one more of what the last sentence says.
-  `file: ..`          the file that the pairs after it are of, up to the next such line.
-  `old: ..`/`new: ..` a pair. A change has one, besides those inside a `use` line, which only bring in a name. Where one change takes N pairs,
-                      its own sentence says `in N places`.
-  `refused: ..`       what must not stand because of this change: one name or more, and none of them twice in one edit. A function is named by its path, as
-                      iset::Map::check; a theorem by its name, as new-determined, with its file before it, as Fills.turn, where several files have one.
+  `# ..`              a sentence on what the change makes wrong, on one line or more. A change
+                      without one is one more of what the last sentence says.
+  `file: ..`          the file of the pairs after it, up to the next such line.
+  `old: ..`/`new: ..` a pair. A change has one, besides those inside a `use` line, which only bring
+                      in a name. If one change takes N pairs, its own sentence says `in N places`.
+  `refused: ..`       what must not be proved because of this change: one name or more, and no name
+                      twice in one edit. A function is named by its path, as iset::Map::check. A
+                      theorem is named by its name, as new-determined, with its file before it, as
+                      Fills.turn, if several files have one.
 
-The log. A function counts as refused if its own proof fails, not if it only calls one that is not proved; a theorem if it is refused itself, not if it
-only cites one that is. One of the errors must say that a fact does not hold, or that no proof of it is found (FACT). An error that says only that the
-proof's text does not fit the changed code, as a field or a name that is gone, shows nothing.
-A log that is older than the edit, or than a file of the crate or of a crate below it, is of something else, and counts as no log.
+The log. A function counts as refused if its own proof fails, not if it only calls one that is not
+proved. A theorem counts if it is refused itself, not if it only cites one that is. One of the
+errors must say that a fact does not hold, or that no proof of it is found (FACT). An error shows
+nothing if it says only that the proof's text does not fit the changed code, as a field or a name
+that is gone. A log counts as no log if it is older than the edit, than a file of the crate, or than
+a file of a crate below it.
 """
 import pathlib
 import re

@@ -1,8 +1,8 @@
 #!/usr/bin/env python3
 """sentences.py: the papers keep to CONTRIBUTING.md's rule of words, as far as a program can tell.
 
-No line of prose is over 100 columns; tables and code blocks may be. A few words that are always wrong
-in these papers are not used outside code: each has a better one beside it below.
+No line of prose is over 100 columns. Tables and code blocks may be. A few words that are always
+wrong in these papers are not used outside code. Each of them has a better one beside it below.
 """
 import pathlib
 import re

@@ -1,6 +1,7 @@
 #!/usr/bin/env bash
-# Runs the program `slotlist` on each case of tests/slotlist.py as a file, and through a pipe that hands it over in small pieces; compares what it
-# prints, byte by byte, with the model's answer. The program has to be built (rt check slotlist). The last line is 'slotlist: N passed, M failed'.
+# Runs the program `slotlist` on each case of tests/slotlist.py, as a file and through a pipe that
+# gives it in small pieces. Compares its output, byte by byte, with the model's. The program must be
+# built (rt check slotlist). The last line is 'slotlist: N passed, M failed'.
 set -eu
 top=$(cd "$(dirname "$0")/.." && pwd)
 kit=$(dirname "$(dirname "$(rt doc)")")

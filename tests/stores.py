@@ -1,6 +1,7 @@
 #!/usr/bin/env python3
-"""Lines for `drive` about the check and the build: the stores of document 01, copies of them that break one clause each, and lists.
-The middle part of crates/drive/stdin is this; tests/lookups.py, tests/insert_lines.py and tests/reach_lines.py print the rest."""
+"""Lines for `drive` about the check and the build: the stores of document 01, copies of them that
+break one clause each, and lists. They are one part of crates/drive/stdin. After it come the lines
+of tests/lookups.py, tests/insert_lines.py, tests/reach_lines.py and tests/plain_lines.py."""
 import model
 
 U = model.U

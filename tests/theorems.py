@@ -1,9 +1,9 @@
 #!/usr/bin/env python3
-"""theorems.py: docs/THEOREMS.md and docs/READING.md say what stands in the sources.
+"""theorems.py: docs/THEOREMS.md and docs/READING.md say what the sources say.
 
-A statement shown in a fenced block stands verbatim in the file that the line before the block names. Every theorem that a table names is
-declared in a file that the same row names, every file that the two papers name exists, and a number of lines is that of its file, without
-blank lines and imports.
+A statement in a fenced block is verbatim in the file that the line before the block names. Every
+theorem that a table names is declared in a file that the same row names. Every file that the two
+papers name exists. A number of lines is that of its file, without blank lines and imports.
 
 With --mend it first writes into the papers what the sources say now: the numbers of lines, and each
 shown statement whose first and last declaration still have their names.

@@ -1,7 +1,7 @@
-// Every call of include/iset.h on the examples of document 01 and on bad input. Each call prints
-// one line: its name, the number that it returned and, where that is 0, the answer. After every
-// call it is tested that nothing changed that may not: nothing at all where the call was refused,
-// and never a place past what was lent. Such a change is printed at the line's end.
+// Makes every call of include/iset.h on the examples of document 01 and on bad input. Each call
+// prints one line: its name, the number that it returned and, if that is 0, the answer. After every
+// call it is tested that nothing changed that may not: nothing at all if the call was refused, and
+// never a place past what was lent. Such a change is printed at the line's end.
 #include <inttypes.h>
 #include <stdio.h>
 #include <stdlib.h>

@@ -1,7 +1,7 @@
 #!/usr/bin/env python3
-"""lines.py REQUESTS ANSWERS: takes from the recorded lines of the programs drive and test_vectors those
-that the opened calls take and whose store passes the check. It writes them, each after a line
-`store`, to REQUESTS, and the recorded answers to ANSWERS."""
+"""lines.py REQUESTS ANSWERS: takes the recorded lines of the programs drive and test_vectors that
+the opened calls take, if the store passes the check. It writes them, each after a line `store`, to
+REQUESTS, and the recorded answers to ANSWERS."""
 import pathlib
 import sys
 

@@ -1,8 +1,8 @@
 /* The structs of include/iset_map.h beside the calls of include/iset.h. Three copies of a store go
- * through the same changes and lookups by chance: the first by the calls themselves, the second by
- * the wrappers of the public calls, the third by those of the opened calls. Numbers, answers and
- * stores must be equal each time. A refused call must leave the map and an empty answer. Then the
- * names of the refusals, and the sizes. The file is C99 and C++. */
+ * through the same random changes and lookups: the first by the calls themselves, the second by the
+ * wrappers of the public calls, the third by those of the opened calls. Numbers, answers and stores
+ * must be equal each time. A refused call must leave the map unchanged, and an empty answer. Then
+ * the names of the refusals and the sizes are tested. The file is C99 and C++. */
 #include <inttypes.h>
 #include <stdio.h>
 #include <stdlib.h>

@@ -1,8 +1,8 @@
 // The calls of include/iset_open.h. First on a store that was checked once, beside those of
-// include/iset.h on a copy of it: numbers, answers and arrays must be equal after each call,
-// refused ones among them, and the slots that iset_slot_after gives must hold the entries that were
-// kept. Then on damaged stores and any map: every call must end, and the words around the arrays
-// must stay; nothing is said of the answers.
+// include/iset.h on a copy of it. Numbers, answers and arrays must be equal after each call, also
+// after a refused one. The slots that iset_slot_after returns must hold the entries that were kept.
+// Then on damaged stores and any map: every call must end, and the words around the arrays must be
+// unchanged. There the answers may be anything.
 #include <inttypes.h>
 #include <stdio.h>
 #include <stdlib.h>

@@ -1,5 +1,6 @@
 #!/usr/bin/env python3
-"""prepare.py SOURCES TARGET: copies the crate iset 0.3.3 into TARGET and adds what the comparison must see. The originals stay as they are."""
+"""prepare.py SOURCES TARGET: copies the crate iset 0.3.3 into TARGET and adds what the comparison
+must see. The originals are unchanged."""
 import pathlib
 import sys
 
@@ -19,7 +20,8 @@ dot = []
 warnings = "allow"
 """
 
-# Each old text must stand exactly once in its file; otherwise the sources are not the ones this was written for.
+# Each old text must be exactly once in its file. Otherwise the sources are not the ones that this
+# was written for.
 CHANGES = {
     # The bytes are lent here: pop drops none, so the bit of the old last slot can still be read; push adds a byte only where there is none.
     "bitvec.rs": [

@@ -1,4 +1,4 @@
-// Answers requests on a map, a line each (docs/DRIVE.md).
+// Answers requests on a map, one line each (docs/DRIVE.md).
 fn main() {
     drive_core::answer_lines(b"drive");
 }

@@ -1,10 +1,10 @@
-// The answers: their numbers, what a request changed, and the answer to a line that fits nothing.
+// The answers: their numbers, what a request changed, and the answer to an invalid line.
 use crate::arena;
 use crate::state::State;
 use lines::output;
 ghost use Prim.Native.Nat.{_≤_};
 
-// A line that fits nothing: nothing changes.
+// The answer to an invalid line. Nothing changes.
 pub(crate) fn what(s: State, out: &mut [u8]) -> State {
     let to = output::put_text(out, s.to, b"what\n");
     let left = s.left;
@@ -27,32 +27,34 @@ pub(crate) fn put_first(list: &[u64], n: usize, out: &mut [u8], to: usize) -> us
     at
 }
 
-// The numbers that an answer begins with: the refusal's, 0 for none, and the first n of the others.
+// The numbers that an answer begins with: the refusal's, 0 if there is none, and the first n of the
+// others.
 pub(crate) fn put_numbers(no: u64, others: &[u64], n: usize, out: &mut [u8], to: usize) -> usize {
     let first = output::put_number(out, to, no);
     put_first(others, n, out, first)
 }
 
-// An answer that is its numbers alone, and leaves nothing: `commit` takes what the request before it left.
+// An answer that has only its numbers. Such a request leaves nothing for `commit`, which takes what
+// an earlier request left.
 pub(crate) fn line(s: State, no: u64, others: &[u64], n: usize, out: &mut [u8]) -> State {
     let to = put_numbers(no, others, n, out, s.to);
     let left = s.left;
     s.after(left, output::put_byte(out, to, b'\n'))
 }
 
-// The sign before what a request changed.
+// The sign that is printed before what a request changed.
 pub(crate) fn put_sign(out: &mut [u8], to: usize) -> usize {
     output::put_text(out, to, b" @")
 }
 
-// 1 where the two differ, else 0.
+// 1 if the two differ, else 0.
 fn differ(a: u64, b: u64) -> u64
     ensures { λ r. ⌜ r ≤ 1 ⌝ }
 {
     if a == b { 0 } else { 1 }
 }
 
-// Place i with its new content, if that differs from the old one.
+// Prints place i and its new content, if that differs from the old one.
 fn put_change(out: &mut [u8], to: usize, i: usize, old: u64, new: u64) -> usize {
     if old == new {
         to
@@ -73,7 +75,7 @@ fn count_words(words: &[u64], old: usize, new: usize, n: usize) -> u64 {
     k
 }
 
-// What differs in n words of two parts: how many places, then each.
+// Prints what differs in n words of two parts: how many places differ, then each of them.
 pub(crate) fn put_words(
     words: &[u64],
     old: usize,

@@ -1,11 +1,13 @@
-// All that the requests work on stands in one arena of numbers, in which a byte is a number too: the copy that the last
-// request worked on, the store that the settings gave, and the bytes of the bit calls. A place is given by where its part
-// begins and its index there; reading outside gives 0 and writing outside does nothing, so that no caller has to know the sizes.
+// All that the requests work on is in one arena, a slice of numbers in which a byte is a number
+// too. It holds the copy that the last request worked on, the store that the settings gave, and the
+// bytes of the bit calls. A place is given by where its part begins and its index there. Reading
+// outside the arena gives 0 and writing outside does nothing, so no caller needs to know the sizes.
 use words::numbers::wide;
 ghost use mathlib.Core.Path.{_≡_};
 ghost use lib.ListN.{length};
 
-// The copy: node words from 0 on, and from here its bytes, the colours or those of the bit calls.
+// The copy: its node words begin at 0. Its bytes begin here: the colours, or the bytes of the bit
+// calls.
 pub const NEW_BYTES: usize = 32768;
 
 // The store: its node words and its colours.
@@ -46,7 +48,7 @@ pub(crate) fn copy_words(words: &mut [u64], from: usize, to: usize, n: usize) {
     }
 }
 
-// Takes n numbers from place k on over as the words of a part.
+// Copies n numbers, from place k on, to the words of a part.
 pub(crate) fn take_words(words: &mut [u64], base: usize, numbers: &[u64], k: usize, n: usize) {
     let mut i = 0;
     while i < n {
@@ -62,12 +64,12 @@ pub(crate) fn byte_space() -> [u8; 512]
     [0; 512]
 }
 
-// The byte that a number stands for; whether it is one is tested before.
+// The number as a byte. The settings test that it is below 256.
 fn byte_of(x: u64) -> u8 {
     if x < 256 { x as u8 } else { 0 }
 }
 
-// Fills the bytes from those of a part.
+// Fills the bytes with those of a part.
 pub(crate) fn load(words: &[u64], base: usize, bytes: &mut [u8]) {
     let mut i = 0;
     while i < bytes.len() {
@@ -76,7 +78,7 @@ pub(crate) fn load(words: &[u64], base: usize, bytes: &mut [u8]) {
     }
 }
 
-// Puts the bytes back as those of a part.
+// Writes the bytes to those of a part.
 pub(crate) fn save(words: &mut [u64], base: usize, bytes: &[u8]) {
     let mut i = 0;
     while i < bytes.len() {

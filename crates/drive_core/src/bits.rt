@@ -20,7 +20,7 @@ pub enum Call {
     FromElem,
 }
 
-// A call's length, and its place and its bit where it has them.
+// A call's length, and its place and its bit if it has them.
 struct Given {
     len: usize,
     at: usize,
@@ -46,7 +46,7 @@ fn count_of(call: Call) -> usize {
     }
 }
 
-// Where the bit stands that the call writes; 3, where no number is, if it writes none.
+// Which number is the bit that the call writes, or 3 if it writes no bit: no call has a number 3.
 fn bit_place(call: Call) -> usize {
     match call {
         Call::Set => 2,
@@ -69,7 +69,7 @@ fn given_of(call: Call, numbers: &[u64]) -> Given {
     }
 }
 
-// A refused call has bit 0 and the length as given.
+// A refused call shows bit 0 and the length as given.
 fn shown_of(a: Answer, given: usize) -> Shown {
     match a {
         Answer::Done(bit, v) => Shown {
@@ -85,7 +85,7 @@ fn shown_of(a: Answer, given: usize) -> Shown {
     }
 }
 
-// The length that a refused call has: the one given, 0 for `bfrom`.
+// The length that a refused call shows: the given one, or 0 for `bfrom`.
 fn given_length(call: Call, len: usize) -> usize {
     if let Call::FromElem = call { 0 } else { len }
 }
@@ -102,7 +102,7 @@ fn done(call: Call, g: Given, bytes: &mut [u8]) -> Answer {
     }
 }
 
-// Makes the call on a copy, for which `bytes` has the room.
+// Makes the call on a copy. `bytes` has the room for it.
 fn on_copy(call: Call, g: Given, words: &mut [u64], bytes: &mut [u8]) -> Answer {
     arena::load(words, BYTES, bytes);
     let a = done(call, g, bytes);
@@ -117,7 +117,7 @@ fn answered(call: Call, g: Given, words: &mut [u64], n: usize) -> Shown {
     shown_of(a, given_length(call, g.len))
 }
 
-// The line: the answer's numbers, then what differs in the bytes.
+// Prints the line: the answer's numbers, then what differs in the bytes.
 fn line(s: State, a: Shown, words: &[u64], out: &mut [u8]) -> State {
     let n = s.bytes;
     let others = [answer::bit_number(a.bit), a.len as u64];

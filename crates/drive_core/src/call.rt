@@ -9,7 +9,7 @@ use crate::stacks;
 use lines::input::Line;
 use words::numbers::least;
 
-// Nothing: a comment or an empty line. Unknown: a line that fits nothing.
+// Nothing is a comment or an empty line. Unknown is an invalid line.
 pub enum Call {
     Nothing,
     Unknown,
@@ -21,8 +21,9 @@ pub enum Call {
     Last,
 }
 
-// The names, in the order of `call_at`. A name ends in a space if numbers follow it. crates/drive/stdin
-// makes every one of these requests, so that a name in a wrong place shows in its answer.
+// The names, in the order of `call_at`. A name ends in a space if numbers follow it.
+// crates/drive/stdin makes every one of these requests, so a name in a wrong place shows in its
+// answer.
 fn place_of(name: &[u8]) -> usize {
     given::which(
         name,
@@ -95,7 +96,7 @@ fn named(line: Line, name: &[u8], numbers: &[u64]) -> Call {
     call_with(call_at(place_of(&name[..n])), &numbers[..k])
 }
 
-// A comment may hold anything, also what makes a line wrong.
+// A comment may hold anything, also what would make another line wrong.
 fn is_comment(line: Line, name: &[u8]) -> bool {
     if 0 < name.len() {
         (0 < line.name) & (name[0] == b'#')

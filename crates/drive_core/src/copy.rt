@@ -1,4 +1,5 @@
-// What each request on the store begins and ends with: a copy of the store, and what then differs in it.
+// What each request on the store begins and ends with: it makes a copy of the store, and prints
+// what then differs in the copy.
 use crate::answer;
 use crate::arena;
 use crate::arena::COLOURS;
@@ -13,7 +14,9 @@ pub(crate) fn begin(s: State, words: &mut [u64]) {
     arena::copy_words(words, COLOURS, NEW_BYTES, s.colours);
 }
 
-// The line's end from `to` on, and what the request left beside the copy: the map, and how many hulls changed.
+// Prints the end of the line from `to` on. Keeps what the request left beside the copy: the map,
+// and how many hulls changed. A slot's hull is the least range that holds all entries of its
+// subtree.
 pub(crate) fn end(
     s: State,
     count: u64,
@@ -40,7 +43,7 @@ pub(crate) fn end(
     )
 }
 
-// A line of an answer's numbers and what differs.
+// Prints a line: an answer's numbers, and what differs.
 pub(crate) fn line(
     s: State,
     count: u64,

@@ -1,7 +1,7 @@
 // The numbers of a line, and whether a line fits a request.
 ghost use Prim.Native.Nat.{_≤_};
 
-// Number k of the line, 0 if there is none.
+// Number k of the line, or 0 if the line has none.
 pub(crate) fn number(numbers: &[u64], k: usize) -> u64 {
     if k < numbers.len() { numbers[k] } else { 0 }
 }
@@ -37,7 +37,8 @@ pub(crate) fn ends_in_bytes(numbers: &[u64], k: usize, end: usize) -> bool {
     (numbers.len() == end) & are_bytes(numbers, k)
 }
 
-// One more byte of a name in a list of names: how many bytes of `name` it has then, or usize::MAX where they differ.
+// Compares one more byte of a name in the list of names. Returns how many bytes of `name` are
+// matched then, or usize::MAX if they differ.
 fn matched(name: &[u8], k: usize, b: u8) -> usize {
     if k < name.len() {
         if name[k] == b {
@@ -47,8 +48,8 @@ fn matched(name: &[u8], k: usize, b: u8) -> usize {
     usize::MAX
 }
 
-// Which of the names it is, each of which ends in a semicolon; how many there are if it is not one
-// of them.
+// Returns which of the names it is, or how many names there are if it is not one of them. Each of
+// `names` ends in a semicolon.
 pub(crate) fn which(name: &[u8], names: &[u8]) -> usize {
     let mut n = 0;
     let mut k = 0;

@@ -15,8 +15,8 @@ pub struct Place {
     pub end: usize,
 }
 
-// A byte of the input, and where the next one stands. At the end of the input, and if a read fails, the byte is a
-// line's end, and the last one.
+// A byte of the input, and where the next one is. At the end of the input, and if a read fails, the
+// byte is a line's end, and `last` is true.
 struct Byte {
     byte: u8,
     at: usize,
@@ -25,8 +25,8 @@ struct Byte {
     failed: bool,
 }
 
-// A line that was read: what it asks for, where the next one begins, whether it is the last, and whether that is
-// because a read failed.
+// A line that was read: what it asks for, where the next one begins, whether it is the last, and
+// whether it is the last because a read failed.
 pub struct Asked {
     pub call: Call,
     pub at: usize,
@@ -35,15 +35,15 @@ pub struct Asked {
     pub failed: bool,
 }
 
-// Room for the longest name; a longer one fits nothing.
+// Room for the longest name. A longer one makes the line invalid.
 fn name_space() -> [u8; 32]
     ensures { λ r. ⌜ 32 ≡ length r ⌝ }
 {
     [0; 32]
 }
 
-// The first byte of what is read anew: of a file as much as the buffer holds, of a pipe or a terminal what is
-// there by now.
+// Reads again, and returns the first byte. A file fills the buffer; a pipe or a terminal gives what
+// it has by now.
 fn refilled(input: &mut [u8]) -> Byte {
     let got = libc::read(STDIN_FILENO, input);
     let n = io::count(got, input);
@@ -93,7 +93,7 @@ fn next(input: &mut [u8], at: usize, end: usize) -> Byte {
     }
 }
 
-// What a line asks for. One that a failed read cut off asks for nothing.
+// What a line asks for. A line that a failed read cut off asks for nothing.
 fn call_in(line: Line, failed: bool, name: &[u8], numbers: &[u64]) -> Call {
     if failed {
         Call::Nothing
@@ -102,7 +102,7 @@ fn call_in(line: Line, failed: bool, name: &[u8], numbers: &[u64]) -> Call {
     }
 }
 
-// The line at its end.
+// The line that ends here.
 fn complete(line: Line, b: Byte, name: &[u8], numbers: &mut [u64]) -> Asked {
     let whole = line.end(numbers);
     Asked {
@@ -114,8 +114,9 @@ fn complete(line: Line, b: Byte, name: &[u8], numbers: &mut [u64]) -> Asked {
     }
 }
 
-// Reads a line, and leaves its numbers. The last one may lack its end; an empty line asks for nothing, so that one is always
-// there. The loop is bounded by 2^64 rounds, so that the proof can show that it ends.
+// Reads a line, and leaves its numbers in `numbers`. The last line may lack its end. If nothing is
+// left, the line is empty and asks for nothing, so there is always one. The loop is bounded by 2^64
+// rounds, so that the proof can show that it ends.
 fn line(input: &mut [u8], p: Place, name: &mut [u8], numbers: &mut [u64]) -> Asked {
     let mut line = Line::new();
     let mut b = next(input, p.at, p.end);

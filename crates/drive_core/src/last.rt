@@ -1,4 +1,6 @@
-// `last`: the version of the map that the last request left, and how many hulls changed in it. A map has no version yet: it is 0.
+// `last`: the version of the map that the last request left, and how many hulls changed in it. A
+// slot's hull is the least range that holds all entries of its subtree. A map has no version yet,
+// so the version is 0.
 use crate::answer;
 use crate::state::Left;
 use crate::state::State;

@@ -1,4 +1,5 @@
-// Every public call by its numbers: one line in, one line out. docs/DRIVE.md says what it reads and writes.
+// Every public call by its numbers: one line in, one line out. docs/DRIVE.md says what it reads and
+// writes.
 mod answer;
 mod arena;
 mod bits;
@@ -48,14 +49,14 @@ fn answered(s: State, call: Call, numbers: &[u64], words: &mut [u64], out: &mut 
     }
 }
 
-// What is left of the output in its buffer, and whether to stop.
+// How much output is still in the buffer, and whether to stop.
 struct Sent {
     to: usize,
     stop: bool,
 }
 
-// Whether what is in the buffer of the output could be written. If not, standard output is closed, for
-// output::close to say so.
+// Writes what is in the output's buffer, and returns whether that succeeded. If not, it closes
+// standard output, so that output::close reports it.
 fn is_sent(out: &[u8], to: usize) -> bool {
     if to <= out.len() {
         if io::write_all(STDOUT_FILENO, &out[..to]) {
@@ -66,7 +67,8 @@ fn is_sent(out: &[u8], to: usize) -> bool {
     false
 }
 
-// The answers go out before more input is read, so that another program can wait for each of them.
+// Writes the answers out before more input is read, so that another program can wait for each of
+// them.
 fn hand_over(input: &[u8], place: Place, last: bool, out: &[u8], to: usize) -> Sent {
     if input::has_line(input, place) {
         Sent { to, stop: false }
@@ -78,8 +80,9 @@ fn hand_over(input: &[u8], place: Place, last: bool, out: &[u8], to: usize) -> S
     }
 }
 
-// Answers line after line to the end of the input, or until a read or a write fails, and says whether a read
-// did. The loop is bounded by 2^64 rounds, so that the proof can show that it ends.
+// Answers line after line to the end of the input, or until a read or a write fails. Returns
+// whether a read failed. The loop is bounded by 2^64 rounds, so that the proof can show that it
+// ends.
 fn session(input: &mut [u8], numbers: &mut [u64], words: &mut [u64], out: &mut [u8]) -> bool {
     let mut s = State::new();
     let mut place = Place { at: 0, end: 0 };
@@ -102,8 +105,8 @@ fn session(input: &mut [u8], numbers: &mut [u64], words: &mut [u64], out: &mut [
     false
 }
 
-// Answers the lines of standard input on standard output. What fails is said on standard error, after the name
-// of the program.
+// Answers the lines of standard input on standard output. A failed read or write is reported on
+// standard error, after the name of the program.
 pub fn answer_lines(name: &[u8]) {
     let mut input = io::large_buffer();
     let mut out = io::large_buffer();

@@ -1,4 +1,4 @@
-// The requests that look up. They write nothing, so that they are made on the store itself.
+// The requests that look up. They change nothing, so they are made on the store itself.
 mod drain;
 mod fresh;
 pub mod query;
@@ -121,7 +121,7 @@ fn in_store(
     )
 }
 
-// After the numbers of a call that has an output comes all of it.
+// If a call has an output, the whole output is printed after the numbers.
 fn put_hits(call: Call, hits: &[u64], out: &mut [u8], to: usize) -> usize {
     if has_output(call) {
         let first = output::put_next(out, to, hits.len() as u64);
@@ -131,7 +131,7 @@ fn put_hits(call: Call, hits: &[u64], out: &mut [u8], to: usize) -> usize {
     }
 }
 
-// The line of a step, a drain or a plain lookup, which leaves the store as it is.
+// Prints the line of a step, a drain or a plain lookup. The store is unchanged.
 fn line(s: State, call: Call, a: Reply, words: &mut [u64], hits: &[u64], out: &mut [u8]) -> State {
     let numbers = a.numbers;
     copy::begin(s, words);
@@ -140,13 +140,13 @@ fn line(s: State, call: Call, a: Reply, words: &mut [u64], hits: &[u64], out: &m
     copy::end(s, s.count, s.root, 0, words, out, to)
 }
 
-// The line of `fresh`.
+// Prints the line of `fresh`.
 fn fresh_line(s: State, a: Reply, out: &mut [u8]) -> State {
     let numbers = a.numbers;
     answer::line(s, a.no, &numbers, 3, out)
 }
 
-// The request with this output.
+// Makes the request with this output.
 fn into(
     s: State,
     call: Call,
@@ -164,7 +164,7 @@ fn into(
     }
 }
 
-// The output: a number in each place by which one can see what a lookup leaves alone.
+// The output. Each place holds a number that shows whether a lookup left it unchanged.
 fn hits_space() -> [u64; 4096]
     ensures { λ r. ⌜ 4096 ≡ length r ⌝ }
 {

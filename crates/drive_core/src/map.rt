@@ -40,7 +40,7 @@ fn done(call: Call, m: Map, numbers: &[u64], nodes: &mut [u64], colours: &mut [u
     }
 }
 
-// Makes the call on the copy, for whose colours `colours` has the room.
+// Makes the call on the copy. `colours` has the room for the copy's colours.
 fn on_copy(s: State, call: Call, numbers: &[u64], words: &mut [u64], colours: &mut [u8]) -> Reply {
     let m = Map {
         count: s.count,

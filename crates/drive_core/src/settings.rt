@@ -1,4 +1,5 @@
-// The settings: the store, the bytes of the bit calls, and taking over what the last request left.
+// The settings: the store, the bytes of the bit calls, and `commit`, which takes over what the
+// last request left.
 use crate::arena;
 use crate::arena::BYTES;
 use crate::arena::COLOURS;

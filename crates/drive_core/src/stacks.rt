@@ -1,4 +1,5 @@
-// The stack calls. They are about no memory and leave nothing, so that `commit` takes what the request before them left.
+// The stack calls. They use no memory and leave nothing for `commit`, which takes what an earlier
+// request left.
 use crate::answer;
 use crate::given;
 use crate::state::State;
@@ -20,7 +21,7 @@ pub enum Call {
     IsEmpty,
 }
 
-// What is printed of an answer: the refusal's number, what was tested and the stack.
+// What is printed of an answer: the refusal's number, the result of a test, and the stack.
 struct Shown {
     no: u64,
     test: bool,
@@ -31,7 +32,7 @@ pub(crate) fn fits(numbers: &[u64]) -> bool {
     numbers.len() == 2
 }
 
-// A refused test has the stack as given.
+// A refused test shows the stack as given.
 fn tested(a: Answer, given: ActionStack) -> Shown {
     match a {
         Answer::Done(test, stack) => Shown { no: 0, test, stack },
@@ -43,7 +44,8 @@ fn tested(a: Answer, given: ActionStack) -> Shown {
     }
 }
 
-// A call that changes the stack tests nothing; refused or not, the stack is shown as the call left it.
+// A call that changes the stack tests nothing. Refused or not, it shows the stack as the call left
+// it.
 fn changed(a: After) -> Shown {
     let outcome = a.outcome;
     let stack = a.stack;

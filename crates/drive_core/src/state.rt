@@ -16,8 +16,8 @@ pub enum Left {
     Bytes(usize),
 }
 
-// The store: its map, how many node words and colour bytes it has; how many bytes the bit calls have; what the last
-// request left; and the place of the next byte of output in its buffer.
+// The store's map, how many node words and colour bytes it has, how many bytes the bit calls have,
+// what the last request left, and the place of the next byte in the output's buffer.
 pub struct State {
     pub count: u64,
     pub root: u64,
@@ -29,7 +29,7 @@ pub struct State {
 }
 
 impl State {
-    // Before the first line: the empty map, and no bytes at all.
+    // The state before the first line: the empty map, and no words or bytes.
     pub(crate) fn new() -> State {
         State {
             count: 0,
@@ -73,7 +73,7 @@ impl State {
         self.after(left, to)
     }
 
-    // After a line that left this and wrote up to here.
+    // The state after a line that left `left` and wrote the output up to `to`.
     pub(crate) fn after(self, left: Left, to: usize) -> State {
         State {
             count: self.count,

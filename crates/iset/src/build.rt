@@ -1,4 +1,4 @@
-// Building a map from a list of triples start, end, value.
+// Builds a map from a list of triples start, end, value.
 use crate::Checked;
 use crate::Map;
 use builder::from_sorted;
@@ -11,14 +11,14 @@ ghost use Rattle.iset.specs.Check.{checkNumber};
 ghost use Rattle.iset.specs.Effects.{effect};
 ghost use Rattle.iset.specs.Build.{buildNumber, buildAnswer, buildCall};
 
-// What a build answers.
+// What a build returns.
 pub enum Built {
     Done(Map),
     Refused(Refusal),
 }
 
-// The first refusal of a list that is to be built into `words` node words and `bytes` colour bytes.
-// Each test visits the whole list.
+// The first refusal of building a list into `words` node words and `bytes` colour bytes. Each test
+// visits the whole list.
 fn test_list(list: &[u64], words: usize, bytes: usize) -> Checked
     ensures { λ r. ⌜ checkNumber r ≡ buildNumber words bytes (now (list .entry)) ⌝ }
 {
@@ -36,7 +36,8 @@ fn test_list(list: &[u64], words: usize, bytes: usize) -> Checked
 }
 
 impl Map {
-    // The map of the entries of a list, entry k in slot k. Slots and colour bits past them stay as they are.
+    // Returns the map of the entries of a list, entry k in slot k. Slots and colour bits past them
+    // are unchanged.
     pub fn build(nodes: &mut [u64], colours: &mut [u8], list: &[u64]) -> Built
         ensures { λ r. ⌜ effect (buildAnswer r) (now (nodes .exit)) (now (colours .exit))
             ≡ buildCall (now (nodes .entry)) (now (colours .entry)) (now (list .entry)) ⌝ }

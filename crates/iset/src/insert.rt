@@ -1,4 +1,4 @@
-// Adding one entry.
+// Adds one entry.
 use crate::Checked;
 use crate::Map;
 use tree_in::force_insert;
@@ -12,21 +12,22 @@ ghost use Rattle.iset.specs.Check.{checkNumber};
 ghost use Rattle.iset.specs.Insert.{entryOf, fullNumber, openInsertNumber, roomThenCheck, insertAnswer, insertEntry, openInsertCall, insertCall};
 ghost use Rattle.words.specs.Nodes.{Has, HasBit};
 
-// The map with the entry, the entry's slot, and how many hulls changed.
+// The map with the entry, the entry's slot, and how many hulls changed. A slot's hull is the least
+// range that holds all entries of its subtree.
 pub struct Inserted {
     pub map: Map,
     pub slot: u64,
     pub reach: u64,
 }
 
-// What an insertion answers. Where it is refused the map is as it was given.
+// What an insertion returns. If it is refused, the map is unchanged.
 pub enum Insertion {
     Done(Inserted),
     Refused(Refusal),
 }
 
 impl Map {
-    // A count that has reached the capacity, or is above it, has no room.
+    // Returns NoRoom if the count has reached the capacity or is above it.
     fn test_full(self, nodes: &[u64], colours: &[u8]) -> Checked
         ensures { λ r. ⌜ checkNumber r ≡ fullNumber self (now (nodes .entry)) (now (colours .entry)) ⌝ }
     {
@@ -36,7 +37,7 @@ impl Map {
         Checked::Refused(Refusal::NoRoom)
     }
 
-    // The first refusal of an insertion into an opened store.
+    // The first refusal of an insertion into an opened store (see lib.rt).
     fn test_entry(self, nodes: &[u64], colours: &[u8], entry: Entry) -> Checked
         ensures { λ r. ⌜ checkNumber r ≡ openInsertNumber self (now (nodes .entry)) (now (colours .entry)) entry ⌝ }
     {
@@ -47,7 +48,7 @@ impl Map {
         Checked::sound_if(entry.start < entry.end, Refusal::BadInterval)
     }
 
-    // What the public call tests before that: a full store is refused before the check.
+    // What the public call tests first. A full store is refused before the check.
     fn test_insert(self, nodes: &[u64], colours: &[u8]) -> Checked
         ensures { λ r. ⌜ checkNumber r ≡ roomThenCheck self (now (nodes .entry)) (now (colours .entry)) ⌝ }
     {
@@ -58,7 +59,7 @@ impl Map {
         self.check(nodes, colours)
     }
 
-    // The insertion of an entry that there is room for.
+    // Inserts an entry that there is room for.
     fn insert_entry(self, nodes: &mut [u64], colours: &mut [u8], entry: Entry) -> Insertion
         requires { ⌜ Has (now nodes) (self .count) × HasBit (now colours) (self .count) ⌝ }
         ensures { λ r. ⌜ effect (insertAnswer self r) (now (nodes .exit)) (now (colours .exit))
@@ -94,7 +95,8 @@ impl Map {
         Insertion::Refused(why)
     }
 
-    // Adds one entry in slot `count`; no other entry changes slot. Equal intervals are kept, the new one after them.
+    // Adds one entry in slot `count`. No other entry changes slot. Entries with an equal interval
+    // stay, and the new one comes after them.
     pub fn insert(
         self,
         nodes: &mut [u64],

@@ -1,16 +1,19 @@
-// The interval map of loaded code: its public calls. Each takes any numbers and any lent slices, tests everything
-// itself, and gives the first refusal in document 01's order, with nothing lent changed.
+// The interval map of loaded code: its public calls. Each call takes any numbers and any lent
+// slices, and tests all of them itself. If something is refused, the call returns the first refusal
+// in document 01's order, and nothing lent has changed.
 //
-// The calls whose names begin with `open_` are inner functions for an opened store: one that passed the check, and that nothing but these calls
-// has written since. They do not run the check, and then do exactly what the public calls do, which are the check and then these. They require
-// nothing: on any words each of them ends and stays inside what was lent, and only its answer may mean nothing.
+// The calls whose names begin with `open_` are inner functions for an opened store. That is a store
+// that passed the check, and that nothing but these calls has written since. They do not run the
+// check. Apart from that they do exactly what the public calls do: a public call is the check, and
+// then the call that begins with `open_`. They require nothing. On any words each of them ends and
+// stays inside what was lent. But what it returns may mean nothing if the store is not opened.
 pub mod build;
 pub mod insert;
 pub mod lookup;
 pub mod remove;
 pub mod scan;
 
-// What the calls' signatures name, so that a user imports from this crate alone.
+// The types that the calls' signatures name, so that a user imports from this crate alone.
 use audit::audit;
 pub use iter::Cursor;
 pub use iter::drain::Drained;
@@ -31,21 +34,21 @@ ghost use Rattle.words.specs.Refusals.{refusalNumber};
 ghost use Rattle.iset.specs.Maps.{emptyMap};
 ghost use Rattle.iset.specs.Check.{checkNumber, countNumber, checkRule};
 
-// A map: how many entries it holds, in slots 0 .. count - 1, and the slot of its root, U where there is none. Its nodes
-// and colours stand in the slices that are lent beside it.
+// A map: how many entries it holds, in slots 0 .. count - 1, and the slot of its root, or U if it
+// has none. Its nodes and colours are in the slices that are lent beside it.
 pub struct Map {
     pub count: u64,
     pub root: u64,
 }
 
-// What the check answers.
+// What the check returns.
 pub enum Checked {
     Sound,
     Refused(Refusal),
 }
 
 impl Checked {
-    // Sound where a test was passed, else its refusal.
+    // Sound if the test was passed, else its refusal.
     fn sound_if(passed: bool, why: Refusal) -> Checked
         ensures { λ r. ⌜ checkNumber r ≡ cond passed 0 (refusalNumber why) ⌝ }
     {
@@ -56,7 +59,7 @@ impl Checked {
         }
     }
 
-    // The refusal's number; 0 stands for none.
+    // The refusal's number, or 0 if there is none.
     pub fn number(self) -> u64
         ensures { λ r. ⌜ r ≡ checkNumber self ⌝ }
     {
@@ -75,7 +78,8 @@ impl Map {
         Map { count: 0, root: U }
     }
 
-    // All that a call on an opened store tests of it: NoRoom where the count is above what the slices hold.
+    // All that a call on an opened store tests of the store. Returns NoRoom if the count is above
+    // what the slices hold.
     fn test_count(self, nodes: &[u64], colours: &[u8]) -> Checked
         ensures { λ r. ⌜ checkNumber r ≡ countNumber self (now (nodes .entry)) (now (colours .entry)) ⌝ }
     {
@@ -85,7 +89,8 @@ impl Map {
         Checked::Sound
     }
 
-    // The store check: NoRoom where the count is above what the slices hold, else Broken where the store does not pass.
+    // The store check. Returns NoRoom if the count is above what the slices hold, else Broken if
+    // the store does not pass.
     pub fn check(self, nodes: &[u64], colours: &[u8]) -> Checked
         ensures { λ r. ⌜ checkNumber r ≡ checkRule self (now (nodes .entry)) (now (colours .entry)) ⌝ }
     {

@@ -1,4 +1,6 @@
-// Looking up: the entries that intersect a range, or filter equal to an interval, step by step or many at once.
+// Looking up: finds the entries that intersect a range, or those that are equal to an interval. A
+// lookup goes step by step or returns many entries at once. A cursor is its place between two
+// calls.
 use crate::Checked;
 use crate::Map;
 use iter::Cursor;
@@ -27,7 +29,7 @@ ghost use Rattle.iset.specs.Check.{checkNumber};
 ghost use Rattle.iset.specs.Lookup.{ordered, queryNumber, beginning, formNumber, openStartNumber, openStepNumber, openDrainNumber, startAnswer, openStartCall, startCall, stepAnswer, openStepCall, stepCall, drainAnswer, openDrainCall, drainCall};
 ghost use Rattle.words.specs.Nodes.{Holds};
 
-// What the calls answer.
+// What the calls return.
 pub enum Started {
     Done(Cursor),
     Refused(Refusal),
@@ -43,7 +45,7 @@ pub enum Drain {
     Refused(Refusal),
 }
 
-// A range from `a`, which is Excluded, up to a bound.
+// Whether a range is ordered, from `a`, which is Excluded, up to the bound `hi`.
 fn excluded_before(a: u64, hi: Bound) -> bool
     ensures { λ r. ⌜ r ≡ ordered (Bound.Excluded a) hi ⌝ }
 {
@@ -86,7 +88,8 @@ fn test_form(form: Form) -> Checked
     }
 }
 
-// How many hits a drain may write to an output with so many `places`: a limit of 0 means as many as fit.
+// How many hits a drain may write to an output of `places` places. A limit of 0 means as many as
+// fit.
 fn limit_of(limit: u64, places: u64) -> u64
     ensures { λ r. ⌜ r ≡ limitOf limit places ⌝ }
 {
@@ -103,7 +106,8 @@ fn test_room(limit: u64, places: u64) -> Checked
     }
 }
 
-// The step as a drain of one hit. So the walk has one caller, and the drain's loop takes it in.
+// A step, made as a drain of one hit. So the walk has one caller, and is inlined in the drain's
+// loop.
 fn one_hit(cursor: Cursor, nodes: &[u64], count: u64, query: Query) -> Step
     requires { ⌜ Holds (now nodes) count × (count ≤ 65535) × Placed count cursor ⌝ }
     ensures { λ r. ⌜ (answer r ≡ step (now (nodes .entry)) count (rules (now (nodes .entry)) count query) cursor)
@@ -120,7 +124,7 @@ fn one_hit(cursor: Cursor, nodes: &[u64], count: u64, query: Query) -> Step
 }
 
 impl Map {
-    // The first refusal of a query in an opened store.
+    // The first refusal of a query in an opened store (see lib.rt).
     pub(crate) fn test_start(self, nodes: &[u64], colours: &[u8], query: Query) -> Checked
         ensures { λ r. ⌜ checkNumber r ≡ openStartNumber self (now (nodes .entry)) (now (colours .entry)) query ⌝ }
     {
@@ -160,7 +164,7 @@ impl Map {
         self.test_place(nodes, query, cursor)
     }
 
-    // The first refusal of a drain into an output with so many `places`.
+    // The first refusal of a drain into an output of `places` places.
     fn test_drain(
         self,
         nodes: &[u64],
@@ -179,7 +183,7 @@ impl Map {
         test_room(limit, places)
     }
 
-    // The fresh cursor of an overlap lookup. It is tested where it is used.
+    // The fresh cursor of an overlap lookup. The calls that take a cursor test it.
     pub fn fresh(self) -> Cursor
         ensures { λ r. ⌜ r ≡ fresh (self .root) ⌝ }
     {
@@ -232,7 +236,8 @@ impl Map {
         Drain::Refused(why)
     }
 
-    // The fresh cursor of an exact lookup: at the highest entry equal to the query.
+    // Returns the fresh cursor of an exact lookup. It is at the highest entry that is equal to the
+    // query.
     pub fn fresh_exact(self, nodes: &[u64], colours: &[u8], query: Interval) -> Started
         ensures { λ r. ⌜ startAnswer r ≡ startCall self (now (nodes .entry)) (now (colours .entry)) query ⌝ }
     {
@@ -242,7 +247,7 @@ impl Map {
         Started::Refused(why)
     }
 
-    // The next hit after a cursor, or the end.
+    // Returns the next hit after a cursor, or the end.
     pub fn step(self, nodes: &[u64], colours: &[u8], query: Query, cursor: Cursor) -> Stepped
         ensures { λ r. ⌜ stepAnswer cursor r ≡ stepCall self (now (nodes .entry)) (now (colours .entry)) query cursor ⌝ }
     {
@@ -252,7 +257,8 @@ impl Map {
         Stepped::Refused(why)
     }
 
-    // Steps until the end, or until `limit` hits are written to `out`; a limit of 0 means as many as fit.
+    // Steps until the end, or until `limit` hits are written to `out`. A limit of 0 means as many
+    // as fit.
     pub fn drain(
         self,
         nodes: &[u64],

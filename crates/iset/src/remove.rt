@@ -1,4 +1,4 @@
-// Removing one entry by its slot.
+// Removes one entry by its slot.
 use crate::Checked;
 use crate::Map;
 use tree_rm::remove::remove_at;
@@ -12,7 +12,8 @@ ghost use Rattle.iset.specs.Check.{checkNumber};
 ghost use Rattle.iset.specs.Remove.{slotAfter, removeAnswer, removeSlot, openRemoveNumber, openRemoveCall, removeCall};
 ghost use Rattle.words.specs.Nodes.{Holds, HoldsBits};
 
-// The map without the entry, the entry's value, the other entries that changed slot, and how many hulls changed.
+// The map without the entry, the entry's value, the other entries that changed slot, and how many
+// hulls changed. A slot's hull is the least range that holds all entries of its subtree.
 pub struct Removed {
     pub map: Map,
     pub value: u64,
@@ -21,7 +22,8 @@ pub struct Removed {
 }
 
 impl Removed {
-    // The slot of the entry that was in slot `kept` before this removal of slot `removed`; U for the removed one.
+    // Returns the slot of the entry that was in slot `kept` before this removal of slot `removed`,
+    // or U if `kept` is `removed`.
     pub fn slot_after(self, removed: u64, kept: u64) -> u64
         ensures { λ r. ⌜ r ≡ slotAfter (self .pairs) removed kept ⌝ }
     {
@@ -41,14 +43,14 @@ impl Removed {
     }
 }
 
-// What a removal answers. Where it is refused the map is as it was given.
+// What a removal returns. If it is refused, the map is unchanged.
 pub enum Removal {
     Done(Removed),
     Refused(Refusal),
 }
 
 impl Map {
-    // The first refusal of a removal from an opened store.
+    // The first refusal of a removal from an opened store (see lib.rt).
     fn test_slot(self, nodes: &[u64], colours: &[u8], slot: u64) -> Checked
         ensures { λ r. ⌜ checkNumber r ≡ openRemoveNumber self (now (nodes .entry)) (now (colours .entry)) slot ⌝ }
     {
@@ -59,7 +61,7 @@ impl Map {
         Checked::sound_if(slot < self.count, Refusal::NoSuch)
     }
 
-    // The removal of a slot below the count.
+    // Removes a slot below the count.
     fn remove_slot(self, nodes: &mut [u64], colours: &mut [u8], slot: u64) -> Removal
         requires { ⌜ Holds (now nodes) (self .count) × HoldsBits (now colours) (self .count) × (slot < self .count) ⌝ }
         ensures { λ r. ⌜ effect (removeAnswer self r) (now (nodes .exit)) (now (colours .exit))
@@ -89,7 +91,8 @@ impl Map {
         Removal::Refused(why)
     }
 
-    // Removes the entry of a slot. Up to three other entries change slot with it; the answer names them.
+    // Removes the entry of a slot. Up to three other entries change slot. What it returns lists
+    // them.
     pub fn remove(self, nodes: &mut [u64], colours: &mut [u8], slot: u64) -> Removal
         ensures { λ r. ⌜ effect (removeAnswer self r) (now (nodes .exit)) (now (colours .exit))
             ≡ removeCall self (now (nodes .entry)) (now (colours .entry)) slot ⌝ }

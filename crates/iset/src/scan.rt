@@ -1,4 +1,5 @@
-// The plain lookup: every entry in tree order, each tested, without pruning. It finds what the other lookups find.
+// The plain lookup visits every entry in tree order and tests each of them, without pruning. It
+// finds what the other lookups find.
 use crate::Checked;
 use crate::Map;
 use iter::rules::Query;
@@ -10,14 +11,15 @@ ghost use Rattle.iset.specs.Effects.{output};
 ghost use Rattle.iset.specs.Check.{checkNumber};
 ghost use Rattle.iset.specs.Plain.{openPlainNumber, plainAnswer, openPlainCall, plainCall};
 
-// What the call answers.
+// What the call returns.
 pub enum Looked {
     Done(Tally),
     Refused(Refusal),
 }
 
 impl Map {
-    // The first refusal of a plain lookup in an opened store, into an output with so many `places`.
+    // The first refusal of a plain lookup in an opened store (see lib.rt), into an output of
+    // `places` places.
     fn test_plain(self, nodes: &[u64], colours: &[u8], query: Query, places: u64) -> Checked
         ensures { λ r. ⌜ checkNumber r ≡ openPlainNumber self (now (nodes .entry)) (now (colours .entry)) query places ⌝ }
     {
@@ -39,7 +41,8 @@ impl Map {
         Looked::Refused(why)
     }
 
-    // The slots of all entries that the query asks for, in tree order, into an output that has a place for every entry.
+    // Writes the slots of all entries that the query asks for, in tree order. The output must have
+    // a place for every entry.
     pub fn plain(self, nodes: &[u64], colours: &[u8], query: Query, out: &mut [u64]) -> Looked
         ensures { λ r. ⌜ output (plainAnswer r) (now (out .exit)) ≡ plainCall self (now (nodes .entry)) (now (colours .entry)) query (now (out .entry)) ⌝ }
     {

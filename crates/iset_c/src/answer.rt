@@ -1,4 +1,4 @@
-// Writing the numbers of an answer, in the order that include/iset.h declares.
+// Writes the numbers of an answer, in the order that include/iset.h declares.
 use iset::Cursor;
 use iset::Drained;
 use iset::Map;
@@ -13,7 +13,7 @@ ghost use lib.ListN.{length};
 ghost use Rattle.iter.specs.Drains.{filled};
 ghost use Rattle.iset_c.specs.Replies.{mapNumbers, removedNumbers, insertedNumbers, cursorNumbers, stepNumbers, foundNumbers, drainNumbers, plainNumbers};
 
-// Writes the numbers to the front of the answer. Places past them stay.
+// Writes the numbers to the front of the answer. Places past them are unchanged.
 pub(crate) fn put(numbers: &[u64], answer: &mut [u64])
     requires { ⌜ length (now numbers) ≤ length (now answer) ⌝ }
     ensures { λ _. ⌜ now (answer .exit) ≡ filled (now (numbers .entry)) (now (answer .entry)) ⌝ }

@@ -1,9 +1,12 @@
-// The map for hosts in C and Rust: every public call of crate iset over lent slices and numbers, as include/iset.h declares them. Over
-// extern "C" a slice is two scalars, its pointer and its length; a map, a range and a cursor are the numbers that they hold.
+// The map for hosts in C and Rust: every public call of crate iset over lent slices and numbers, as
+// include/iset.h declares them. Over extern "C" a slice is two scalars, its pointer and its length.
+// A map, a range and a cursor are the numbers that they hold.
 //
-// An export returns the refusal's number, 0 for none, and writes the answer's numbers to the front of the slice `answer`. Two
-// refusals are its own and come before those of the call: ShortAnswer where that slice does not hold the numbers, then BadBound where a kind of
-// bound is none. Where anything is refused nothing lent has changed, the answer slice neither.
+// These functions are the exports. An export returns the refusal's number, or 0 if there is none.
+// It writes the answer's numbers to the front of the slice `answer`. It has two refusals of its
+// own, which come before those of the call. The first is ShortAnswer, if that slice is too short
+// for the numbers. The second is BadBound, if a bound's kind is not 0, 1 or 2. If anything is
+// refused, nothing lent has changed, the answer slice included.
 pub mod answer;
 pub mod lookup;
 pub mod range;
@@ -27,12 +30,13 @@ ghost use Rattle.iset.specs.Insert.{entryOf};
 ghost use Rattle.iset.specs.Maps.{mapOf};
 ghost use Rattle.iset_c.specs.Replies.{exit, pairsOf, buildExit, removeExit, insertExit};
 
-// The exports' own refusals. Their numbers leave room for refusals that the map may get after the ten of crate words.
+// The exports' own refusals. Their numbers leave room for refusals that the map may get after the
+// ten of crate words.
 pub const SHORT_ANSWER: u64 = 101;
 
 pub const BAD_BOUND: u64 = 102;
 
-// The store check. Its number is its whole answer.
+// The store check. It returns its number and writes no answer.
 #[no_mangle]
 pub extern "C" fn iset_check(count: u64, root: u64, nodes: &[u64], colours: &[u8]) -> u64
     ensures { λ r. ⌜ r ≡ checkRule (mapOf count root) (now (nodes .entry)) (now (colours .entry)) ⌝ }
@@ -40,7 +44,7 @@ pub extern "C" fn iset_check(count: u64, root: u64, nodes: &[u64], colours: &[u8
     (Map { count, root }).check(nodes, colours).number()
 }
 
-// The map of the triples start, end, value of a list. Answer: count, root.
+// Builds the map of a list of triples start, end, value. Answer: count, root.
 #[no_mangle]
 pub extern "C" fn iset_build(
     nodes: &mut [u64],
@@ -63,8 +67,9 @@ pub extern "C" fn iset_build(
     }
 }
 
-// Removes the entry of a slot. Answer: value, count, root, then the moved entries, three times old slot, new slot, and how many hulls
-// changed.
+// Removes the entry of a slot. Answer: value, count, root; the entries that moved, as three pairs
+// of an old slot and a new slot; how many hulls changed. A slot's hull is the least range that
+// holds all entries of its subtree.
 #[no_mangle]
 pub extern "C" fn iset_remove(
     count: u64,
@@ -89,7 +94,8 @@ pub extern "C" fn iset_remove(
     }
 }
 
-// After a removal of slot `removed` that gave `answer`: the slot of the entry that was in slot `kept` before it, U for the removed one.
+// Takes the answer of a removal of slot `removed`. Returns the slot of the entry that was in slot
+// `kept` before it, or U if `kept` is `removed`.
 #[no_mangle]
 pub extern "C" fn iset_slot_after(answer: &[u64; 10], removed: u64, kept: u64) -> u64
     ensures { λ r. ⌜ r ≡ slotAfter (pairsOf (now (answer .entry))) removed kept ⌝ }
@@ -119,7 +125,8 @@ pub extern "C" fn iset_slot_after(answer: &[u64; 10], removed: u64, kept: u64) -
     done.slot_after(removed, kept)
 }
 
-// Adds an entry in slot `count`; no other entry changes slot. Answer: count, root, the entry's slot, and how many hulls changed.
+// Adds an entry in slot `count`. No other entry changes slot. Answer: count, root, the entry's
+// slot, and how many hulls changed.
 #[no_mangle]
 pub extern "C" fn iset_insert(
     count: u64,

@@ -1,4 +1,5 @@
-// Looking up: fresh cursors, steps and drains. A cursor is three numbers, slot, levels and bits; a bound is two, its kind and its number.
+// Looking up: fresh cursors, steps and drains. A cursor, a lookup's place between two calls, is
+// three numbers: slot, levels and bits. A bound is two numbers: its kind and its value.
 use crate::BAD_BOUND;
 use crate::SHORT_ANSWER;
 use crate::answer::put_cursor;
@@ -23,7 +24,8 @@ ghost use Rattle.iset.specs.Maps.{mapOf};
 ghost use Rattle.iset_c.specs.Replies.{cursorOf, exit, freshReply, answerExit, startExit, stepExit, drainExit};
 ghost use Rattle.iset_c.specs.Ranges.{rangeOf, intervalOf, exactOf, kinds};
 
-// The fresh cursor of an overlap lookup. Answer: slot, levels, bits. The map is tested where the cursor is used.
+// The fresh cursor of an overlap lookup. Answer: slot, levels, bits. The calls that take the cursor
+// test the map.
 #[no_mangle]
 pub extern "C" fn iset_fresh(count: u64, root: u64, answer: &mut [u64]) -> u64
     ensures { λ r. ⌜ exit r (now (answer .exit)) []
@@ -84,7 +86,8 @@ fn step(
     }
 }
 
-// The next entry that intersects a range. Answer: its slot, U at the end; the next cursor's slot, levels, bits; nodes entered.
+// Finds the next entry that intersects a range. Answer: its slot, or U at the end; the next
+// cursor's slot, levels and bits; how many nodes were entered.
 #[no_mangle]
 pub extern "C" fn iset_step(
     count: u64,
@@ -120,7 +123,7 @@ pub extern "C" fn iset_step(
     }
 }
 
-// The next entry that is equal to an interval. Answer: as of iset_step.
+// Finds the next entry that is equal to an interval. Answer: as for iset_step.
 #[no_mangle]
 pub extern "C" fn iset_step_exact(
     count: u64,
@@ -174,8 +177,9 @@ fn drain(
     }
 }
 
-// Steps from a cursor until the end, or until `limit` slots are in `out`; a limit of 0 means as many as fit. Answer: how many slots were written,
-// nodes entered, the next cursor's slot, levels, bits.
+// Steps from a cursor until the end, or until `limit` slots are in `out`. A limit of 0 means as
+// many as fit. Answer: how many slots were written; how many nodes were entered; the next cursor's
+// slot, levels and bits.
 #[no_mangle]
 pub extern "C" fn iset_drain(
     count: u64,
@@ -215,7 +219,7 @@ pub extern "C" fn iset_drain(
     }
 }
 
-// The drain of an exact lookup. Answer: as of iset_drain.
+// The drain of an exact lookup. Answer: as for iset_drain.
 #[no_mangle]
 pub extern "C" fn iset_drain_exact(
     count: u64,

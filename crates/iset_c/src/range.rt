@@ -1,11 +1,11 @@
-// A range by the kinds and the numbers of its two bounds.
+// A range from the kinds and the values of its two bounds.
 use iset::Bound;
 use iset::Query;
 use iset::Span;
 ghost use mathlib.Core.Path.{_≡_};
 ghost use Rattle.iset_c.specs.Ranges.{rangeOf, kinds};
 
-// Whether both are kinds: 0 Included, 1 Excluded, 2 Unbounded.
+// Whether both numbers are kinds of a bound: 0 Included, 1 Excluded, 2 Unbounded.
 pub fn are_kinds(lo_kind: u64, hi_kind: u64) -> bool
     ensures { λ r. ⌜ r ≡ kinds «lo_kind» «hi_kind» ⌝ }
 {

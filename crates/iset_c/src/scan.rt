@@ -1,4 +1,4 @@
-// The plain lookup: every entry in tree order, each tested, without pruning.
+// The plain lookup visits every entry in tree order and tests each of them, without pruning.
 use crate::BAD_BOUND;
 use crate::SHORT_ANSWER;
 use crate::answer::put_tally;
@@ -39,7 +39,8 @@ fn looked(
     }
 }
 
-// The slots of all entries that intersect a range. Answer: how many slots were written, how many entries were gone through.
+// Writes the slots of all entries that intersect a range. Answer: how many slots were written, how
+// many entries were visited.
 #[no_mangle]
 pub extern "C" fn iset_plain(
     count: u64,
@@ -73,7 +74,7 @@ pub extern "C" fn iset_plain(
     }
 }
 
-// The slots of all entries that are equal to an interval. Answer: as of iset_plain.
+// Writes the slots of all entries that are equal to an interval. Answer: as for iset_plain.
 #[no_mangle]
 pub extern "C" fn iset_plain_exact(
     count: u64,

@@ -1,5 +1,6 @@
-// The map for hosts in C and Rust that check a store once and then keep it to themselves: the calls of crate iset_c without the store check, as
-// include/iset_open.h declares them. Answers, refusals and their order are those of crate iset_c, but for Broken, which is never given.
+// The map for hosts in C and Rust that check a store once and then keep it to themselves. These are
+// the calls of crate iset_c without the store check, as include/iset_open.h declares them. Answers,
+// refusals and their order are those of crate iset_c, except that Broken is never returned.
 pub mod lookup;
 pub mod scan;
 
@@ -16,8 +17,9 @@ ghost use Rattle.iset.specs.Maps.{mapOf};
 ghost use Rattle.iset_c.specs.Replies.{exit};
 ghost use Rattle.iset_c_open.specs.Replies.{openRemoveExit, openInsertExit};
 
-// Removes the entry of a slot. Answer: value, count, root, then the moved entries, three times old slot, new slot, and how many hulls
-// changed.
+// Removes the entry of a slot. Answer: value, count, root; the entries that moved, as three pairs
+// of an old slot and a new slot; how many hulls changed. A slot's hull is the least range that
+// holds all entries of its subtree.
 #[no_mangle]
 pub extern "C" fn iset_open_remove(
     count: u64,
@@ -42,7 +44,8 @@ pub extern "C" fn iset_open_remove(
     }
 }
 
-// Adds an entry in slot `count`; no other entry changes slot. Answer: count, root, the entry's slot, and how many hulls changed.
+// Adds an entry in slot `count`. No other entry changes slot. Answer: count, root, the entry's
+// slot, and how many hulls changed.
 #[no_mangle]
 pub extern "C" fn iset_open_insert(
     count: u64,

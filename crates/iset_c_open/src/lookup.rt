@@ -1,5 +1,6 @@
-// Looking up in an opened store, and the entries at an address in one call. A cursor is three numbers, slot, levels and bits; a bound is two, its
-// kind and its number.
+// Looking up in an opened store, one that passed the check and that only these calls have written
+// since. One call finds the entries at an address. A cursor, a lookup's place between two calls, is
+// three numbers: slot, levels and bits. A bound is two numbers: its kind and its value.
 use iset::Bound;
 use iset::Cursor;
 use iset::Interval;
@@ -75,7 +76,8 @@ fn step(
     }
 }
 
-// The next entry that intersects a range. Answer: its slot, U at the end; the next cursor's slot, levels, bits; nodes entered.
+// Finds the next entry that intersects a range. Answer: its slot, or U at the end; the next
+// cursor's slot, levels and bits; how many nodes were entered.
 #[no_mangle]
 pub extern "C" fn iset_open_step(
     count: u64,
@@ -111,7 +113,7 @@ pub extern "C" fn iset_open_step(
     }
 }
 
-// The next entry that is equal to an interval. Answer: as of iset_open_step.
+// Finds the next entry that is equal to an interval. Answer: as for iset_open_step.
 #[no_mangle]
 pub extern "C" fn iset_open_step_exact(
     count: u64,
@@ -165,8 +167,9 @@ fn drain(
     }
 }
 
-// Steps from a cursor until the end, or until `limit` slots are in `out`; a limit of 0 means as many as fit. Answer: how many slots were written,
-// nodes entered, the next cursor's slot, levels, bits.
+// Steps from a cursor until the end, or until `limit` slots are in `out`. A limit of 0 means as
+// many as fit. Answer: how many slots were written; how many nodes were entered; the next cursor's
+// slot, levels and bits.
 #[no_mangle]
 pub extern "C" fn iset_open_drain(
     count: u64,
@@ -206,7 +209,7 @@ pub extern "C" fn iset_open_drain(
     }
 }
 
-// The drain of an exact lookup. Answer: as of iset_open_drain.
+// The drain of an exact lookup. Answer: as for iset_open_drain.
 #[no_mangle]
 pub extern "C" fn iset_open_drain_exact(
     count: u64,
@@ -240,8 +243,8 @@ pub extern "C" fn iset_open_drain_exact(
     )
 }
 
-// The entries that hold an address: the drain of the range from it to it, both Included, from the fresh cursor, into the whole output. Answer:
-// as of iset_drain.
+// Finds the entries that hold an address. It drains the range from the address to itself, both
+// bounds Included, from the fresh cursor into the whole output. Answer: as for iset_open_drain.
 #[no_mangle]
 pub extern "C" fn iset_open_at(
     count: u64,

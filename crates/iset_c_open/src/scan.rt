@@ -1,4 +1,5 @@
-// The plain lookup in an opened store: every entry in tree order, each tested, without pruning.
+// The plain lookup in an opened store (see lookup.rt). It visits every entry in tree order and
+// tests each of them, without pruning.
 use iset::Interval;
 use iset::Map;
 use iset::Query;
@@ -40,7 +41,8 @@ fn looked(
     }
 }
 
-// The slots of all entries that intersect a range. Answer: how many slots were written, how many entries were gone through.
+// Writes the slots of all entries that intersect a range. Answer: how many slots were written, how
+// many entries were visited.
 #[no_mangle]
 pub extern "C" fn iset_open_plain(
     count: u64,
@@ -74,7 +76,7 @@ pub extern "C" fn iset_open_plain(
     }
 }
 
-// The slots of all entries that are equal to an interval. Answer: as of iset_open_plain.
+// Writes the slots of all entries that are equal to an interval. Answer: as for iset_open_plain.
 #[no_mangle]
 pub extern "C" fn iset_open_plain_exact(
     count: u64,

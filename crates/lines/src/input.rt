@@ -1,5 +1,5 @@
-// A line read byte by byte: a name, then numbers, each after one space. The name is all before the first number, its
-// spaces included; it is empty where the line begins with a number.
+// Reads a line byte by byte: a name, then numbers, each after one space. The name is all that comes
+// before the first number, its spaces included. It is empty if the line begins with a number.
 use words::numbers::wide;
 ghost use mathlib.Core.Path.{_≡_};
 ghost use Prim.Native.Nat.{_<_};
@@ -10,7 +10,8 @@ ghost use Rattle.lines.specs.declared.input.Part.the-variants.{Start, Na
 
 const SPACE: u8 = 32;
 
-// What the next byte may be. Start: a number may begin, or the name goes on. A line that went wrong stays so.
+// What the next byte may be. At Start a number may begin, or the name continues. A wrong line stays
+// wrong.
 pub enum Part {
     Start,
     Name,
@@ -19,7 +20,8 @@ pub enum Part {
     Wrong,
 }
 
-// A line so far: the length of its name, how many numbers are complete, and the number that is being read.
+// A line so far: the length of its name, how many numbers are complete, and the value of the number
+// that is being read.
 pub struct Line {
     pub part: Part,
     pub name: usize,
@@ -32,7 +34,7 @@ pub enum Digit {
     Not,
 }
 
-// A number with one digit more, or one above 2^64 - 1.
+// A number with one digit more, or Over if it is above 2^64 - 1.
 pub enum Value {
     Is(u64),
     Over,
@@ -85,7 +87,7 @@ impl Line {
         }
     }
 
-    // One more digit of the number; a number above 2^64 - 1 makes the line wrong.
+    // Adds a digit to the number. A number above 2^64 - 1 makes the line wrong.
     fn with_digit(self, d: u64) -> Line
         ensures { λ r. ⌜ r ≡ withDigit self d ⌝ }
     {
@@ -95,7 +97,7 @@ impl Line {
         }
     }
 
-    // One more byte of the name, for which there has to be room.
+    // Adds a byte to the name. If there is no room for it, the line is wrong.
     fn with_letter(self, b: u8, name: &mut [u8]) -> Line
         ensures { λ r. ⌜ (r ≡ withLetter self b (length (now (name .entry)))) × (now (name .exit) ≡ nameAfter self b (now (name .entry))) ⌝ }
     {
@@ -120,7 +122,7 @@ impl Line {
         }
     }
 
-    // The number is complete, and there has to be room for it.
+    // Completes the number. If there is no room for it, the line is wrong.
     fn close(self, numbers: &mut [u64]) -> Line
         ensures { λ r. ⌜ (r ≡ closed self (length (now (numbers .entry)))) × (now (numbers .exit) ≡ numbersAfter self (now (numbers .entry))) ⌝ }
     {
@@ -146,7 +148,7 @@ impl Line {
         }
     }
 
-    // A digit inside a word is no number.
+    // A digit inside a word makes the line wrong.
     fn in_name(self, b: u8, name: &mut [u8]) -> Line
         ensures { λ r. ⌜ (r ≡ byteLine Name self b (length (now (name .entry))) 0) × (now (name .exit) ≡ byteName Name self b (now (name .entry))) ⌝ }
     {
@@ -178,7 +180,8 @@ impl Line {
         }
     }
 
-    // The line with one more byte, which is no line end. What does not fit into the slices makes the line wrong.
+    // Returns the line with one more byte, which is not a line end. What does not fit into the
+    // slices makes the line wrong.
     pub fn byte(self, b: u8, name: &mut [u8], numbers: &mut [u64]) -> Line
         ensures { λ r. ⌜ (r ≡ byteLine (self .part) self b (length (now (name .entry))) (length (now (numbers .entry))))
             × (now (name .exit) ≡ byteName (self .part) self b (now (name .entry)))
@@ -194,7 +197,7 @@ impl Line {
         }
     }
 
-    // The line at its end: a last number is complete, a space after one is wrong.
+    // Returns the line at its end. A last number is complete. A space after a number is wrong.
     pub fn end(self, numbers: &mut [u64]) -> Line
         ensures { λ r. ⌜ (r ≡ endLine (self .part) self (length (now (numbers .entry)))) × (now (numbers .exit) ≡ endNumbers (self .part) self (now (numbers .entry))) ⌝ }
     {

@@ -1,3 +1,3 @@
-// Lines of text in pieces: a name and decimal numbers in, numbers and text out.
+// Lines of text in pieces. It reads a name and decimal numbers, and writes numbers and text.
 pub mod input;
 pub mod output;

@@ -1,12 +1,12 @@
-// Text gathered in a lent buffer, which goes out when it is full. `at` is where the next byte goes; each call answers
-// the place after it.
+// Collects text in a lent buffer, and writes it out when the buffer is full. `at` is where the next
+// byte goes. Each call returns the place after what it wrote.
 use libc::STDERR_FILENO;
 use libc::STDOUT_FILENO;
 ghost use mathlib.Core.Path.{_≡_};
 ghost use Rattle.lines.specs.Output.{page, front, outByte, outText, number, next};
 
-// Writes a text to standard output. If that fails, standard output is closed: then nothing is written after a
-// part that is missing, and `close` says that something is.
+// Writes a text to standard output. If that fails, it closes standard output. Then nothing is
+// written after the missing part, and `close` reports that a write failed.
 pub fn send(text: &[u8]) {
     if io::write_all(STDOUT_FILENO, text) {
         return;
@@ -20,7 +20,7 @@ pub fn send_number(x: u64) {
     send(&text[..k]);
 }
 
-// Writes a line to standard error: the program's name, and what it cannot do.
+// Writes a line to standard error: the program's name, and what the program cannot do.
 pub fn complain(name: &[u8], what: &[u8]) {
     io::write_all(STDERR_FILENO, name);
     io::write_all(STDERR_FILENO, b": cannot ");
@@ -28,15 +28,15 @@ pub fn complain(name: &[u8], what: &[u8]) {
     io::write_all(STDERR_FILENO, b"\n");
 }
 
-// A program's last act: closes standard output, and complains if a write failed before or the system says now
-// that one did.
+// Closes standard output, as a program's last act. It complains if an earlier write failed, or if
+// the system reports only now that one did.
 pub fn close(name: &[u8]) {
     if libc::close(STDOUT_FILENO) < 0 {
         complain(name, b"write");
     }
 }
 
-// Writes out what is gathered; the buffer is empty then.
+// Writes out what is in the buffer. Then the buffer is empty.
 pub fn flush(out: &[u8], at: usize) -> usize
     ensures { λ r. ⌜ r ≡ 0 ⌝ }
 {
@@ -88,7 +88,7 @@ pub fn put_number(out: &mut [u8], at: usize, x: u64) -> usize
     put_text(out, at, &text[..k])
 }
 
-// A space and a number.
+// Writes a space and a number.
 pub fn put_next(out: &mut [u8], at: usize, x: u64) -> usize
     ensures { λ r. ⌜ page r (now (out .exit)) ≡ outText (page at (now (out .entry))) (next x) ⌝ }
 {

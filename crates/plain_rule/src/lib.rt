@@ -1,1 +1,2 @@
-// The rule of the plain lookup, which crate plain computes, and what follows from it. It has no code.
+// The rule of the plain lookup, which crate plain computes, and what follows from it. It has no
+// code.

@@ -1,4 +1,4 @@
-// Prints the map of the entries and removals on standard input by slot, or the first refusal.
+// Prints, by slot, the map of the entries and removals on standard input, or the first refusal.
 // docs/RULES.md has the rule of its input and output.
 use libc::STDIN_FILENO;
 use lines::output;

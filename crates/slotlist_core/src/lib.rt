@@ -1,5 +1,6 @@
-// What the program `slotlist` does, as functions on slices: bytes of its input go in, in pieces of any length, and at the
-// end what it prints is written into a lent buffer. The memory that is lent holds the entries, then the map.
+// What the program `slotlist` does, as functions on slices. The bytes of its input go in, in pieces
+// of any length. At the end, what it prints is written into a lent buffer. The lent memory holds
+// the entries, then the map.
 pub mod memory;
 mod reading;
 mod working;
@@ -31,7 +32,7 @@ impl State {
         }
     }
 
-    // The line so far is complete.
+    // Takes the line so far as complete.
     fn end_line(self, nodes: &mut [u64], colours: &mut [u8], entries: &mut [u64]) -> State
         ensures { λ r. ⌜ stage r (now (nodes .exit)) (now (colours .exit)) (now (entries .exit))
             ≡ stepped (stage self (now (nodes .entry)) (now (colours .entry)) (now (entries .entry))) 10 ⌝ }
@@ -45,7 +46,7 @@ impl State {
         }
     }
 
-    // One more byte of the line.
+    // Takes one more byte of the line.
     fn more(self, b: u8) -> State
         ensures { λ r. ⌜ (r .line ≡ byteRule (self .line) b) × (r .work ≡ self .work) ⌝ }
     {
@@ -57,7 +58,7 @@ impl State {
         }
     }
 
-    // One more byte of input.
+    // Takes one more byte of input.
     fn byte(self, b: u8, nodes: &mut [u64], colours: &mut [u8], entries: &mut [u64]) -> State
         ensures { λ r. ⌜ stage r (now (nodes .exit)) (now (colours .exit)) (now (entries .exit))
             ≡ stepped (stage self (now (nodes .entry)) (now (colours .entry)) (now (entries .entry))) b ⌝ }
@@ -69,7 +70,7 @@ impl State {
         }
     }
 
-    // One more piece of input, which may begin and end anywhere.
+    // Takes one more piece of input, which may begin and end anywhere.
     pub fn feed(
         self,
         piece: &[u8],
@@ -90,7 +91,7 @@ impl State {
         state
     }
 
-    // The last line, where its end is missing.
+    // Takes the last line, if its end is missing.
     fn end_last(self, nodes: &mut [u64], colours: &mut [u8], entries: &mut [u64]) -> Work
         ensures { λ r. ⌜ desk r (now (nodes .exit)) (now (colours .exit)) (now (entries .exit))
             ≡ lastLine (stage self (now (nodes .entry)) (now (colours .entry)) (now (entries .entry))) ⌝ }
@@ -104,7 +105,7 @@ impl State {
         }
     }
 
-    // The end of the input.
+    // Ends the input.
     fn settle(self, nodes: &mut [u64], colours: &mut [u8], entries: &mut [u64]) -> Work
         ensures { λ r. ⌜ desk r (now (nodes .exit)) (now (colours .exit)) (now (entries .exit))
             ≡ ended (stage self (now (nodes .entry)) (now (colours .entry)) (now (entries .entry))) ⌝ }
@@ -113,7 +114,8 @@ impl State {
         work.settle(nodes, colours, entries)
     }
 
-    // The end of the input: what is printed is written to the front of `out`, which has to have room; answers its length.
+    // Ends the input. What is printed is written to the front of `out`; what does not fit is not
+    // written. Returns the length of what was written.
     pub fn finish(
         self,
         nodes: &mut [u64],

@@ -1,4 +1,4 @@
-// Memory for 256 entries, all zero: what the programs lend.
+// Memory for 256 entries, all zero. The programs lend it.
 ghost use mathlib.Core.Path.{_≡_};
 ghost use lib.ListN.{length, replicate};
 
@@ -23,7 +23,7 @@ pub fn entry_numbers() -> [u64; 768]
     [0; 768]
 }
 
-// What is printed of 256 entries is no longer than this.
+// The text that is printed of 256 entries is no longer than this.
 pub fn text_bytes() -> [u8; 24576]
     ensures { λ r. ⌜ (r ≡ replicate 24576 0) × (24576 ≡ length r) ⌝ }
 {

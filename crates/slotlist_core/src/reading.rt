@@ -1,4 +1,4 @@
-// A line of `slotlist` read byte by byte: an entry, a removal, or any other line.
+// Reads a line of `slotlist` byte by byte: an entry, a removal, or any other line.
 use lines::input::Digit;
 use lines::input::Value;
 use lines::input::append_digit;
@@ -8,7 +8,7 @@ ghost use Rattle.slotlist_core.specs.Reading.{firstDigit, startByte, nam
 
 const SPACE: u8 = 32;
 
-// What stands in a line before the number that is read: the numbers of an entry, or `remove`.
+// What a line has before the number that is being read: the numbers of an entry, or `remove`.
 pub enum Before {
     Nothing,
     One(u64),
@@ -16,8 +16,8 @@ pub enum Before {
     Removal,
 }
 
-// A line so far: nothing; the first letters of `remove`; a number, of one digit at least; a space after which a number has to
-// begin. A line that went wrong stays so.
+// A line so far: nothing; the first letters of `remove`; a number with at least one digit; or a
+// space, after which a number must begin. A wrong line stays wrong.
 pub enum Line {
     Start,
     Name(usize),
@@ -79,7 +79,8 @@ fn longer(before: Before, value: u64, d: u64) -> Line
     }
 }
 
-// A space after a number, which is complete then. None follows the last.
+// A space after a number, which is then complete. A space after the last number makes the line
+// wrong.
 fn gap_after(before: Before, value: u64) -> Line
     ensures { λ r. ⌜ r ≡ gapAfter before value ⌝ }
 {
@@ -117,7 +118,7 @@ fn complete(before: Before, value: u64) -> Said
 }
 
 impl Line {
-    // The line with one more byte, which is no line end.
+    // Returns the line with one more byte, which is not a line end.
     pub(crate) fn byte(self, b: u8) -> Line
         ensures { λ r. ⌜ r ≡ byteRule self b ⌝ }
     {
@@ -143,7 +144,7 @@ impl Line {
         }
     }
 
-    // Whether no byte of the line is there yet.
+    // Whether the line has no byte yet.
     pub(crate) fn is_new(self) -> bool
         ensures { λ r. ⌜ r ≡ newRule self ⌝ }
     {

@@ -1,4 +1,4 @@
-// The lines' work: entries are listed, then built into a map, from which slots are removed.
+// What the lines do: they list entries, which are then built into a map, and remove slots from it.
 use crate::reading::Said;
 use iset::Map;
 use iset::Refusal;
@@ -15,7 +15,8 @@ ghost use Rattle.iset.specs.Effects.{effect};
 ghost use Rattle.slotlist_core.specs.Working.{desk, roomFor, enteredWork, enteredList, listedIn};
 ghost use Rattle.slotlist_core.specs.Working.{builtIn, removalIn, settledIn, removedIn, wrongIn, lineIn};
 
-// What the lines so far have led to: the number of entries in the list; the map that was built; the first refusal's number.
+// What the lines so far have led to: the number of entries in the list, the map that was built, or
+// the first refusal's number.
 pub enum Work {
     Listing(usize),
     Mapped(Map),
@@ -28,14 +29,15 @@ fn refuse(why: Refusal) -> Work
     Work::Refused(why.number())
 }
 
-// At most 256 entries are listed, and no more than the slice holds.
+// Whether there is room after n entries. At most 256 entries are listed, and no more than the slice
+// holds.
 fn has_room(n: usize, len: usize) -> bool
     ensures { λ r. ⌜ r ≡ roomFor n len ⌝ }
 {
     if n < 256 { n * 3 + 3 <= len } else { false }
 }
 
-// Writes an entry after n others, and answers how many there are then.
+// Writes an entry after n others, and returns how many there are then.
 fn put_triple(n: usize, a: u64, b: u64, c: u64, entries: &mut [u64]) -> usize
     requires { ⌜ n * 3 + 3 ≤ length (now entries) ⌝ }
     ensures { λ r. ⌜ (r ≡ n + 1) × (now (entries .exit) ≡ sets (now (entries .entry)) (n * 3) (a ∷ b ∷ c ∷ [])) ⌝ }
@@ -46,7 +48,7 @@ fn put_triple(n: usize, a: u64, b: u64, c: u64, entries: &mut [u64]) -> usize
     n + 1
 }
 
-// One more entry after n of them.
+// Lists one more entry after n of them.
 fn list_entry(n: usize, a: u64, b: u64, c: u64, entries: &mut [u64]) -> Work
     ensures { λ r. ⌜ (r ≡ enteredWork (Work.Listing n) (length (now (entries .entry))))
         × (now (entries .exit) ≡ enteredList (Work.Listing n) a b c (now (entries .entry))) ⌝ }
@@ -58,7 +60,7 @@ fn list_entry(n: usize, a: u64, b: u64, c: u64, entries: &mut [u64]) -> Work
     }
 }
 
-// The map of the n entries that are listed.
+// Builds the map of the n entries that are listed.
 fn build(n: usize, nodes: &mut [u64], colours: &mut [u8], entries: &[u64]) -> Work
     ensures { λ r. ⌜ effect r (now (nodes .exit)) (now (colours .exit))
         ≡ builtIn (now (nodes .entry)) (now (colours .entry)) (listedIn n (now (entries .entry))) ⌝ }
@@ -83,7 +85,7 @@ fn remove_slot(map: Map, k: u64, nodes: &mut [u64], colours: &mut [u8]) -> Work
 }
 
 impl Work {
-    // An entry. None comes after a removal.
+    // An entry. After a removal it is refused.
     fn enter(self, a: u64, b: u64, c: u64, entries: &mut [u64]) -> Work
         ensures { λ r. ⌜ (r ≡ enteredWork self (length (now (entries .entry))))
             × (now (entries .exit) ≡ enteredList self a b c (now (entries .entry))) ⌝ }
@@ -95,7 +97,7 @@ impl Work {
         }
     }
 
-    // The entries are complete: the map is built, where it is not built yet.
+    // The entries are complete. Builds the map, if it is not built yet.
     pub(crate) fn settle(self, nodes: &mut [u64], colours: &mut [u8], entries: &[u64]) -> Work
         ensures { λ r. ⌜ effect r (now (nodes .exit)) (now (colours .exit))
             ≡ settledIn (now (entries .entry)) (effect self (now (nodes .entry)) (now (colours .entry))) ⌝ }
@@ -107,7 +109,7 @@ impl Work {
         }
     }
 
-    // A removal from the map that is held.
+    // Removes a slot from the map, if one is built.
     fn remove_mapped(self, k: u64, nodes: &mut [u64], colours: &mut [u8]) -> Work
         ensures { λ r. ⌜ effect r (now (nodes .exit)) (now (colours .exit))
             ≡ removedIn k (effect self (now (nodes .entry)) (now (colours .entry))) ⌝ }
@@ -127,7 +129,7 @@ impl Work {
         settled.remove_mapped(k, nodes, colours)
     }
 
-    // Any other line.
+    // Refuses any other line.
     fn wrong(self) -> Work
         ensures { λ r. ⌜ r ≡ wrongIn self ⌝ }
     {
@@ -138,7 +140,7 @@ impl Work {
         }
     }
 
-    // One line more. After a refusal nothing changes.
+    // Does what one more line says. After a refusal nothing changes.
     pub(crate) fn line(
         self,
         said: Said,

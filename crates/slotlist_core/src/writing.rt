@@ -1,5 +1,5 @@
-// What is printed, as text in a lent buffer. `at` is where the next byte goes; each call answers the place after it. Where
-// the buffer is full nothing is written.
+// Writes what is printed, as text in a lent buffer. `at` is where the next byte goes. Each call
+// returns the place after what it wrote. If the buffer is full, nothing is written.
 use crate::working::Work;
 use iset::Map;
 use words::ix::U;
@@ -43,7 +43,7 @@ fn glyph(d: u64) -> u8
     (48 + d) as u8
 }
 
-// The last digits of a number, no more than `left` of them.
+// Writes the last digits of a number, no more than `left` of them.
 fn put_digits(out: &mut [u8], at: usize, n: u64, left: u64) -> usize
     ensures { λ r. ⌜ page r (now (out .exit)) ≡ puts (page at (now (out .entry))) (decimal left n) ⌝ }
 {
@@ -63,7 +63,7 @@ fn put_number(out: &mut [u8], at: usize, n: u64) -> usize
     put_digits(out, at, n, 20)
 }
 
-// A space and a number.
+// Writes a space and a number.
 fn put_next(out: &mut [u8], at: usize, n: u64) -> usize
     ensures { λ r. ⌜ page r (now (out .exit)) ≡ puts (page at (now (out .entry))) (next n) ⌝ }
 {
@@ -91,7 +91,7 @@ fn put_head(out: &mut [u8], map: Map) -> usize
     put_byte(out, d, b'\n')
 }
 
-// The line of a slot.
+// Writes the line of a slot.
 fn put_row(out: &mut [u8], at: usize, nodes: &[u64], slot: u64) -> usize
     requires { ⌜ Has (now nodes) slot ⌝ }
     ensures { λ r. ⌜ page r (now (out .exit)) ≡ puts (page at (now (out .entry))) (row (now (nodes .entry)) slot) ⌝ }
@@ -125,7 +125,7 @@ fn put_refusal(out: &mut [u8], why: u64) -> usize
     put_byte(out, b, b'\n')
 }
 
-// A map whose count is above what the words hold is refused.
+// Writes a map. If its count is above what the words hold, writes a refusal.
 fn put_map(out: &mut [u8], map: Map, nodes: &[u64]) -> usize
     ensures { λ r. ⌜ page r (now (out .exit)) ≡ puts (page 0 (now (out .entry))) (checkedText map (now (nodes .entry))) ⌝ }
 {
@@ -138,7 +138,7 @@ fn put_map(out: &mut [u8], map: Map, nodes: &[u64]) -> usize
 }
 
 impl Work {
-    // What is printed at the end.
+    // Writes what is printed at the end.
     pub(crate) fn put(self, nodes: &[u64], out: &mut [u8]) -> usize
         ensures { λ r. ⌜ page r (now (out .exit)) ≡ puts (page 0 (now (out .entry))) (workText self (now (nodes .entry))) ⌝ }
     {

@@ -1,5 +1,6 @@
-// Runs the bit calls on their limits. A line a call: the bytes lent, the call with its length, place and bit, then after
-// the colon the refusal's number, the bit read and the length, and the three bytes afterwards.
+// Runs the bit calls at their limits. Each call prints one line. Before the colon are the number of
+// bytes lent and the call with its length, place and bit. After it are the refusal's number, the
+// bit read, the length, and the three bytes afterwards.
 use bitvec::Answer;
 use bitvec::BitVec;
 use lines::output;
@@ -45,7 +46,8 @@ fn show(a: Answer, given: usize, bytes: &[u8]) {
     }
 }
 
-// Each call, with the first n bytes lent to it, if there are that many.
+// Makes the call with the first n bytes lent to it, if there are that many. The next five functions
+// do the same for the other calls.
 fn get_of(bytes: &[u8], n: usize, v: BitVec, i: usize) -> Answer {
     if n <= bytes.len() {
         v.get(&bytes[..n], i)
@@ -148,7 +150,7 @@ fn from_elem(n: usize, len: usize, v: bool) {
     show(a, 0, &bytes);
 }
 
-// Every place that a vector of len bits in n bytes has, and the one past the last.
+// Reads every place of a vector of len bits in n bytes, and the one past the last.
 fn places(n: usize, len: usize) {
     let mut i = 0;
     while i < len {
@@ -158,7 +160,8 @@ fn places(n: usize, len: usize) {
     get(n, len, len);
 }
 
-// A vector of len bits in n bytes, whose last bit is the one before.
+// Makes the other calls on a vector of len bits in n bytes, at its first bit, its last bit and the
+// place past the last.
 fn edges(n: usize, len: usize) {
     push(n, len, false);
     push(n, len, true);
@@ -198,7 +201,7 @@ fn main() {
     edges(3, 18446744073709551615);
     get(1, 9, 0);
     get(3, 18446744073709551615, 0);
-    // 10 ones fill two bytes and leave the third
+    // 10 ones fill two bytes, and the third byte is unchanged
     from_elem(3, 10, true);
     output::close(b"test_bits");
 }

@@ -1,1 +1,1 @@
-// Theory alone: the examples that document 01 marks as proved, one table of them.
+// One table of the examples that document 01 marks as proved. It has no code.

@@ -1,6 +1,7 @@
-// Builds and checks at the limits of the memory that a map can have. A line for each build: the number of entries, then
-// the refusal, and where there is none the count, the root and the refusal of the check afterwards. Then a line for each
-// chain of nodes that hang below one another by their right links: how many they are, and the refusal of the check.
+// Builds and checks at the limits of the memory that a map can have. Each build prints one line:
+// the number of entries, then the refusal's number. If there is no refusal, the count, the root and
+// the number of the check afterwards follow. Then each chain prints one line: how many nodes it
+// has, and the number of the check. In a chain each node is the right child of the one before.
 use iset::Map;
 use iset::build::Built;
 use lines::output;
@@ -38,7 +39,7 @@ fn number(x: u64) {
     output::send(b" ");
 }
 
-// The k-th entry: entries overlap, and they begin at the same address by twos.
+// Writes the k-th entry. The entries overlap, and two entries at a time begin at the same address.
 fn put_triple(list: &mut [u64], k: usize) {
     if k < list.len() / 3 {
         let pair = (k / 2) as u64;
@@ -70,7 +71,7 @@ fn show_built(a: Built, nodes: &[u64], colours: &[u8]) {
     }
 }
 
-// The map of the first k numbers of the list.
+// Builds the map of the first k numbers of the list.
 fn build_list(k: usize, list: &[u64], nodes: &mut [u64], colours: &mut [u8]) {
     let n = least(k, list.len());
     let a = Map::build(nodes, colours, &list[..n]);
@@ -96,7 +97,8 @@ fn before(k: u64) -> u64 {
     if k == 0 { U } else { k - 1 }
 }
 
-// Slot k of a chain of n: its right link leads to the next slot, its parent is the one before.
+// Writes slot k of a chain of n. Its right link leads to the next slot, and its parent is the one
+// before.
 fn put_link(nodes: &mut [u64], n: u64, k: u64)
     requires { ⌜ (k < n) × Holds (now nodes) n ⌝ }
 {
@@ -129,7 +131,8 @@ fn chain(n: u64, nodes: &mut [u64], colours: &[u8]) {
     }
 }
 
-// How many entries the builds have: the last but one as many as a map can have, the last one more.
+// How many entries build k has. The last build but one has as many as a map can have, and the last
+// has one more.
 fn size(k: u64) -> usize {
     match k {
         0 => 255,

@@ -1,4 +1,4 @@
-// Runs many inputs of `slotlist` and prints what slotlist prints of each. An input is a line
+// Runs many inputs of `slotlist`, and prints for each what slotlist prints. An input is a line
 // `LENGTH PIECE`, then LENGTH bytes, which are fed in pieces of PIECE bytes.
 use libc::STDIN_FILENO;
 use lines::input::Digit;
@@ -26,7 +26,7 @@ struct Number {
     after: usize,
 }
 
-// One more digit of a number that is below MOST; a greater one says nothing here.
+// Adds a digit to a number. A number of MOST or more becomes MOST: no case is that long.
 fn longer(value: usize, d: u64) -> usize
     ensures { λ r. ⌜ r ≤ 131072 ⌝ }
 {
@@ -89,7 +89,7 @@ fn run(
     output::flush(out, n);
 }
 
-// One case, in memory of its own. `size` is one less than the bytes of a piece.
+// Runs one case, in memory that no other case uses. `size` is one less than the bytes of a piece.
 fn case(input: &[u8], size: usize) {
     let mut nodes = memory::node_words();
     let mut colours = memory::colour_bytes();
@@ -109,7 +109,7 @@ fn below(size: usize) -> usize {
     if size == 0 { 0 } else { size - 1 }
 }
 
-// The case at a place; answers the place after it.
+// Runs the case at a place, and returns the place after it.
 fn case_at(cases: &[u8], at: usize) -> usize
     ensures { λ r. ⌜ r ≤ length (now (cases .entry)) ⌝ }
 {
@@ -121,7 +121,8 @@ fn case_at(cases: &[u8], at: usize) -> usize
     to
 }
 
-// A case is two bytes at least, so that the places rise; one that says less ends the run.
+// Runs all cases. A case has at least two bytes, so the places rise. If a place does not rise, the
+// run ends.
 fn all_cases(cases: &[u8]) {
     let mut at = 0;
     while at < cases.len() {
@@ -133,7 +134,7 @@ fn all_cases(cases: &[u8]) {
     }
 }
 
-// Whether the input has ended. After a read that failed the next one fails too.
+// Whether the input has ended. After a failed read the next read fails too.
 fn is_read() -> bool {
     let mut more = [0u8; 1];
     libc::read(STDIN_FILENO, &mut more) == 0

@@ -1,1 +1,1 @@
-// Theory alone: what a store's tree is, and its laws.
+// The theory of a store's tree: what it is, and its laws, with no code.

@@ -1,1 +1,1 @@
-// The rule of insertion, which crate tree_in computes, and what it guarantees. Theory.
+// The rule of insertion, which crate tree_in computes, and what it guarantees. It has no code.

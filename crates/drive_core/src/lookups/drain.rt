@@ -1,4 +1,4 @@
-// `drain QUERY CURSOR LIMIT ROOM`: many hits at once, into an output of ROOM places.
+// `drain QUERY CURSOR LIMIT ROOM`: finds many hits at once, into an output of ROOM places.
 use crate::lookups::query;
 use crate::lookups::query::Kind;
 use crate::lookups::reply::Reply;
@@ -7,7 +7,7 @@ use iset::lookup::Drain;
 use iter::Cursor;
 use iter::drain::Drained;
 
-// What the drain says of itself: how many hits, the nodes entered and the next cursor.
+// What is printed of a drain: how many hits, how many nodes were entered, and the next cursor.
 fn reply(no: u64, d: Drained) -> Reply {
     let next = d.next;
     Reply {
@@ -16,7 +16,7 @@ fn reply(no: u64, d: Drained) -> Reply {
     }
 }
 
-// A refused drain has no hits and the cursor as given.
+// A refused drain shows no hits and the cursor as given.
 fn refused(no: u64, given: Cursor) -> Reply {
     reply(
         no,

@@ -13,7 +13,7 @@ fn reply(no: u64, c: Cursor) -> Reply {
     }
 }
 
-// A refused lookup has the ended cursor.
+// A refused lookup shows the ended cursor.
 fn reply_of(a: Started) -> Reply {
     match a {
         Started::Done(c) => reply(0, c),

@@ -24,7 +24,8 @@ pub(crate) fn size(kind: Kind) -> usize
     }
 }
 
-// Whether a kind and a number are a bound: 0 Included, 1 Excluded, 2 Unbounded with number 0.
+// Whether a kind and a number are a bound: 0 is Included, 1 Excluded, and 2 with the number 0 is
+// Unbounded.
 fn is_bound(kind: u64, x: u64) -> bool {
     (kind < 2) | ((kind == 2) & (x == 0))
 }

@@ -1,11 +1,11 @@
-// `plain QUERY ROOM`: all hits, by going through every entry, into an output of ROOM places.
+// `plain QUERY ROOM`: visits every entry, and writes all hits to an output of ROOM places.
 use crate::lookups::query;
 use crate::lookups::query::Kind;
 use crate::lookups::reply::Reply;
 use iset::Map;
 use iset::scan::Looked;
 
-// How many hits, and how many entries the lookup went through.
+// What is printed of a plain lookup: how many hits, and how many entries it visited.
 fn reply(no: u64, hits: u64, entered: u64) -> Reply {
     Reply {
         no,

@@ -8,7 +8,7 @@ use iter::Cursor;
 use iter::seek::Step;
 use words::ix::U;
 
-// The slot of the hit, the next cursor and the nodes entered.
+// What is printed of a step: the slot of the hit, the next cursor, and how many nodes were entered.
 fn reply(no: u64, slot: u64, next: Cursor, entered: u64) -> Reply {
     Reply {
         no,
@@ -23,7 +23,7 @@ fn stepped(step: Step) -> Reply {
     }
 }
 
-// A refused step has no hit and the cursor as given.
+// A refused step shows no hit and the cursor as given.
 fn reply_of(a: Stepped, given: Cursor) -> Reply {
     match a {
         Stepped::Done(step) => stepped(step),

@@ -1,17 +1,17 @@
-// `build LIST`: a map built into the slices of the store.
+// `build LIST`: builds a map into the slices of the store.
 use crate::given;
 use crate::map::reply::Reply;
 use iset::Map;
 use iset::build::Built;
 use words::numbers::least;
 
-// The first number says how many follow, at most 12,288.
+// Whether the first number says how many follow, at most 12,288.
 pub(crate) fn fits(numbers: &[u64]) -> bool {
     let n = given::size(numbers, 0);
     (n <= 12288) & (numbers.len() == n + 1)
 }
 
-// A refused build has the map of no entries.
+// A refused build shows the map of no entries.
 fn reply_of(a: Built) -> Reply {
     match a {
         Built::Done(map) => Reply::new(0, map, 0, 0, 2),

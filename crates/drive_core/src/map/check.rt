@@ -1,4 +1,4 @@
-// `check`: the check of the store by itself.
+// `check`: makes the store check alone.
 use crate::map::reply::Reply;
 use iset::Map;
 

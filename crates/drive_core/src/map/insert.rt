@@ -1,11 +1,11 @@
-// `insert START END VALUE`: one entry comes.
+// `insert START END VALUE`: adds one entry.
 use crate::given;
 use crate::map::reply::Reply;
 use iset::Map;
 use iset::insert::Insertion;
 use words::ix::U;
 
-// A refusal answers the map as given, and no slot.
+// A refused insertion shows the map as given, and no slot.
 fn reply_of(a: Insertion, m: Map) -> Reply {
     match a {
         Insertion::Done(added) => Reply::new(0, added.map, added.slot, added.reach, 3),

@@ -1,4 +1,4 @@
-// `remove SLOT`: one entry goes.
+// `remove SLOT`: removes one entry.
 use crate::map::reply::Reply;
 use iset::Map;
 use iset::remove::Removal;
@@ -37,7 +37,8 @@ fn removed(g: Removed) -> Reply {
     }
 }
 
-// A refusal answers value 0, the map as given, no pairs and no changed hulls.
+// A refused removal shows value 0, the map as given, no pairs, and no changed hulls. A slot's hull
+// is the least range that holds all entries of its subtree.
 fn refused(no: u64, m: Map) -> Reply {
     Reply {
         no,

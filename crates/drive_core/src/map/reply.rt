@@ -1,8 +1,9 @@
-// What a call on the map answers.
+// What a call on the map returns.
 use iset::Map;
 
-// The refusal's number, 0 for none; the map after the call; how many hulls changed; and the numbers that are printed after
-// the first, of which there are n.
+// The refusal's number, 0 if there is none; the map after the call; how many hulls changed; and n
+// numbers, which are printed after the refusal's. A slot's hull is the least range that holds all
+// entries of its subtree.
 pub struct Reply {
     pub no: u64,
     pub count: u64,
@@ -13,7 +14,7 @@ pub struct Reply {
 }
 
 impl Reply {
-    // One that prints the first n of the count, the root and this slot.
+    // A reply that prints the first n of the count, the root and the slot.
     pub(crate) fn new(no: u64, map: Map, slot: u64, reach: u64, n: usize) -> Reply {
         Reply {
             no,
