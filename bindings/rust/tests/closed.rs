@@ -1,6 +1,6 @@
-//! An archive of another version, which refuses every call with a number that this crate does not
-//! know, 11 a public call and 12 an opened one: no call may pass that off as an answer. The archive is the functions below, so the real
-//! one is not linked.
+//! An archive of another version. It refuses every call with a number that this crate does not know:
+//! a public call with 11, an opened one with 12. No call may pass that off as an answer. The archive
+//! is the functions below, so the real one is not linked.
 #![cfg(not(iset_linked))]
 use std::panic::{catch_unwind, AssertUnwindSafe};
 
