@@ -8,6 +8,7 @@
 #include <stdlib.h>
 #include <string.h>
 
+#include "chance.h"
 #include "iset_map.h"
 
 #define SLOTS 40
@@ -29,7 +30,6 @@ enum { RAW, PUBLIC, OPENED, COPIES };
 
 static struct copy copies[COPIES];
 static struct reply replies[COPIES];
-static uint64_t chance = 88172645463325252u;
 static unsigned long calls, refusals;
 
 #define MAP(k) copies[k].map
@@ -39,13 +39,6 @@ static unsigned long calls, refusals;
     MAP(RAW).count, MAP(RAW).root, MEMORY(RAW).nodes, MEMORY(RAW).nodes_len, MEMORY(RAW).colours, \
         MEMORY(RAW).colours_len
 #define ANSWER replies[RAW].numbers
-
-static uint64_t any(uint64_t below) {
-    chance ^= chance << 13;
-    chance ^= chance >> 7;
-    chance ^= chance << 17;
-    return chance % below;
-}
 
 static void fail(const char *what) {
     printf("maps: %s\n", what);

@@ -8,6 +8,7 @@
 #include <stdlib.h>
 #include <string.h>
 
+#include "chance.h"
 #include "iset_open.h"
 
 #define MOST 300
@@ -24,15 +25,7 @@ struct store {
 
 static struct store first, second, kept;
 static size_t words, bytes;
-static uint64_t chance = 88172645463325252u;
 static unsigned long calls, refusals, carried, damaged;
-
-static uint64_t any(uint64_t below) {
-    chance ^= chance << 13;
-    chance ^= chance >> 7;
-    chance ^= chance << 17;
-    return chance % below;
-}
 
 static void fail(const char *what) {
     printf("opened: %s\n", what);
