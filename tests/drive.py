@@ -132,10 +132,16 @@ class Drive:
         numbers.end()
         return self.on_store(model.drain, query, cursor, limit, room)
 
-    def do_plain(self, numbers):
+    def at_once(self, call, numbers):
         query, room = numbers.query(), numbers.one(MOST_ROOM + 1)
         numbers.end()
-        return self.on_store(model.plain, query, room)
+        return self.on_store(call, query, room)
+
+    def do_plain(self, numbers):
+        return self.at_once(model.plain, numbers)
+
+    def do_find(self, numbers):
+        return self.at_once(model.find_all, numbers)
 
     def bit_call(self, name, numbers):
         length = numbers.one()

@@ -1,7 +1,7 @@
 #!/usr/bin/env python3
-"""What the calls return and leave, from the words of document 01, and of document 02 for insertion
-and the plain lookup, in plain lists and recursion. It takes nothing from the code of the crate iset
-or of this project. tests/drive.py prints what it returns."""
+"""What the calls return and leave, from the words of document 01, of document 02 for insertion and
+the plain lookup, and of docs/RULES.md for the fast lookup, in plain lists and recursion. It takes
+nothing from the code of the crate iset or of this project. tests/drive.py prints what it returns."""
 
 U = 4294967295
 START, END, VALUE, LO, HI, LEFT, RIGHT, PARENT = range(8)
@@ -423,6 +423,30 @@ def plain(s, q, room):
     hits = [] if no else [slot for slot in in_order(s, s.root) if hit(s, q, slot)]
     output = hits + [777777] * (room - len(hits))
     return " ".join(map(str, (no, len(hits), 0 if no else s.count, room) + tuple(output)))
+
+
+def enters(s, q, slot, side):
+    """Whether the fast lookup enters a child: it exists, its hull goes past lo, and hi admits its hull's start. For an interval the
+    pruned lookup's rule tests both ends already."""
+    child = s.get(slot, side)
+    if q[0] == "e" or child == U:
+        return goes(s, q, slot, side)
+    return (q[1] == 2 or s.get(child, HI) > q[2]) and allowed_right(q, s.get(child, LO))
+
+
+def entered_fast(s, q, slot):
+    """The nodes that the fast lookup enters from a slot down, in tree order."""
+    left, right = (entered_fast(s, q, s.get(slot, side)) if enters(s, q, slot, side) else [] for side in (LEFT, RIGHT))
+    return left + [slot] + right
+
+
+def find_all(s, q, room):
+    """All hits counted, and as many written as there is room for."""
+    no = refuse_store(s) or refuse_query(q)
+    nodes = [] if no or first(s, q) == U else entered_fast(s, q, first(s, q))
+    hits = [slot for slot in nodes if hit(s, q, slot)]
+    output = (hits + [777777] * room)[:room]
+    return " ".join(map(str, (no, len(hits), len(nodes), room) + tuple(output)))
 
 
 # Bits and stacks

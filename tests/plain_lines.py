@@ -1,7 +1,9 @@
 #!/usr/bin/env python3
 """Lines for `drive` about the plain lookup. Each query is made by a drain from the fresh cursor to
 its end, and then by the plain lookup, into outputs of every size that matters. Every refusal and
-each pair of refusals is tried. crates/drive/stdin ends with these lines."""
+each pair of refusals is tried. In crates/drive/stdin the lines of tests/find_lines.py come after
+these. That file makes the same queries by the fast lookup: `name` is the request and `look` makes
+one query."""
 import random
 
 import model
@@ -23,34 +25,34 @@ def looked_up(s, q, *rooms):
         assert room < s.count or model.plain(s, q, room).split(" ")[4:][:len(found[1])] == [str(slot) for slot in found[1]]
 
 
-def stores():
-    print("# the plain lookup in stores A and B, and in the empty map")
+def stores(name, look):
+    print(f"# {name}: stores A and B, and the empty map")
     for s in built(A), built(B), built([], 8, 1), built([]):
         show(s)
         for q in QUERIES:
-            looked_up(s, q)
+            look(s, q)
     print("# entries at the ends of the numbers")
     s = built([0, 1, 1, 0, TOP, 2, 7, 8, 3, TOP - 1, TOP, 4])
     show(s)
     for q in overlap(0, 0, 0, 0), overlap(1, 0, 0, 1), overlap(0, TOP, 0, TOP), overlap(1, TOP, 2, 0), overlap(0, TOP - 1, 1, TOP), ("e", 0, TOP), ("e", TOP - 1, TOP):
-        looked_up(s, q)
+        look(s, q)
     print("# more entries than 64, with equal ones")
     s = built([x for k in range(70) for x in (k // 2, 40 + k // 3, k)])
     show(s)
     for q in EVERY, overlap(0, 20, 1, 25), overlap(0, 62, 2, 0), ("e", 3, 42), ("e", 3, 43):
-        looked_up(s, q)
+        look(s, q)
 
 
-def rooms():
+def rooms(name, look):
     print("# outputs: one place less than the entries, as many, and more; the empty map takes one of none")
     for s in built(A), built(B), built([], 8, 1):
         show(s)
         for q in EVERY, overlap(0, 20, 1, 25), ("e", 5, 9), ("e", 10, 20):
-            looked_up(s, q, *sorted({0, max(s.count, 1) - 1, s.count, s.count + 3}))
-    print("plain", *EVERY, 4096)
+            look(s, q, *sorted({0, max(s.count, 1) - 1, s.count, s.count + 3}))
+    print(name, *EVERY, 4096)
 
 
-def shapes():
+def shapes(name, look):
     print("# stores after insertions and removals")
     rng = random.Random(5)
     for size in 1, 2, 3, 4, 5, 6, 7, 8, 9, 13, 17:
@@ -62,33 +64,37 @@ def shapes():
                 model.remove(s, rng.randrange(s.count))
         show(s)
         for q in EVERY, overlap(0, 4, 1, 7), overlap(1, 6, 0, 6 + size), ("e",) + s.key(0), ("e", 3, 4):
-            looked_up(s, q)
+            look(s, q)
 
 
-def refused():
-    print("# the plain lookup in a store that does not pass, of a bad range or interval, and into a short output: the first counts")
+def refused(name):
+    print(f"# {name}: a store that does not pass, a bad range or interval, and a short output: the first counts")
     broken, above, good = built(A), built(A), built(A)
     broken.root, above.count = 1, 6
     for s in broken, above, good:
         show(s)
         for q in EVERY, overlap(0, 9, 1, 5), overlap(1, 5, 0, 5), ("e", 10, 30), ("e", 30, 10), ("e", 9, 9):
             for room in 0, 4, 5, 6:
-                print("plain", *q, room)
+                print(name, *q, room)
     print("# it leaves the store as it was")
-    for line in "remove 0", "plain o 2 0 2 0 5", "commit", "check", "remove 0":
+    for line in "remove 0", f"{name} o 2 0 2 0 5", "commit", "check", "remove 0":
         print(line)
 
 
-def malformed():
-    print("# lines that are no plain lookup")
-    for line in ("plain", "plain o", "plain e", "plain 5", "plain o 2 0 2 0", "plain o 2 0 2 0 5 5", "plain o 2 0 2 0 4097", "plain o 2 0 2 0 18446744073709551615",
-                 "plain o 2 1 2 0 5", "plain o 3 0 2 0 5", "plain e 1 2", "plain e 1 2 5 5", "plain e 1 2 4097", "plain x 1 2 5", "plain e 1 2 ", "plaine 1 2 5"):
-        print(line)
+def malformed(name):
+    print(f"# {name}: lines that do not fit")
+    for rest in ("", " o", " e", " 5", " o 2 0 2 0", " o 2 0 2 0 5 5", " o 2 0 2 0 4097", " o 2 0 2 0 18446744073709551615", " o 2 1 2 0 5", " o 3 0 2 0 5", " e 1 2",
+                 " e 1 2 5 5", " e 1 2 4097", " x 1 2 5", " e 1 2 ", "e 1 2 5"):
+        print(name + rest)
+
+
+def lines(name, look):
+    stores(name, look)
+    rooms(name, look)
+    shapes(name, look)
+    refused(name)
+    malformed(name)
 
 
 if __name__ == "__main__":
-    stores()
-    rooms()
-    shapes()
-    refused()
-    malformed()
+    lines("plain", looked_up)

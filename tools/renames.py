@@ -280,6 +280,13 @@ NAMES = [
     ("Removal", "Removed", r"crates/tree_rm_rule/|crates/tree_rm/proofs/Removes\.antt|crates/iset/(specs/Demands|proofs/(Sequence|Demands|After))\.antt", FIRST),
     ("SameRemoval", "SameRemoved", r"crates/(tree_rm_rule|iset)/"),
     ("Inserted", "InsertionGuarantee", r"crates/tree_in_rule/|crates/iset/(specs|proofs)/", FIRST),
+    ("PlainAnswer", "TallyAnswer", FACES),
+    ("plainDone", "tallyDone", FACES),
+    ("refusedPlain", "refusedTally", FACES),
+    ("plainAnswer", "tallyAnswer", FACES),
+    ("plainNumbers", "tallyNumbers", FACES),
+    ("plainReply", "tallyReply", FACES),
+    ("plainPlaces", "tallyPlaces", FACES),
 ]
 
 # Places that take more than a name: path, old text, new text. They come before the names.

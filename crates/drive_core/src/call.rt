@@ -27,7 +27,7 @@ pub enum Call {
 fn place_of(name: &[u8]) -> usize {
     given::which(
         name,
-        b"store ;bytes ;commit;check;build ;remove ;insert ;fresh o ;step o ;drain o ;fresh e ;step e ;drain e ;bget ;bset ;bpush ;bpop ;bswap ;bfrom ;spush ;spop ;sleft ;smatch ;sright ;scanleft ;scanmatch ;scanright ;sempty ;last;plain o ;plain e ;",
+        b"store ;bytes ;commit;check;build ;remove ;insert ;fresh o ;step o ;drain o ;fresh e ;step e ;drain e ;bget ;bset ;bpush ;bpop ;bswap ;bfrom ;spush ;spop ;sleft ;smatch ;sright ;scanleft ;scanmatch ;scanright ;sempty ;last;plain o ;plain e ;find o ;find e ;",
     )
 }
 
@@ -64,6 +64,8 @@ fn call_at(place: usize) -> Call {
         28 => Call::Last,
         29 => Call::Lookup(lookups::Call::Plain, Kind::Overlap),
         30 => Call::Lookup(lookups::Call::Plain, Kind::Exact),
+        31 => Call::Lookup(lookups::Call::FindAll, Kind::Overlap),
+        32 => Call::Lookup(lookups::Call::FindAll, Kind::Exact),
         _ => Call::Unknown,
     }
 }

@@ -26,6 +26,7 @@ pub enum Call {
     Step,
     Drain,
     Plain,
+    FindAll,
 }
 
 // How many numbers the call has after its query.
@@ -37,6 +38,7 @@ fn count_of(call: Call) -> usize
         Call::Step => 3,
         Call::Drain => 5,
         Call::Plain => 1,
+        Call::FindAll => 1,
     }
 }
 
@@ -47,6 +49,7 @@ fn answer_size(call: Call) -> usize {
         Call::Step => 5,
         Call::Drain => 5,
         Call::Plain => 2,
+        Call::FindAll => 2,
     }
 }
 
@@ -55,6 +58,7 @@ fn has_output(call: Call) -> bool {
     match call {
         Call::Drain => true,
         Call::Plain => true,
+        Call::FindAll => true,
         _ => false,
     }
 }
@@ -64,6 +68,7 @@ fn places(call: Call, kind: Kind, numbers: &[u64]) -> u64 {
     match call {
         Call::Drain => query::after(kind, numbers, 4),
         Call::Plain => query::after(kind, numbers, 0),
+        Call::FindAll => query::after(kind, numbers, 0),
         _ => 0,
     }
 }
@@ -89,6 +94,7 @@ fn done(
         Call::Step => step::step(m, kind, numbers, nodes, colours),
         Call::Drain => drain::drain(m, kind, numbers, nodes, colours, hits),
         Call::Plain => scan::plain(m, kind, numbers, nodes, colours, hits),
+        Call::FindAll => scan::find_all(m, kind, numbers, nodes, colours, hits),
     }
 }
 
@@ -131,7 +137,7 @@ fn put_hits(call: Call, hits: &[u64], out: &mut [u8], to: usize) -> usize {
     }
 }
 
-// Prints the line of a step, a drain or a plain lookup. The store is unchanged.
+// Prints the line of a lookup other than `fresh`. The store is unchanged.
 fn line(s: State, call: Call, a: Reply, words: &mut [u64], hits: &[u64], out: &mut [u8]) -> State {
     let numbers = a.numbers;
     copy::begin(s, words);

@@ -28,7 +28,7 @@ use Rattle.iter.proofs.Laws.{child-there, child-gone}
 use Rattle.fast_rule.specs.Fast.{nears, shouldEnter, narrow, fastRules, startAt, entering, fastNodes, fastHits, fitted}
 use Rattle.fast.specs.Numbers.{last, noEnd, noStart, leastEnd, lastStart, goesTo, liesIn, between}
 use Rattle.fast.specs.Answers.{tally, Found, beyond, Down}
-use Rattle.fast.specs.declared.Tally.{Tally}
+use Rattle.plain.specs.declared.Tally.{Tally}
 use Rattle.fast.proofs.Writes.{sets-fitted}
 use Rattle.fast.proofs.Rounds.{step}
 

@@ -15,7 +15,7 @@ use Rattle.iter.specs.Walk.{Rules}
 use Rattle.words.proofs.Lists.{filter-append}
 use Rattle.fast_rule.specs.Fast.{entering}
 use Rattle.fast.specs.Answers.{beyond, Room, Gone}
-use Rattle.fast.specs.declared.Tally.{Tally}
+use Rattle.plain.specs.declared.Tally.{Tally}
 use Rattle.fast.proofs.Writes.{sets-append}
 
 filter-few : (m : ℕ → Bool) (l : List ℕ) → length (filter m l) ≤ length l

@@ -12,10 +12,11 @@ use Rattle.words.specs.Lists.{filter}
 use Rattle.iter.specs.Lists.{when}
 use Rattle.iter.specs.Walk.{Rules}
 use Rattle.iter.specs.declared.rules.Query.{Query}
+use Rattle.plain.specs.declared.Tally.{Tally}
 use Rattle.fast_rule.specs.Fast.{entering, fastNodes, fastHits, fitted}
-use Rattle.fast.specs.declared.Tally.{Tally}
 
--- how many hits there are, and how many nodes the lookup entered
+-- how many hits there are, including those that the output has no place for, and how many nodes the
+-- lookup entered
 abbrev pub tally : (words : List ℕ) (count : ℕ) (query : Query) (root : ℕ) → Tally
 tally W n query r = record { hits = length (fastHits W n query r); entered = length (fastNodes W n query r) }
 

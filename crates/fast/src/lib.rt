@@ -7,6 +7,7 @@ use iter::rules::Query;
 use iter::rules::find_index;
 use iter::rules::goes;
 use iter::rules::matches;
+use plain::Tally;
 use words::interval::Bound;
 use words::interval::Interval;
 use words::interval::Span;
@@ -32,13 +33,6 @@ ghost use Rattle.words.specs.Nodes.{Has, Holds};
 
 // The greatest number.
 const LAST: u64 = 18446744073709551615;
-
-// How many hits there are, including those that the output has no place for, and how many nodes the
-// lookup entered.
-pub struct Tally {
-    pub hits: u64,
-    pub entered: u64,
-}
 
 // A range becomes two numbers before the way down, so that each test there is two comparisons.
 // Whether no number goes past the lower bound.

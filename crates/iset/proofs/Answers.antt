@@ -39,7 +39,9 @@ use Rattle.iset.specs.Build.{BuildAnswer, buildNumber, buildAnswer, buil
 use Rattle.iset.specs.Remove.{RemoveAnswer, removeNumber, removeAnswer, removeCall}
 use Rattle.iset.specs.Insert.{InsertAnswer, insertNumber, insertAnswer, insertCall}
 use Rattle.iset.specs.Lookup.{startNumber, startAnswer, startCall, stepAnswer, stepCall, DrainAnswer, drainAnswer, drainCall}
-use Rattle.iset.specs.Plain.{PlainAnswer, plainAnswer, plainCall}
+use Rattle.iset.specs.Tallies.{TallyAnswer, tallyAnswer}
+use Rattle.iset.specs.Plain.{plainCall}
+use Rattle.iset.specs.Find.{findAllCall}
 use Rattle.iset.specs.Demands.{removal, insertion}
 use Rattle.iset.specs.declared.Map.{Map}
 use Rattle.iset.specs.declared.build.Built.the-variants as built
@@ -65,6 +67,8 @@ use Rattle.iset.proofs.Map.drain.Reads as drain-reads
 use Rattle.iset.proofs.Map.drain.Kinds as drain-kinds
 use Rattle.iset.proofs.Map.plain.Reads as plain-reads
 use Rattle.iset.proofs.Map.plain.Kinds as plain-kinds
+use Rattle.iset.proofs.Map.find_all.Reads as find-all-reads
+use Rattle.iset.proofs.Map.find_all.Kinds as find-all-kinds
 use Rattle.iset.proofs.Map.new.Reads as new-reads
 use Rattle.iset.proofs.Map.new.Kinds as new-kinds
 use Rattle.iset.proofs.Map.fresh.Reads as fresh-reads
@@ -178,4 +182,10 @@ pub plain-done : (κs : Lfts 3) (a : K.Dens κs plain-kinds.ps) (r : K.resT plai
     → plain-reads.Post κs a r s → (d : Tally) → r ≡ looked.Done d
     → plainCall (a .0) (now (a .1 .0)) (now (a .1 .1 .0)) (a .1 .1 .1 .0) (now (a .1 .1 .1 .1 .0)) .answer
     ≡ record { no = 0; hits = d .hits; entered = d .entered }
-plain-done κs a r s p d e = ap (λ (c : Output PlainAnswer). c .answer) (sym p) ∙ ap plainAnswer e
+plain-done κs a r s p d e = ap (λ (c : Output TallyAnswer). c .answer) (sym p) ∙ ap tallyAnswer e
+
+pub find-all-done : (κs : Lfts 3) (a : K.Dens κs find-all-kinds.ps) (r : K.resT find-all-kinds.r κs .Denot) (s : AtExit (K.endedOf 3 find-all-kinds.ps find-all-kinds.r) κs)
+    → find-all-reads.Post κs a r s → (d : Tally) → r ≡ looked.Done d
+    → findAllCall (a .0) (now (a .1 .0)) (now (a .1 .1 .0)) (a .1 .1 .1 .0) (now (a .1 .1 .1 .1 .0)) .answer
+    ≡ record { no = 0; hits = d .hits; entered = d .entered }
+find-all-done κs a r s p d e = ap (λ (c : Output TallyAnswer). c .answer) (sym p) ∙ ap tallyAnswer e

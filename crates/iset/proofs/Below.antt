@@ -2,13 +2,14 @@
 -- answers the same, and leaves stores that agree below the count that it answers.
 use mathlib.Core.Path.{_≡_, refl}
 use mathlib.Core.Bool.{Bool, true, false, cond, _&&_}
-use mathlib.Core.List.{List}
+use mathlib.Core.List.{List, [], _∷_, _++_}
 use Prim.Native.Nat.{ℕ, zero, suc, _+_, _-_, _/_, _^_, _<_, _≤_}
 use native.Mathlib.Omega.{arith}
 use lib.ListN.{length}
 use lib.Dec.{eqb, ltb, leb}
 use borrow.Author.Tests.{ne-eqb, ltb-true}
 use Rattle.words.specs.Ix.{U}
+use Rattle.words.specs.Lists.{filter}
 use Rattle.words.specs.Nodes.{capacity, hi, lo, kid, par, hull}
 use Rattle.words.specs.Intervals.{reached, admits, contains}
 use Rattle.words.specs.declared.interval.Interval.{Interval}
@@ -29,18 +30,25 @@ use Rattle.iter.specs.Cursors.{stackOf}
 use Rattle.iter.specs.Walk.{Rules, deeper, down, move, hits, ending, hitting, counts, seek, fuel, step}
 use Rattle.iter.specs.Drains.{drain, limitOf}
 use Rattle.iter.specs.Forms.{onSide, formed, heldForm, formOf}
+use Rattle.iter.specs.Lists.{when}
 use Rattle.iter.specs.Overlap.{meets, shouldGo}
-use Rattle.iter.specs.Exact.{equals, toward, shouldGoExact, find}
+use Rattle.iter.specs.Exact.{equals, toward, shouldGoExact, exact, find}
 use Rattle.iter.specs.Queries.{rules}
 use Rattle.iter.specs.declared.Cursor.{Cursor}
 use Rattle.iter.specs.declared.rules.Query.{Query}
 use Rattle.iter.specs.declared.rules.Query.the-variants.{Overlap, Exact}
+use Rattle.words.proofs.Lists.{filter-append}
+use Rattle.iter_laws.proofs.Script.{Linked}
+use Rattle.iter_laws.proofs.Walks.{links}
+use Rattle.fast_rule.specs.Fast.{nears, shouldEnter, fastRules, startAt, entering, fastNodes, fastHits}
+use Rattle.fast_rule.proofs.Narrow.{narrow-linked}
 use Rattle.iset.specs.Effects.{Effect, effect}
 use Rattle.iset.specs.Check.{checkRule}
 use Rattle.iset.specs.Build.{buildNumber, refusedBuild, buildList, buildCall}
 use Rattle.iset.specs.Remove.{removeNumber, RemoveAnswer, refusedRemoval, removeReach, removeSlot, removeCall}
 use Rattle.iset.specs.Insert.{insertNumber, InsertAnswer, refusedInsertion, insertReach, insertEntry, insertCall}
 use Rattle.iset.specs.Lookup.{beginning, startNumber, stepNumber, drainNumber, startCall, stepCall, drainCall}
+use Rattle.iset.specs.Find.{findAllCall}
 use Rattle.iset.specs.Below.{SameBelow, SameEffect}
 use Rattle.iset.specs.declared.Map.{Map}
 use Rattle.iset.proofs.Checks.{check-zero}
@@ -176,6 +184,76 @@ module _ (n : ℕ) (W X : List ℕ) (A : Agree n W X) where
   unfolding formOf
   same-form k c = rw (same-held k c)
 
+  -- the fast lookup
+  module _ (q : Query) where
+    abbrev F : Rules
+    F = fastRules W n q
+
+    abbrev G : Rules
+    G = fastRules X n q
+
+    same-enter : (q : Query) (b : Bool) (s : ℕ) → s < n → fastRules W n q .go b s ≡ fastRules X n q .go b s
+    unfolding fastRules shouldEnter rules
+    same-enter (Overlap q) b s l =
+        rw (A .1 (Child b) s l)
+        (link-same n {A = Bool} (λ i j. i ≡ j) (kid X b s) (nears W q) (nears X q) false false
+        (λ h. rw (A .1 HullStart (kid X b s) h, A .1 HullEnd (kid X b s) h)) refl)
+    same-enter (Exact x) b s l = same-go (Exact x) b s l
+
+    same-asked : (q : Query) (s : ℕ) → s < n → fastRules W n q .match s ≡ fastRules X n q .match s
+    unfolding fastRules rules
+    same-asked (Overlap q) s l = same-match (Overlap q) s l
+    same-asked (Exact x) s l = same-match (Exact x) s l
+
+    enters-slots : (q : Query) → Linked X n (fastRules X n q)
+    unfolding fastRules shouldGoExact
+    enters-slots (Overlap q) = narrow-linked X n q
+    enters-slots (Exact x) = links X n (exact X n x) (λ b s a. toward X x b s && contains (hull X a) x) (λ b s. refl)
+
+    same-begin : (q : Query) (r : ℕ) → startAt W n q r ≡ startAt X n q r
+    unfolding startAt
+    same-begin (Overlap q) r = refl
+    same-begin (Exact x) r = same-find x 32 r
+
+    -- what f and g make of the nodes entered, part by part
+    module _ (f g : List ℕ → List ℕ) (f-add : (k l : List ℕ) → f (k ++ l) ≡ f k ++ f l) (g-add : (k l : List ℕ) → g (k ++ l) ≡ g k ++ g l)
+        (none : f [] ≡ g []) (one : (s : ℕ) → s < n → f (s ∷ []) ≡ g (s ∷ [])) where
+      same-entering : (h s : ℕ) → s < n → f (entering W F h s) ≡ g (entering X G h s)
+      unfolding entering
+      same-entering zero s l = none
+      same-entering (suc h) s l =
+          rw (
+            f-add (when (F .go true s) (entering W F h (kid W true s))) (s ∷ when (F .go false s) (entering W F h (kid W false s))),
+            f-add (s ∷ []) (when (F .go false s) (entering W F h (kid W false s))),
+            g-add (when (G .go true s) (entering X G h (kid X true s))) (s ∷ when (G .go false s) (entering X G h (kid X false s))),
+            g-add (s ∷ []) (when (G .go false s) (entering X G h (kid X false s))),
+            side true (same-entering h),
+            one s l,
+            side false (same-entering h),
+          )
+        where
+          go : (b t : Bool) → (t ≡ true → kid X b s < n) → ((s : ℕ) → s < n → f (entering W F h s) ≡ g (entering X G h s))
+              → f (when t (entering W F h (kid X b s))) ≡ g (when t (entering X G h (kid X b s)))
+          go b true i rec = rec (kid X b s) (i refl)
+          go b false i rec = none
+
+          side : (b : Bool) → ((s : ℕ) → s < n → f (entering W F h s) ≡ g (entering X G h s))
+              → f (when (F .go b s) (entering W F h (kid W b s))) ≡ g (when (G .go b s) (entering X G h (kid X b s)))
+          side b rec = rw (same-enter q b s l, A .1 (Child b) s l) (go b (G .go b s) (enters-slots q b s) rec)
+
+      same-entered : (r : ℕ) → f (fastNodes W n q r) ≡ g (fastNodes X n q r)
+      unfolding fastNodes
+      same-entered r =
+          rw (same-begin q r) (link-same n {A = List ℕ} (λ i j. f i ≡ g j) (startAt X n q r) (entering W F 32) (entering X G 32) [] [] (same-entering 32 (startAt X n q r)) none)
+
+    same-fastNodes : (r : ℕ) → fastNodes W n q r ≡ fastNodes X n q r
+    same-fastNodes r = same-entered (λ l. l) (λ l. l) (λ k l. refl) (λ k l. refl) refl (λ s l. refl) r
+
+    same-fastHits : (r : ℕ) → fastHits W n q r ≡ fastHits X n q r
+    unfolding fastHits
+    same-fastHits r =
+        same-entered (filter (F .match)) (filter (G .match)) (filter-append (F .match)) (filter-append (G .match)) refl (λ s l. rw (same-asked q s l)) r
+
 -- the public calls
 module _ (m : Map) (W C X D : List ℕ) (s : SameBelow (m .count) W C X D) where
   abbrev n : ℕ
@@ -191,6 +269,10 @@ module _ (m : Map) (W C X D : List ℕ) (s : SameBelow (m .count) W C X D) where
   pub start-below : (x : Interval) → startCall m W C x ≡ startCall m X D x
   unfolding startCall
   start-below x = rw (same-start (Exact x), same-find n W X (s .words) x 32 (m .root))
+
+  pub find-all-below : (q : Query) (out : List ℕ) → findAllCall m W C q out ≡ findAllCall m X D q out
+  unfolding findAllCall
+  find-all-below q out = rw (same-start q, same-fastNodes n W X (s .words) q (m .root), same-fastHits n W X (s .words) q (m .root))
 
   module _ (q : Query) (c : Cursor) where
     same-stepNumber : stepNumber m W C q c ≡ stepNumber m X D q c

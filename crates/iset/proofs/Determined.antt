@@ -36,7 +36,7 @@ use Rattle.iter.specs.declared.Cursor.{Cursor}
 use Rattle.iter.specs.declared.seek.Step.{Step}
 use Rattle.iter.specs.declared.seek.Step.the-variants.{Hit, End}
 use Rattle.iset.specs.Lookup.{StartAnswer, startAnswer, StepAnswer, stepAnswer, DrainAnswer, drainAnswer}
-use Rattle.iset.specs.Plain.{PlainAnswer, plainAnswer}
+use Rattle.iset.specs.Tallies.{TallyAnswer, tallyAnswer}
 use Rattle.iset.specs.declared.scan.Looked.{Looked}
 use Rattle.iset.specs.declared.scan.Looked.the-variants as looked
 use Rattle.iset.specs.declared.lookup.Started.{Started}
@@ -55,6 +55,8 @@ use Rattle.iset.proofs.Map.drain.Reads as drain-reads
 use Rattle.iset.proofs.Map.drain.Kinds as drain-kinds
 use Rattle.iset.proofs.Map.plain.Reads as plain-reads
 use Rattle.iset.proofs.Map.plain.Kinds as plain-kinds
+use Rattle.iset.proofs.Map.find_all.Reads as find-all-reads
+use Rattle.iset.proofs.Map.find_all.Kinds as find-all-kinds
 use Rattle.iset.proofs.Map.build.Reads as build-reads
 use Rattle.iset.proofs.Map.build.Kinds as build-kinds
 use Rattle.iset.proofs.remove.Removed.slot_after.Reads as slot-after-reads
@@ -75,6 +77,8 @@ use Rattle.iset.proofs.Map.open_drain.Reads as open-drain-reads
 use Rattle.iset.proofs.Map.open_drain.Kinds as open-drain-kinds
 use Rattle.iset.proofs.Map.open_plain.Reads as open-plain-reads
 use Rattle.iset.proofs.Map.open_plain.Kinds as open-plain-kinds
+use Rattle.iset.proofs.Map.open_find_all.Reads as open-find-all-reads
+use Rattle.iset.proofs.Map.open_find_all.Kinds as open-find-all-kinds
 use Rattle.iset.proofs.Map.check.Reads as check-reads
 use Rattle.iset.proofs.Map.check.Kinds as check-kinds
 
@@ -212,10 +216,10 @@ pub drain-determined :
     → drain-reads.Post κs a r s → drain-reads.Post κs a r′ s′ → (r ≡ r′) × (now (s .1 .1 .1 .1 .1 .1 .0) ≡ now (s′ .1 .1 .1 .1 .1 .1 .0))
 drain-determined κs a r r′ s s′ p q = same-output drainAt (drain-back _ r) (drain-back _ r′) p q
 
-abbrev lookedAt : PlainAnswer → Looked
+abbrev lookedAt : TallyAnswer → Looked
 lookedAt x = cond (eqb (x .no) 0) (looked.Done (record { hits = x .hits; entered = x .entered })) (looked.Refused (refusalAt (x .no)))
 
-looked-back : (r : Looked) → lookedAt (plainAnswer r) ≡ r
+looked-back : (r : Looked) → lookedAt (tallyAnswer r) ≡ r
 looked-back (looked.Done a) = refl
 looked-back (looked.Refused y) = rw (ne-eqb (refusalNumber y) 0 (omega (arith, number-pos y)), at-number y)
 
@@ -224,7 +228,18 @@ pub plain-determined :
     → plain-reads.Post κs a r s → plain-reads.Post κs a r′ s′ → (r ≡ r′) × (now (s .1 .1 .1 .1 .0) ≡ now (s′ .1 .1 .1 .1 .0))
 plain-determined κs a r r′ s s′ p q = same-output lookedAt (looked-back r) (looked-back r′) p q
 
+pub find-all-determined :
+    (κs : Lfts 3) (a : K.Dens κs find-all-kinds.ps) (r r′ : K.resT find-all-kinds.r κs .Denot) (s s′ : AtExit (K.endedOf 3 find-all-kinds.ps find-all-kinds.r) κs)
+    → find-all-reads.Post κs a r s → find-all-reads.Post κs a r′ s′ → (r ≡ r′) × (now (s .1 .1 .1 .1 .0) ≡ now (s′ .1 .1 .1 .1 .0))
+find-all-determined κs a r r′ s s′ p q = same-output lookedAt (looked-back r) (looked-back r′) p q
+
 -- the opened calls
+pub open-find-all-determined :
+    (κs : Lfts 3) (a : K.Dens κs open-find-all-kinds.ps) (r r′ : K.resT open-find-all-kinds.r κs .Denot)
+    (s s′ : AtExit (K.endedOf 3 open-find-all-kinds.ps open-find-all-kinds.r) κs)
+    → open-find-all-reads.Post κs a r s → open-find-all-reads.Post κs a r′ s′ → (r ≡ r′) × (now (s .1 .1 .1 .1 .0) ≡ now (s′ .1 .1 .1 .1 .0))
+open-find-all-determined κs a r r′ s s′ p q = same-output lookedAt (looked-back r) (looked-back r′) p q
+
 pub open-plain-determined :
     (κs : Lfts 3) (a : K.Dens κs open-plain-kinds.ps) (r r′ : K.resT open-plain-kinds.r κs .Denot) (s s′ : AtExit (K.endedOf 3 open-plain-kinds.ps open-plain-kinds.r) κs)
     → open-plain-reads.Post κs a r s → open-plain-reads.Post κs a r′ s′ → (r ≡ r′) × (now (s .1 .1 .1 .1 .0) ≡ now (s′ .1 .1 .1 .1 .0))

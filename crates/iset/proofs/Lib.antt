@@ -11,7 +11,9 @@ pub mod Ones
 pub mod Found
 pub mod Runs
 pub mod Refusals
+pub mod AtOnces
 pub mod Plains
+pub mod Finds
 pub mod BitRefusals
 pub mod Answers
 pub mod Below

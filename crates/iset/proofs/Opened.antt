@@ -20,7 +20,9 @@ use Rattle.iset.specs.Check.{checkNumber, first, checkRule}
 use Rattle.iset.specs.Remove.{RemoveAnswer, refusedRemoval, removeNumber, openRemoveCall, removeCall}
 use Rattle.iset.specs.Insert.{InsertAnswer, refusedInsertion, fullNumber, openInsertNumber, roomThenCheck, insertNumber, openInsertCall, insertCall}
 use Rattle.iset.specs.Lookup.{StartAnswer, refusedStart, StepAnswer, refusedStep, DrainAnswer, refusedDrain, startNumber, stepNumber, drainNumber, openStartCall, startCall, openStepCall, stepCall, openDrainCall, drainCall}
-use Rattle.iset.specs.Plain.{PlainAnswer, refusedPlain, plainNumber, openPlainCall, plainCall}
+use Rattle.iset.specs.Tallies.{TallyAnswer, refusedTally}
+use Rattle.iset.specs.Plain.{plainNumber, openPlainCall, plainCall}
+use Rattle.iset.specs.Find.{openFindAllCall, findAllCall}
 use Rattle.iset.specs.declared.Map.{Map}
 use Rattle.iset.specs.declared.Checked.{Checked}
 use Rattle.iset.specs.declared.Checked.the-variants.{Sound, Refused}
@@ -47,6 +49,10 @@ module _ (m : Map) (W C : List ℕ) (h : checkRule m W C ≡ 0) where
   pub plain-is : (q : Query) (out : List ℕ) → openPlainCall m W C q out ≡ plainCall m W C q out
   unfolding openPlainCall plainCall plainNumber
   plain-is q out = rw h refl
+
+  pub find-all-is : (q : Query) (out : List ℕ) → openFindAllCall m W C q out ≡ findAllCall m W C q out
+  unfolding openFindAllCall findAllCall startNumber
+  find-all-is q out = rw h refl
 
   pub remove-is : (s : ℕ) → openRemoveCall m W C s ≡ removeCall m W C s
   unfolding openRemoveCall removeCall removeNumber
@@ -76,8 +82,11 @@ module _ (m : Map) (W C : List ℕ) (t : Checked) (e : checkNumber t ≡ checkRu
         → r ≡ openDrainCall m W C y c limit out → r ≡ drainCall m W C y c limit out
     drain-through y c limit out r p = p ∙ drain-is m W C sound y c limit out
 
-    pub plain-through : (y : Query) (out : List ℕ) (r : Output PlainAnswer) → r ≡ openPlainCall m W C y out → r ≡ plainCall m W C y out
+    pub plain-through : (y : Query) (out : List ℕ) (r : Output TallyAnswer) → r ≡ openPlainCall m W C y out → r ≡ plainCall m W C y out
     plain-through y out r p = p ∙ plain-is m W C sound y out
+
+    pub find-all-through : (y : Query) (out : List ℕ) (r : Output TallyAnswer) → r ≡ openFindAllCall m W C y out → r ≡ findAllCall m W C y out
+    find-all-through y out r p = p ∙ find-all-is m W C sound y out
 
     pub remove-through : (s : ℕ) (r : Effect RemoveAnswer) → r ≡ openRemoveCall m W C s → r ≡ removeCall m W C s
     remove-through s r p = p ∙ remove-is m W C sound s
@@ -98,9 +107,13 @@ module _ (m : Map) (W C : List ℕ) (t : Checked) (e : checkNumber t ≡ checkRu
     unfolding drainCall drainNumber
     drain-away y c limit out = rw (broken, some z, some z)
 
-    pub plain-away : (y : Query) (out : List ℕ) → output (refusedPlain (refusalNumber z)) out ≡ plainCall m W C y out
+    pub plain-away : (y : Query) (out : List ℕ) → output (refusedTally (refusalNumber z)) out ≡ plainCall m W C y out
     unfolding plainCall plainNumber
     plain-away y out = rw (broken, some z, some z)
+
+    pub find-all-away : (y : Query) (out : List ℕ) → output (refusedTally (refusalNumber z)) out ≡ findAllCall m W C y out
+    unfolding findAllCall startNumber
+    find-all-away y out = rw (broken, some z, some z)
 
     pub remove-away : (s : ℕ) → effect (refusedRemoval m (refusalNumber z)) W C ≡ removeCall m W C s
     unfolding removeCall removeNumber

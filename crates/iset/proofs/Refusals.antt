@@ -46,8 +46,10 @@ use Rattle.iset.specs.Check.{checkRule, first}
 use Rattle.iset.specs.Remove.{removeNumber, RemoveAnswer, removeAnswer, removeCall}
 use Rattle.iset.specs.Insert.{entryOf, insertNumber, InsertAnswer, insertAnswer, insertCall}
 use Rattle.iset.specs.Lookup.{ordered, queryNumber, beginning, formNumber, startNumber, stepNumber, drainNumber, StartAnswer, startCall, StepAnswer, stepCall, DrainAnswer, drainAnswer, drainCall}
-use Rattle.iset.specs.Plain.{plainNumber, PlainAnswer, plainAnswer, plainCall}
-use Rattle.iset.specs.Refusals.{Rows, accept, refuse, Exactly, NoSuch, BadRange, BadInterval, BadCursor, ShortOutput, checkRows, buildRows, removeRows, insertRows, startRows, stepRows, drainRows, plainRows}
+use Rattle.iset.specs.Tallies.{TallyAnswer, tallyAnswer, refusedTally}
+use Rattle.iset.specs.Plain.{plainNumber, plainCall}
+use Rattle.iset.specs.Find.{findAllCall}
+use Rattle.iset.specs.Refusals.{Rows, accept, refuse, Exactly, NoSuch, BadRange, BadInterval, BadCursor, ShortOutput, checkRows, buildRows, removeRows, insertRows, startRows, stepRows, drainRows, plainRows, findAllRows}
 use Rattle.iset.specs.declared.Map.{Map}
 use Rattle.words.specs.Refusals.{refusalNumber}
 use Rattle.words.specs.declared.refusal.Refusal.{Refusal}
@@ -70,6 +72,8 @@ use Rattle.iset.proofs.Map.drain.Reads as drain-reads
 use Rattle.iset.proofs.Map.drain.Kinds as drain-kinds
 use Rattle.iset.proofs.Map.plain.Reads as plain-reads
 use Rattle.iset.proofs.Map.plain.Kinds as plain-kinds
+use Rattle.iset.proofs.Map.find_all.Reads as find-all-reads
+use Rattle.iset.proofs.Map.find_all.Kinds as find-all-kinds
 use Rattle.iset.proofs.Map.build.Reads as build-reads
 use Rattle.iset.proofs.Map.build.Kinds as build-kinds
 use Rattle.iset.proofs.Checks.{cases, check-one, one-check, check-two, two-check}
@@ -350,7 +354,7 @@ module _ (m : Map) (W C : List ℕ) where
 
   plain-no : (q : Query) (out : List ℕ) → plainCall m W C q out .answer .no ≡ plainNumber m W C q (length out)
   unfolding plainCall
-  plain-no q out = number-is (λ (a : Output PlainAnswer). a .answer .no) (plainNumber m W C q (length out)) _ _ refl refl
+  plain-no q out = number-is (λ (a : Output TallyAnswer). a .answer .no) (plainNumber m W C q (length out)) _ _ refl refl
 
   pub plain-refusals : (q : Query) (out : List ℕ) → Exactly (plainRows m W C q (length out)) (plainCall m W C q out .answer .no)
   plain-refusals q out = rw (plain-no q out) (plain-row q (length out))
@@ -359,6 +363,23 @@ module _ (m : Map) (W C : List ℕ) where
       → plainCall m W C q out ≡ output (record { no = plainCall m W C q out .answer .no; hits = 0; entered = 0 }) out
   unfolding plainCall
   plain-leaves q out d = rw (plain-no q out) (kept (plainNumber m W C q (length out)) _ _ (λ e. d (plain-no q out ∙ e)))
+
+  -- the fast lookup: the query alone
+  find-all-row : (q : Query) → Exactly (findAllRows m W C q) (startNumber m W C q)
+  find-all-row (Overlap q) = start-row (Overlap q)
+  find-all-row (Exact x) = start-row (Exact x)
+
+  find-all-no : (q : Query) (out : List ℕ) → findAllCall m W C q out .answer .no ≡ startNumber m W C q
+  unfolding findAllCall
+  find-all-no q out = number-is (λ (a : Output TallyAnswer). a .answer .no) (startNumber m W C q) _ _ refl refl
+
+  pub find-all-refusals : (q : Query) (out : List ℕ) → Exactly (findAllRows m W C q) (findAllCall m W C q out .answer .no)
+  find-all-refusals q out = rw (find-all-no q out) (find-all-row q)
+
+  pub find-all-leaves : (q : Query) (out : List ℕ) → (findAllCall m W C q out .answer .no ≡ 0 → ⊥)
+      → findAllCall m W C q out ≡ output (record { no = findAllCall m W C q out .answer .no; hits = 0; entered = 0 }) out
+  unfolding findAllCall
+  find-all-leaves q out d = rw (find-all-no q out) (kept (startNumber m W C q) _ _ (λ e. d (find-all-no q out ∙ e)))
 
   module _ (c : Cursor) where
     -- by the form that the test finds
@@ -508,14 +529,18 @@ drain-code κs a r s p y e =
     ap (λ (x : Drain). drainAnswer c x .no) (sym e) ∙ ap (λ (x : Output DrainAnswer). x .answer .no) p in
     ap (λ (x : Output DrainAnswer). x .output) (p ∙ drain-leaves m W C c t q out (refused-number (drainCall m W C q c t out .answer .no) y k))
 
+-- the plain lookup and the fast one
+looked-code : (r : Looked) (X out : List ℕ) (c : Output TallyAnswer) → output (tallyAnswer r) X ≡ c
+    → ((c .answer .no ≡ 0 → ⊥) → c ≡ output (refusedTally (c .answer .no)) out) → (y : Refusal) → r ≡ looked.Refused y → X ≡ out
+looked-code r X out c p leaves y e =
+    let k : refusalNumber y ≡ c .answer .no =
+    ap (λ (x : Looked). tallyAnswer x .no) (sym e) ∙ ap (λ (x : Output TallyAnswer). x .answer .no) p in
+    ap (λ (x : Output TallyAnswer). x .output) (p ∙ leaves (refused-number (c .answer .no) y k))
+
 pub plain-code : (κs : Lfts 3) (a : K.Dens κs plain-kinds.ps) (r : K.resT plain-kinds.r κs .Denot) (s : AtExit (K.endedOf 3 plain-kinds.ps plain-kinds.r) κs)
     → plain-reads.Post κs a r s → (y : Refusal) → r ≡ looked.Refused y → now (s .1 .1 .1 .1 .0) ≡ now (a .1 .1 .1 .1 .0)
-plain-code κs a r s p y e =
-    let m : Map = a .0 in
-    let W : List ℕ = now (a .1 .0) in
-    let C : List ℕ = now (a .1 .1 .0) in
-    let q : Query = a .1 .1 .1 .0 in
-    let out : List ℕ = now (a .1 .1 .1 .1 .0) in
-    let k : refusalNumber y ≡ plainCall m W C q out .answer .no =
-    ap (λ (x : Looked). plainAnswer x .no) (sym e) ∙ ap (λ (x : Output PlainAnswer). x .answer .no) p in
-    ap (λ (x : Output PlainAnswer). x .output) (p ∙ plain-leaves m W C q out (refused-number (plainCall m W C q out .answer .no) y k))
+plain-code κs a r s p = looked-code r _ _ _ p (plain-leaves (a .0) (now (a .1 .0)) (now (a .1 .1 .0)) (a .1 .1 .1 .0) (now (a .1 .1 .1 .1 .0)))
+
+pub find-all-code : (κs : Lfts 3) (a : K.Dens κs find-all-kinds.ps) (r : K.resT find-all-kinds.r κs .Denot) (s : AtExit (K.endedOf 3 find-all-kinds.ps find-all-kinds.r) κs)
+    → find-all-reads.Post κs a r s → (y : Refusal) → r ≡ looked.Refused y → now (s .1 .1 .1 .1 .0) ≡ now (a .1 .1 .1 .1 .0)
+find-all-code κs a r s p = looked-code r _ _ _ p (find-all-leaves (a .0) (now (a .1 .0)) (now (a .1 .1 .0)) (a .1 .1 .1 .0) (now (a .1 .1 .1 .1 .0)))

@@ -263,6 +263,13 @@ module _ (m : Map) (W C : List ℕ) (x : Interval) (e : startNumber m W C (Exact
       (λ h. f (par W b) (node (h .left) b (h .right)) (at-highest h) (walk-below W C (m .count) (m .root) x small P b h)
       (all-below W C (m .count) (m .root) x small P b h))
 
+  -- so the same nodes are named whatever the calls are
+  pub exact-lookups : {X : Type 0}
+      → ((named : List ℕ) → ((l : List Ask) → Lookup m W C (Exact x) (startCall m W C x .cursor) (filter (equals W x) (tree.slots (P .tree))) named l) → X) → X
+  unfolding rules
+  exact-lookups f =
+      from-tree (λ p t B w same. f (entered (exactRule W x) t) (λ l. rw (exact-fresh m W C x e, ← same) (looked m W C (Exact x) e (exactRule W x) p t w l)))
+
 pub exact-runs : (m : Map) (W C : List ℕ) (x : Interval) → checkRule m W C ≡ 0 → (BadInterval (x .start) (x .end) → ⊥)
     → (P : Passes W C (m .count) (m .root)) (l : List Ask) → ExactRun m W C x (P .tree) l
 unfolding rules

@@ -32,8 +32,10 @@ use Rattle.iset.specs.Build.{refusedBuild, buildCall}
 use Rattle.iset.specs.Remove.{RemoveAnswer, refusedRemoval, removeCall}
 use Rattle.iset.specs.Insert.{InsertAnswer, refusedInsertion, insertCall}
 use Rattle.iset.specs.Lookup.{refusedStart, startCall, refusedStep, stepCall, refusedDrain, drainCall}
-use Rattle.iset.specs.Plain.{refusedPlain, plainCall}
-use Rattle.iset.specs.Refusals.{BadRange, BadInterval, Exactly, checkRows, buildRows, removeRows, insertRows, startRows, stepRows, drainRows, plainRows}
+use Rattle.iset.specs.Tallies.{refusedTally}
+use Rattle.iset.specs.Plain.{plainCall}
+use Rattle.iset.specs.Find.{findAllCall}
+use Rattle.iset.specs.Refusals.{BadRange, BadInterval, Exactly, checkRows, buildRows, removeRows, insertRows, startRows, stepRows, drainRows, plainRows, findAllRows}
 use Rattle.iset.specs.Runs.{Ask, OverlapRun, ExactRun}
 use Rattle.iset.specs.declared.Map.{Map}
 
@@ -50,6 +52,7 @@ pub record Demand1 (m : Map) (W C : List ℕ) : Type 0 where
   pub step : (q : Query) (c : Cursor) → Exactly (stepRows m W C q c) (stepCall m W C q c .no)
   pub drain : (q : Query) (c : Cursor) (limit : ℕ) (out : List ℕ) → Exactly (drainRows m W C q c limit (length out)) (drainCall m W C q c limit out .answer .no)
   pub plain : (q : Query) (out : List ℕ) → Exactly (plainRows m W C q (length out)) (plainCall m W C q out .answer .no)
+  pub find-all : (q : Query) (out : List ℕ) → Exactly (findAllRows m W C q) (findAllCall m W C q out .answer .no)
   -- a refused call answers its number with the map or the cursor as given ("a refused build: count
   -- 0, root U"), and leaves what was lent
   pub build-leaves : (S : List ℕ) → (buildCall W C S .answer .no ≡ 0 → ⊥) → buildCall W C S ≡ effect (refusedBuild (buildCall W C S .answer .no)) W C
@@ -62,7 +65,9 @@ pub record Demand1 (m : Map) (W C : List ℕ) : Type 0 where
   pub drain-leaves : (q : Query) (c : Cursor) (limit : ℕ) (out : List ℕ) → (drainCall m W C q c limit out .answer .no ≡ 0 → ⊥)
       → drainCall m W C q c limit out ≡ output (refusedDrain c (drainCall m W C q c limit out .answer .no)) out
   pub plain-leaves : (q : Query) (out : List ℕ) → (plainCall m W C q out .answer .no ≡ 0 → ⊥)
-      → plainCall m W C q out ≡ output (refusedPlain (plainCall m W C q out .answer .no)) out
+      → plainCall m W C q out ≡ output (refusedTally (plainCall m W C q out .answer .no)) out
+  pub find-all-leaves : (q : Query) (out : List ℕ) → (findAllCall m W C q out .answer .no ≡ 0 → ⊥)
+      → findAllCall m W C q out ≡ output (refusedTally (findAllCall m W C q out .answer .no)) out
 
 -- What `Map::remove` answers and leaves, in the form of the rule of removal; what `Map::insert`
 -- leaves, in that of insertion.

@@ -7,8 +7,12 @@ pub mod Insert
 pub mod Sequence
 pub mod Lookup
 pub mod Runs
+pub mod Tallies
 pub mod Plain
+pub mod Find
+pub mod AtOnce
 pub mod PlainRuns
+pub mod FindRuns
 pub mod Refusals
 pub mod Below
 pub mod Demands

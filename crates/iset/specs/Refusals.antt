@@ -1,5 +1,6 @@
--- Document 01's table of refusals, and document 02's items 1 and 5: for each public call its rows,
--- a refusal's number and when it is given, in the order in which the first is given.
+-- Document 01's table of refusals, document 02's items 1 and 5, and the fast lookup: for each
+-- public call its rows, a refusal's number and when it is given, in the order in which the first is
+-- given.
 -- Letters: m map, W words, C colours, k number that is answered or limit, P condition or proof that
 --   the store passes, a lower number, b higher number, y high bound, s slot or stack, i place of a
 --   bit, h highest equal node, S triples, e entry, x interval, q range, c cursor
@@ -132,6 +133,12 @@ plainRows m W C (Overlap q) places =
     refuse 1 (NoRoom m W C) (refuse 2 (Broken m W C) (refuse 4 (BadRange (q .lo) (q .hi)) (refuse 9 (places < m .count) accept)))
 plainRows m W C (Exact x) places =
     refuse 1 (NoRoom m W C) (refuse 2 (Broken m W C) (refuse 5 (BadInterval (x .start) (x .end)) (refuse 9 (places < m .count) accept)))
+
+-- the fast lookup, an addition to the two documents: as the plain one without 9, since hits past a
+-- short output are counted and not written
+abbrev pub findAllRows : (map : Map) (words colours : List ℕ) (query : Query) → Rows
+findAllRows m W C (Overlap q) = refuse 1 (NoRoom m W C) (refuse 2 (Broken m W C) (refuse 4 (BadRange (q .lo) (q .hi)) accept))
+findAllRows m W C (Exact x) = startRows m W C x
 
 -- 10, BadBit, one by one. "length (or `from_elem` length) above bytes × 8"
 abbrev pub TooLong : (bytes : List ℕ) (len : ℕ) → Type 0

@@ -8,6 +8,7 @@
 // then the call that begins with `open_`. They require nothing. On any words each of them ends and
 // stays inside what was lent. But what it returns may mean nothing if the store is not opened.
 pub mod build;
+pub mod find;
 pub mod insert;
 pub mod lookup;
 pub mod remove;

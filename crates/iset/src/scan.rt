@@ -9,9 +9,10 @@ use words::refusal::Refusal;
 ghost use mathlib.Core.Path.{_≡_};
 ghost use Rattle.iset.specs.Effects.{output};
 ghost use Rattle.iset.specs.Check.{checkNumber};
-ghost use Rattle.iset.specs.Plain.{openPlainNumber, plainAnswer, openPlainCall, plainCall};
+ghost use Rattle.iset.specs.Tallies.{tallyAnswer};
+ghost use Rattle.iset.specs.Plain.{openPlainNumber, openPlainCall, plainCall};
 
-// What the call returns.
+// What this lookup and `find_all` return.
 pub enum Looked {
     Done(Tally),
     Refused(Refusal),
@@ -32,7 +33,7 @@ impl Map {
 
     // `plain` for an opened store.
     pub fn open_plain(self, nodes: &[u64], colours: &[u8], query: Query, out: &mut [u64]) -> Looked
-        ensures { λ r. ⌜ output (plainAnswer r) (now (out .exit)) ≡ openPlainCall self (now (nodes .entry)) (now (colours .entry)) query (now (out .entry)) ⌝ }
+        ensures { λ r. ⌜ output (tallyAnswer r) (now (out .exit)) ≡ openPlainCall self (now (nodes .entry)) (now (colours .entry)) query (now (out .entry)) ⌝ }
     {
         let places = out.len() as u64;
         let Checked::Refused(why) = self.test_plain(nodes, colours, query, places) else {
@@ -44,7 +45,7 @@ impl Map {
     // Writes the slots of all entries that the query asks for, in tree order. The output must have
     // a place for every entry.
     pub fn plain(self, nodes: &[u64], colours: &[u8], query: Query, out: &mut [u64]) -> Looked
-        ensures { λ r. ⌜ output (plainAnswer r) (now (out .exit)) ≡ plainCall self (now (nodes .entry)) (now (colours .entry)) query (now (out .entry)) ⌝ }
+        ensures { λ r. ⌜ output (tallyAnswer r) (now (out .exit)) ≡ plainCall self (now (nodes .entry)) (now (colours .entry)) query (now (out .entry)) ⌝ }
     {
         let Checked::Refused(why) = self.check(nodes, colours) else {
             return self.open_plain(nodes, colours, query, out);

@@ -32,6 +32,10 @@ use Rattle.iset_c.proofs.scan.iset_plain.Reads as plain-reads
 use Rattle.iset_c.proofs.scan.iset_plain.Kinds as plain-kinds
 use Rattle.iset_c.proofs.scan.iset_plain_exact.Reads as plain-exact-reads
 use Rattle.iset_c.proofs.scan.iset_plain_exact.Kinds as plain-exact-kinds
+use Rattle.iset_c.proofs.find.iset_find_all.Reads as find-all-reads
+use Rattle.iset_c.proofs.find.iset_find_all.Kinds as find-all-kinds
+use Rattle.iset_c.proofs.find.iset_find_all_exact.Reads as find-all-exact-reads
+use Rattle.iset_c.proofs.find.iset_find_all_exact.Kinds as find-all-exact-kinds
 
 -- the exits are a product by parameter: the slice of parameter k is at `.1`, k times, then `.0`
 
@@ -144,3 +148,21 @@ pub plain-exact-determined :
     × (now (s .1 .1 .1 .1 .1 .1 .1 .0) ≡ now (s′ .1 .1 .1 .1 .1 .1 .1 .0))
     × (now (s .1 .1 .1 .1 .1 .1 .0) ≡ now (s′ .1 .1 .1 .1 .1 .1 .0))
 plain-exact-determined κs a r r′ s s′ p q = same-output p q
+
+pub find-all-determined :
+    (κs : Lfts 4) (a : K.Dens κs find-all-kinds.ps) (r r′ : K.resT find-all-kinds.r κs .Denot)
+    (s s′ : AtExit (K.endedOf 4 find-all-kinds.ps find-all-kinds.r) κs)
+    → find-all-reads.Post κs a r s → find-all-reads.Post κs a r′ s′
+    → (r ≡ r′)
+    × (now (s .1 .1 .1 .1 .1 .1 .1 .1 .1 .0) ≡ now (s′ .1 .1 .1 .1 .1 .1 .1 .1 .1 .0))
+    × (now (s .1 .1 .1 .1 .1 .1 .1 .1 .0) ≡ now (s′ .1 .1 .1 .1 .1 .1 .1 .1 .0))
+find-all-determined κs a r r′ s s′ p q = same-output p q
+
+pub find-all-exact-determined :
+    (κs : Lfts 4) (a : K.Dens κs find-all-exact-kinds.ps) (r r′ : K.resT find-all-exact-kinds.r κs .Denot)
+    (s s′ : AtExit (K.endedOf 4 find-all-exact-kinds.ps find-all-exact-kinds.r) κs)
+    → find-all-exact-reads.Post κs a r s → find-all-exact-reads.Post κs a r′ s′
+    → (r ≡ r′)
+    × (now (s .1 .1 .1 .1 .1 .1 .1 .0) ≡ now (s′ .1 .1 .1 .1 .1 .1 .1 .0))
+    × (now (s .1 .1 .1 .1 .1 .1 .0) ≡ now (s′ .1 .1 .1 .1 .1 .1 .0))
+find-all-exact-determined κs a r r′ s s′ p q = same-output p q

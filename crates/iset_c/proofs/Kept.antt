@@ -15,10 +15,11 @@ use Rattle.iset.specs.Effects.{Effect, effect, Output, output}
 use Rattle.iset.specs.Build.{buildNumber, buildList, buildCall}
 use Rattle.iset.specs.Remove.{removeNumber, removeSlot, removeCall}
 use Rattle.iset.specs.Insert.{insertNumber, insertEntry, insertCall}
-use Rattle.iset.specs.Lookup.{drainNumber, drainCall}
+use Rattle.iset.specs.Lookup.{startNumber, drainNumber, drainCall}
 use Rattle.iset.specs.Plain.{plainNumber, plainCall}
+use Rattle.iset.specs.Find.{findAllCall}
 use Rattle.iset.specs.declared.Map.{Map}
-use Rattle.iset_c.specs.Replies.{Reply, Exit, exit, number, handed, left, exitOf, effectExit, outputExit, buildReply, removeReply, insertReply, drainReply, plainReply, buildExit, removeExit, insertExit, drainExit, plainExit}
+use Rattle.iset_c.specs.Replies.{Reply, Exit, exit, number, handed, left, exitOf, effectExit, outputExit, buildReply, removeReply, insertReply, drainReply, tallyReply, buildExit, removeExit, insertExit, drainExit, plainExit, findAllExit}
 
 -- an export that refuses leaves the answer A and the other slices, l
 abbrev pub Kept : Exit → List ℕ → List (List ℕ) → Type 0
@@ -74,4 +75,8 @@ module _ (A : List ℕ) (m : Map) (W C : List ℕ) where
 
   pub plain-kept : (b : Bool) (q : Query) (out : List ℕ) → Kept (plainExit b A m W C q out) A (out ∷ [])
   unfolding plainCall
-  plain-kept b q out = output-kept plainReply b A out (plainNumber m W C q (length out)) _ _ refl
+  plain-kept b q out = output-kept tallyReply b A out (plainNumber m W C q (length out)) _ _ refl
+
+  pub find-all-kept : (b : Bool) (q : Query) (out : List ℕ) → Kept (findAllExit b A m W C q out) A (out ∷ [])
+  unfolding findAllCall
+  find-all-kept b q out = output-kept tallyReply b A out (startNumber m W C q) _ _ refl

@@ -1,5 +1,5 @@
 -- What an export hands out, in the form that `search` takes.
-use mathlib.Core.Path.{_≡_, sym, _∙_}
+use mathlib.Core.Path.{_≡_, refl, sym, ap, _∙_}
 use mathlib.Core.Bool.{Bool, true, false}
 use mathlib.Core.List.{List, [], _∷_}
 use Prim.Native.Nat.{ℕ, _<_, _≤_}
@@ -7,6 +7,9 @@ use native.Mathlib.Omega.{arith}
 use lib.ListN.{length}
 use borrow.Author.Tests.{lt-ltb, le-ltb, ne-eqb}
 use Rattle.words.specs.Ix.{U}
+use Rattle.words.specs.Refusals.{refusalNumber}
+use Rattle.words.specs.declared.refusal.Refusal.{Refusal}
+use Rattle.words.proofs.Refusals.{number-pos}
 use Rattle.words.specs.declared.interval.Bound.{Bound}
 use Rattle.iter.specs.Cursors.{ended}
 use Rattle.iter.specs.Drains.{filled}
@@ -16,8 +19,12 @@ use Rattle.iter.specs.declared.rules.Query.the-variants.{Overlap}
 use Rattle.iter.specs.declared.seek.Step.{Step}
 use Rattle.iter.specs.declared.seek.Step.the-variants.{Hit, End}
 use Rattle.iset.specs.Effects.{Effect, effect, Output, output}
+use Rattle.plain.specs.declared.Tally.{Tally}
+use Rattle.iset.specs.Tallies.{TallyAnswer, tallyDone, refusedTally, tallyAnswer}
 use Rattle.iset.specs.declared.Map.{Map}
-use Rattle.iset_c.specs.Replies.{Reply, Exit, exit, number, handed, left, exitOf, answerExit, effectExit, outputExit, stepNumbers, foundNumbers}
+use Rattle.iset.specs.declared.scan.Looked.{Looked}
+use Rattle.iset.specs.declared.scan.Looked.the-variants.{Done, Refused}
+use Rattle.iset_c.specs.Replies.{Reply, Exit, exit, number, handed, left, exitOf, answerExit, effectExit, outputExit, stepNumbers, foundNumbers, tallyNumbers, tallyReply}
 
 -- an answer that is too short, whatever the bounds are
 pub short-exit : (b : Bool) (A : List ℕ) (R : Reply) (old new : List (List ℕ)) → length A < length (R .numbers) → exit 101 A old ≡ exitOf b A R old new
@@ -73,7 +80,36 @@ module _ {G T K : Type 0} (stands : G → T → K) (reply : K → Reply) (g : G)
         → exit 0 X (Y ∷ []) ≡ outputExit reply true A out k
     done-output X p z = rw (← e, q, p) (made-done A (reply (stands g v)) (out ∷ []) (Y ∷ []) (rw (← e, q) at h) z)
 
--- A range that a function made, whose bounds have kinds: a step or a plain lookup; and a drain.
+-- a lookup that finds all hits at once: what is written of its answer t, and the export of one that
+-- left the output Y
+module _ (A : List ℕ) (t : Looked) (h : 2 ≤ length A) where
+  refused-made : (z : Refusal) → t ≡ Refused z → exit (refusalNumber z) A [] ≡ answerExit true A (tallyReply (tallyAnswer t))
+  refused-made z q = rw q (made-refused A (tallyReply (refusedTally (refusalNumber z))) [] [] h (number-pos z))
+
+  done-made : (d : Tally) → t ≡ Done d → exit 0 (filled (tallyNumbers (d .hits) (d .entered)) A) [] ≡ answerExit true A (tallyReply (tallyAnswer t))
+  done-made d q = rw q (made-done A (tallyReply (tallyDone d)) [] [] h refl)
+
+  pub refused-looked : (z : Refusal) → t ≡ Refused z → (n : ℕ) → n ≡ refusalNumber z → n ≡ number true A (tallyReply (tallyAnswer t))
+  refused-looked z q n p = p ∙ ap (λ (x : Exit). x .number) (refused-made z q)
+
+  pub refused-kept : (z : Refusal) → t ≡ Refused z → A ≡ handed true A (tallyReply (tallyAnswer t))
+  refused-kept z q = ap (λ (x : Exit). x .answer) (refused-made z q)
+
+  pub done-looked : (d : Tally) → t ≡ Done d → 0 ≡ number true A (tallyReply (tallyAnswer t))
+  done-looked d q = ap (λ (x : Exit). x .number) (done-made d q)
+
+  pub done-written : (d : Tally) → t ≡ Done d → (X : List ℕ) → X ≡ filled (tallyNumbers (d .hits) (d .entered)) A
+      → X ≡ handed true A (tallyReply (tallyAnswer t))
+  done-written d q X p = p ∙ ap (λ (x : Exit). x .answer) (done-made d q)
+
+  pub looked-exit : (k : Output TallyAnswer) (out Y : List ℕ) → output (tallyAnswer t) Y ≡ k → (r : ℕ) (X : List ℕ)
+      → r ≡ number true A (tallyReply (tallyAnswer t)) → X ≡ handed true A (tallyReply (tallyAnswer t))
+      → exit r X (Y ∷ []) ≡ outputExit tallyReply true A out k
+  unfolding left
+  looked-exit k out Y e r X p w = rw (← e, p, w, le-ltb (length A) 2 h)
+
+-- A range that a function made, whose bounds have kinds: a step or a lookup that finds all hits at
+-- once; and a drain.
 -- They serve the public calls and the opened ones.
 pub bounded : {T : Type 0} (rule : Bool → List ℕ → Map → List ℕ → List ℕ → Query → T → Exit) (A : List ℕ) (m : Map) (W C : List ℕ) (x : T)
     (made query : Query) (b t : Bool) → made ≡ query → t ≡ b → t ≡ true → (r : Exit) → r ≡ rule true A m W C made x → r ≡ rule b A m W C query x

@@ -25,14 +25,15 @@ use Rattle.iset.specs.Remove.{RemoveAnswer, removeCall}
 use Rattle.iset.specs.Insert.{InsertAnswer, insertCall}
 use Rattle.iset.specs.Lookup.{startCall, stepCall, drainCall}
 use Rattle.iset.specs.Plain.{plainCall}
+use Rattle.iset.specs.Find.{findAllCall}
 use Rattle.iset.specs.Maps.{mapOf}
-use Rattle.iset.specs.Refusals.{Rows, accept, refuse, Exactly, checkRows, buildRows, removeRows, insertRows, startRows, stepRows, drainRows, plainRows}
+use Rattle.iset.specs.Refusals.{Rows, accept, refuse, Exactly, checkRows, buildRows, removeRows, insertRows, startRows, stepRows, drainRows, plainRows, findAllRows}
 use Rattle.iset.specs.declared.Map.{Map}
-use Rattle.iset.proofs.Refusals.{Lacks, passed-row, failed-row, check-refusals, build-refusals, remove-refusals, insert-refusals, start-refusals, step-refusals, drain-refusals, plain-refusals}
+use Rattle.iset.proofs.Refusals.{Lacks, passed-row, failed-row, check-refusals, build-refusals, remove-refusals, insert-refusals, start-refusals, step-refusals, drain-refusals, plain-refusals, find-all-refusals}
 use Rattle.iset.proofs.BitRefusals.{Fails, le-fails, and-fails}
-use Rattle.iset_c.specs.Replies.{Reply, Exit, exit, number, handed, exitOf, stepReply, drainReply, plainReply}
+use Rattle.iset_c.specs.Replies.{Reply, Exit, exit, number, handed, exitOf, stepReply, drainReply, tallyReply}
 use Rattle.iset_c.specs.Ranges.{rangeOf, kinds}
-use Rattle.iset_c.specs.Places.{Told, BadBound, stepPlaces, drainPlaces, plainPlaces}
+use Rattle.iset_c.specs.Places.{Told, BadBound, stepPlaces, drainPlaces, tallyPlaces}
 use Rattle.iset_c.proofs.iset_check.Reads as check-reads
 use Rattle.iset_c.proofs.iset_check.Kinds as check-kinds
 use Rattle.iset_c.proofs.iset_build.Reads as build-reads
@@ -57,6 +58,10 @@ use Rattle.iset_c.proofs.scan.iset_plain.Reads as plain-reads
 use Rattle.iset_c.proofs.scan.iset_plain.Kinds as plain-kinds
 use Rattle.iset_c.proofs.scan.iset_plain_exact.Reads as plain-exact-reads
 use Rattle.iset_c.proofs.scan.iset_plain_exact.Kinds as plain-exact-kinds
+use Rattle.iset_c.proofs.find.iset_find_all.Reads as find-all-reads
+use Rattle.iset_c.proofs.find.iset_find_all.Kinds as find-all-kinds
+use Rattle.iset_c.proofs.find.iset_find_all_exact.Reads as find-all-exact-reads
+use Rattle.iset_c.proofs.find.iset_find_all_exact.Kinds as find-all-exact-kinds
 
 -- the reply of a call whose number the rows say; b is whether each bound has a kind
 module _ (rows : Rows) (b : Bool) (R : Reply) (A X : List ℕ) (r : ℕ) where
@@ -253,7 +258,7 @@ pub plain-told : (κs : Lfts 4) (a : K.Dens κs plain-kinds.ps) (r : K.resT plai
     let b = a .1 .1 .1 .1 in
     let q : Query = rangeOf (b .0) (b .1 .0) (b .1 .1 .0) (b .1 .1 .1 .0) in
     let out : List ℕ = now (b .1 .1 .1 .1 .0) in
-    Told (refuse 102 (BadBound (b .0) (b .1 .1 .0)) (plainRows m W C q (length out))) (plainPlaces (plainCall m W C q out .answer))
+    Told (refuse 102 (BadBound (b .0) (b .1 .1 .0)) (plainRows m W C q (length out))) (tallyPlaces (plainCall m W C q out .answer))
     (now (b .1 .1 .1 .1 .1 .0)) (now (s .1 .1 .1 .1 .1 .1 .1 .1 .1 .0)) r
 plain-told κs a r s p =
     let m : Map = mapOf (a .0) (a .1 .0) in
@@ -262,7 +267,7 @@ plain-told κs a r s p =
     let b = a .1 .1 .1 .1 in
     let q : Query = rangeOf (b .0) (b .1 .0) (b .1 .1 .0) (b .1 .1 .1 .0) in
     let out : List ℕ = now (b .1 .1 .1 .1 .0) in
-    told-ranged (plainRows m W C q (length out)) (plainReply (plainCall m W C q out .answer))
+    told-ranged (plainRows m W C q (length out)) (tallyReply (plainCall m W C q out .answer))
     (now (b .1 .1 .1 .1 .1 .0)) (now (s .1 .1 .1 .1 .1 .1 .1 .1 .1 .0)) r
     (b .0) (b .1 .1 .0) (omega arith) (omega arith) (plain-refusals m W C q out) _ _ _ p
 
@@ -275,7 +280,7 @@ pub plain-exact-told : (κs : Lfts 4) (a : K.Dens κs plain-exact-kinds.ps) (r :
     let b = a .1 .1 .1 .1 in
     let q : Query = Exact (record { start = b .0; end = b .1 .0 }) in
     let out : List ℕ = now (b .1 .1 .0) in
-    Told (plainRows m W C q (length out)) (plainPlaces (plainCall m W C q out .answer))
+    Told (plainRows m W C q (length out)) (tallyPlaces (plainCall m W C q out .answer))
     (now (b .1 .1 .1 .0)) (now (s .1 .1 .1 .1 .1 .1 .1 .0)) r
 plain-exact-told κs a r s p =
     let m : Map = mapOf (a .0) (a .1 .0) in
@@ -284,6 +289,50 @@ plain-exact-told κs a r s p =
     let b = a .1 .1 .1 .1 in
     let q : Query = Exact (record { start = b .0; end = b .1 .0 }) in
     let out : List ℕ = now (b .1 .1 .0) in
-    told (plainRows m W C q (length out)) true (plainReply (plainCall m W C q out .answer))
+    told (plainRows m W C q (length out)) true (tallyReply (plainCall m W C q out .answer))
     (now (b .1 .1 .1 .0)) (now (s .1 .1 .1 .1 .1 .1 .1 .0)) r
     (omega arith) (plain-refusals m W C q out) _ _ _ p
+
+-- `iset_find_all`
+pub find-all-told : (κs : Lfts 4) (a : K.Dens κs find-all-kinds.ps) (r : K.resT find-all-kinds.r κs .Denot) (s : AtExit (K.endedOf 4 find-all-kinds.ps find-all-kinds.r) κs)
+    → find-all-reads.Post κs a r s
+    → let m : Map = mapOf (a .0) (a .1 .0) in
+    let W : List ℕ = now (a .1 .1 .0) in
+    let C : List ℕ = now (a .1 .1 .1 .0) in
+    let b = a .1 .1 .1 .1 in
+    let q : Query = rangeOf (b .0) (b .1 .0) (b .1 .1 .0) (b .1 .1 .1 .0) in
+    let out : List ℕ = now (b .1 .1 .1 .1 .0) in
+    Told (refuse 102 (BadBound (b .0) (b .1 .1 .0)) (findAllRows m W C q)) (tallyPlaces (findAllCall m W C q out .answer))
+    (now (b .1 .1 .1 .1 .1 .0)) (now (s .1 .1 .1 .1 .1 .1 .1 .1 .1 .0)) r
+find-all-told κs a r s p =
+    let m : Map = mapOf (a .0) (a .1 .0) in
+    let W : List ℕ = now (a .1 .1 .0) in
+    let C : List ℕ = now (a .1 .1 .1 .0) in
+    let b = a .1 .1 .1 .1 in
+    let q : Query = rangeOf (b .0) (b .1 .0) (b .1 .1 .0) (b .1 .1 .1 .0) in
+    let out : List ℕ = now (b .1 .1 .1 .1 .0) in
+    told-ranged (findAllRows m W C q) (tallyReply (findAllCall m W C q out .answer))
+    (now (b .1 .1 .1 .1 .1 .0)) (now (s .1 .1 .1 .1 .1 .1 .1 .1 .1 .0)) r
+    (b .0) (b .1 .1 .0) (omega arith) (omega arith) (find-all-refusals m W C q out) _ _ _ p
+
+-- `iset_find_all_exact`
+pub find-all-exact-told : (κs : Lfts 4) (a : K.Dens κs find-all-exact-kinds.ps) (r : K.resT find-all-exact-kinds.r κs .Denot) (s : AtExit (K.endedOf 4 find-all-exact-kinds.ps find-all-exact-kinds.r) κs)
+    → find-all-exact-reads.Post κs a r s
+    → let m : Map = mapOf (a .0) (a .1 .0) in
+    let W : List ℕ = now (a .1 .1 .0) in
+    let C : List ℕ = now (a .1 .1 .1 .0) in
+    let b = a .1 .1 .1 .1 in
+    let q : Query = Exact (record { start = b .0; end = b .1 .0 }) in
+    let out : List ℕ = now (b .1 .1 .0) in
+    Told (findAllRows m W C q) (tallyPlaces (findAllCall m W C q out .answer))
+    (now (b .1 .1 .1 .0)) (now (s .1 .1 .1 .1 .1 .1 .1 .0)) r
+find-all-exact-told κs a r s p =
+    let m : Map = mapOf (a .0) (a .1 .0) in
+    let W : List ℕ = now (a .1 .1 .0) in
+    let C : List ℕ = now (a .1 .1 .1 .0) in
+    let b = a .1 .1 .1 .1 in
+    let q : Query = Exact (record { start = b .0; end = b .1 .0 }) in
+    let out : List ℕ = now (b .1 .1 .0) in
+    told (findAllRows m W C q) true (tallyReply (findAllCall m W C q out .answer))
+    (now (b .1 .1 .1 .0)) (now (s .1 .1 .1 .1 .1 .1 .1 .0)) r
+    (omega arith) (find-all-refusals m W C q out) _ _ _ p

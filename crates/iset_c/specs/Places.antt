@@ -7,7 +7,7 @@ use mathlib.Core.List.{List, [], _∷_}
 use Prim.Native.Nat.{ℕ, _<_}
 use lib.ListN.{length, take, drop}
 use Rattle.iset.specs.Lookup.{StepAnswer, DrainAnswer}
-use Rattle.iset.specs.Plain.{PlainAnswer}
+use Rattle.iset.specs.Tallies.{TallyAnswer}
 use Rattle.iset.specs.Refusals.{Rows, refuse, Exactly}
 
 -- The number r is given exactly as the rows say, after 101, ShortAnswer: the answer has fewer
@@ -22,13 +22,13 @@ abbrev pub BadBound : (lo-kind hi-kind : ℕ) → Type 0
 BadBound lo-kind hi-kind = (2 < lo-kind) ⊎ (2 < hi-kind)
 
 -- the places of a step: its slot, the next cursor's slot, levels, bits, the nodes entered; of a
--- drain: the hits, the nodes entered, the next cursor; of a plain lookup: the hits, the entries
--- gone through
+-- drain: the hits, the nodes entered, the next cursor; of a lookup that finds all hits at once: the
+-- hits, the nodes entered
 abbrev pub stepPlaces : (answer : StepAnswer) → List ℕ
 stepPlaces b = b .slot ∷ b .next .slot ∷ b .next .levels ∷ b .next .bits ∷ b .entered ∷ []
 
 abbrev pub drainPlaces : (answer : DrainAnswer) → List ℕ
 drainPlaces b = b .hits ∷ b .entered ∷ b .next .slot ∷ b .next .levels ∷ b .next .bits ∷ []
 
-abbrev pub plainPlaces : (answer : PlainAnswer) → List ℕ
-plainPlaces b = b .hits ∷ b .entered ∷ []
+abbrev pub tallyPlaces : (answer : TallyAnswer) → List ℕ
+tallyPlaces b = b .hits ∷ b .entered ∷ []

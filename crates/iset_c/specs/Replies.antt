@@ -22,7 +22,9 @@ use Rattle.iset.specs.Build.{BuildAnswer, buildCall}
 use Rattle.iset.specs.Remove.{RemoveAnswer, removeCall}
 use Rattle.iset.specs.Insert.{InsertAnswer, insertCall}
 use Rattle.iset.specs.Lookup.{StartAnswer, StepAnswer, DrainAnswer, startCall, stepCall, drainCall}
-use Rattle.iset.specs.Plain.{PlainAnswer, plainCall}
+use Rattle.iset.specs.Tallies.{TallyAnswer}
+use Rattle.iset.specs.Plain.{plainCall}
+use Rattle.iset.specs.Find.{findAllCall}
 use Rattle.iset.specs.declared.Map.{Map}
 
 -- What a call answers: the refusal's number, 0 for none, and the numbers of its answer.
@@ -137,12 +139,12 @@ drainNumbers hits entered next = hits ∷ entered ∷ cursorNumbers next
 abbrev pub drainReply : (answer : DrainAnswer) → Reply
 drainReply a = record { no = a .no; numbers = drainNumbers (a .hits) (a .entered) (a .next) }
 
--- a plain lookup: the hits written, the entries gone through
-abbrev pub plainNumbers : (hits entered : ℕ) → List ℕ
-plainNumbers hits entered = hits ∷ entered ∷ []
+-- a lookup that finds all hits at once: the hits, the nodes entered
+abbrev pub tallyNumbers : (hits entered : ℕ) → List ℕ
+tallyNumbers hits entered = hits ∷ entered ∷ []
 
-abbrev pub plainReply : (answer : PlainAnswer) → Reply
-plainReply a = record { no = a .no; numbers = plainNumbers (a .hits) (a .entered) }
+abbrev pub tallyReply : (answer : TallyAnswer) → Reply
+tallyReply a = record { no = a .no; numbers = tallyNumbers (a .hits) (a .entered) }
 
 -- the exports of the public calls
 abbrev pub buildExit : (places words colours triples : List ℕ) → Exit
@@ -169,4 +171,8 @@ drainExit b A m W C q c limit out = outputExit drainReply b A out (drainCall m W
 
 abbrev pub plainExit : (known : Bool) (places : List ℕ) (map : Map) (words colours : List ℕ)
     (query : Query) (out : List ℕ) → Exit
-plainExit b A m W C q out = outputExit plainReply b A out (plainCall m W C q out)
+plainExit b A m W C q out = outputExit tallyReply b A out (plainCall m W C q out)
+
+abbrev pub findAllExit : (known : Bool) (places : List ℕ) (map : Map) (words colours : List ℕ)
+    (query : Query) (out : List ℕ) → Exit
+findAllExit b A m W C q out = outputExit tallyReply b A out (findAllCall m W C q out)

@@ -6,12 +6,15 @@ use iset::Step;
 use iset::Tally;
 use iset::insert::Inserted;
 use iset::remove::Removed;
+use iset::scan::Looked;
 use words::ix::U;
 ghost use mathlib.Core.Path.{_≡_};
+ghost use mathlib.Core.Bool.{true};
 ghost use Prim.Native.Nat.{_≤_};
 ghost use lib.ListN.{length};
 ghost use Rattle.iter.specs.Drains.{filled};
-ghost use Rattle.iset_c.specs.Replies.{mapNumbers, removedNumbers, insertedNumbers, cursorNumbers, stepNumbers, foundNumbers, drainNumbers, plainNumbers};
+ghost use Rattle.iset.specs.Tallies.{tallyAnswer};
+ghost use Rattle.iset_c.specs.Replies.{number, handed, tallyReply, mapNumbers, removedNumbers, insertedNumbers, cursorNumbers, stepNumbers, foundNumbers, drainNumbers, tallyNumbers};
 
 // Writes the numbers to the front of the answer. Places past them are unchanged.
 pub(crate) fn put(numbers: &[u64], answer: &mut [u64])
@@ -94,10 +97,26 @@ pub fn put_drained(d: Drained, answer: &mut [u64])
     put(&numbers, answer);
 }
 
-pub fn put_tally(t: Tally, answer: &mut [u64])
+fn put_tally(t: Tally, answer: &mut [u64])
     requires { ⌜ 2 ≤ length (now answer) ⌝ }
-    ensures { λ _. ⌜ now (answer .exit) ≡ filled (plainNumbers (t .hits) (t .entered)) (now (answer .entry)) ⌝ }
+    ensures { λ _. ⌜ now (answer .exit) ≡ filled (tallyNumbers (t .hits) (t .entered)) (now (answer .entry)) ⌝ }
 {
     let numbers = [t.hits, t.entered];
     put(&numbers, answer);
+}
+
+// Writes the numbers of a lookup that finds all hits at once, unless it is refused. Returns the
+// refusal's number, or 0 if there is none.
+pub fn put_looked(looked: Looked, answer: &mut [u64]) -> u64
+    requires { ⌜ 2 ≤ length (now answer) ⌝ }
+    ensures { λ r. ⌜ (r ≡ number true (now (answer .entry)) (tallyReply (tallyAnswer looked)))
+        × (now (answer .exit) ≡ handed true (now (answer .entry)) (tallyReply (tallyAnswer looked))) ⌝ }
+{
+    match looked {
+        Looked::Refused(why) => why.number(),
+        Looked::Done(t) => {
+            put_tally(t, answer);
+            0
+        }
+    }
 }

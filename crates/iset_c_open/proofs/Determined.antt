@@ -24,8 +24,10 @@ use Rattle.iset_c_open.proofs.scan.iset_open_plain.Reads as plain-reads
 use Rattle.iset_c_open.proofs.scan.iset_open_plain.Kinds as plain-kinds
 use Rattle.iset_c_open.proofs.scan.iset_open_plain_exact.Reads as plain-exact-reads
 use Rattle.iset_c_open.proofs.scan.iset_open_plain_exact.Kinds as plain-exact-kinds
-use Rattle.iset_c_open.proofs.lookup.iset_open_at.Reads as at-reads
-use Rattle.iset_c_open.proofs.lookup.iset_open_at.Kinds as at-kinds
+use Rattle.iset_c_open.proofs.find.iset_open_find_all.Reads as find-all-reads
+use Rattle.iset_c_open.proofs.find.iset_open_find_all.Kinds as find-all-kinds
+use Rattle.iset_c_open.proofs.find.iset_open_find_all_exact.Reads as find-all-exact-reads
+use Rattle.iset_c_open.proofs.find.iset_open_find_all_exact.Kinds as find-all-exact-kinds
 
 -- the exits are a product by parameter: the slice of parameter k is at `.1`, k times, then `.0`
 
@@ -91,15 +93,6 @@ pub drain-exact-determined :
     × (now (s .1 .1 .1 .1 .1 .1 .1 .1 .1 .1 .0) ≡ now (s′ .1 .1 .1 .1 .1 .1 .1 .1 .1 .1 .0))
 drain-exact-determined κs a r r′ s s′ p q = same-output p q
 
-pub at-determined :
-    (κs : Lfts 4) (a : K.Dens κs at-kinds.ps) (r r′ : K.resT at-kinds.r κs .Denot)
-    (s s′ : AtExit (K.endedOf 4 at-kinds.ps at-kinds.r) κs)
-    → at-reads.Post κs a r s → at-reads.Post κs a r′ s′
-    → (r ≡ r′)
-    × (now (s .1 .1 .1 .1 .1 .1 .0) ≡ now (s′ .1 .1 .1 .1 .1 .1 .0))
-    × (now (s .1 .1 .1 .1 .1 .0) ≡ now (s′ .1 .1 .1 .1 .1 .0))
-at-determined κs a r r′ s s′ p q = same-output p q
-
 pub plain-determined :
     (κs : Lfts 4) (a : K.Dens κs plain-kinds.ps) (r r′ : K.resT plain-kinds.r κs .Denot)
     (s s′ : AtExit (K.endedOf 4 plain-kinds.ps plain-kinds.r) κs)
@@ -117,3 +110,21 @@ pub plain-exact-determined :
     × (now (s .1 .1 .1 .1 .1 .1 .1 .0) ≡ now (s′ .1 .1 .1 .1 .1 .1 .1 .0))
     × (now (s .1 .1 .1 .1 .1 .1 .0) ≡ now (s′ .1 .1 .1 .1 .1 .1 .0))
 plain-exact-determined κs a r r′ s s′ p q = same-output p q
+
+pub find-all-determined :
+    (κs : Lfts 4) (a : K.Dens κs find-all-kinds.ps) (r r′ : K.resT find-all-kinds.r κs .Denot)
+    (s s′ : AtExit (K.endedOf 4 find-all-kinds.ps find-all-kinds.r) κs)
+    → find-all-reads.Post κs a r s → find-all-reads.Post κs a r′ s′
+    → (r ≡ r′)
+    × (now (s .1 .1 .1 .1 .1 .1 .1 .1 .1 .0) ≡ now (s′ .1 .1 .1 .1 .1 .1 .1 .1 .1 .0))
+    × (now (s .1 .1 .1 .1 .1 .1 .1 .1 .0) ≡ now (s′ .1 .1 .1 .1 .1 .1 .1 .1 .0))
+find-all-determined κs a r r′ s s′ p q = same-output p q
+
+pub find-all-exact-determined :
+    (κs : Lfts 4) (a : K.Dens κs find-all-exact-kinds.ps) (r r′ : K.resT find-all-exact-kinds.r κs .Denot)
+    (s s′ : AtExit (K.endedOf 4 find-all-exact-kinds.ps find-all-exact-kinds.r) κs)
+    → find-all-exact-reads.Post κs a r s → find-all-exact-reads.Post κs a r′ s′
+    → (r ≡ r′)
+    × (now (s .1 .1 .1 .1 .1 .1 .1 .0) ≡ now (s′ .1 .1 .1 .1 .1 .1 .1 .0))
+    × (now (s .1 .1 .1 .1 .1 .1 .0) ≡ now (s′ .1 .1 .1 .1 .1 .1 .0))
+find-all-exact-determined κs a r r′ s s′ p q = same-output p q

@@ -10,12 +10,13 @@ use Rattle.iter.specs.declared.Cursor.{Cursor}
 use Rattle.iter.specs.declared.rules.Query.{Query}
 use Rattle.iset.specs.Remove.{openRemoveNumber, removeSlot, openRemoveCall}
 use Rattle.iset.specs.Insert.{openInsertNumber, insertEntry, openInsertCall}
-use Rattle.iset.specs.Lookup.{openDrainNumber, openDrainCall}
+use Rattle.iset.specs.Lookup.{openStartNumber, openDrainNumber, openDrainCall}
 use Rattle.iset.specs.Plain.{openPlainNumber, openPlainCall}
+use Rattle.iset.specs.Find.{openFindAllCall}
 use Rattle.iset.specs.declared.Map.{Map}
-use Rattle.iset_c.specs.Replies.{removeReply, insertReply, drainReply, plainReply}
+use Rattle.iset_c.specs.Replies.{removeReply, insertReply, drainReply, tallyReply}
 use Rattle.iset_c.proofs.Kept.{Kept, effect-kept, output-kept}
-use Rattle.iset_c_open.specs.Replies.{openRemoveExit, openInsertExit, openDrainExit, openPlainExit}
+use Rattle.iset_c_open.specs.Replies.{openRemoveExit, openInsertExit, openDrainExit, openPlainExit, openFindAllExit}
 
 module _ (A : List ℕ) (m : Map) (W C : List ℕ) where
   pub open-remove-kept : (s : ℕ) → Kept (openRemoveExit A m W C s) A (W ∷ C ∷ [])
@@ -26,7 +27,7 @@ module _ (A : List ℕ) (m : Map) (W C : List ℕ) where
   unfolding openInsertCall
   open-insert-kept e = effect-kept insertReply A W C (openInsertNumber m W C e) (insertEntry m W C e) _ refl
 
-  -- of iset_open_drain, iset_open_drain_exact and iset_open_at; b: whether the bounds have kinds
+  -- of iset_open_drain and iset_open_drain_exact; b: whether the bounds have kinds
   pub open-drain-kept : (b : Bool) (q : Query) (c : Cursor) (limit : ℕ) (out : List ℕ) → Kept (openDrainExit b A m W C q c limit out) A (out ∷ [])
   unfolding openDrainCall
   open-drain-kept b q c limit out = output-kept drainReply b A out (openDrainNumber m W C q c limit (length out)) _ _ refl
@@ -34,4 +35,9 @@ module _ (A : List ℕ) (m : Map) (W C : List ℕ) where
   -- of iset_open_plain and iset_open_plain_exact
   pub open-plain-kept : (b : Bool) (q : Query) (out : List ℕ) → Kept (openPlainExit b A m W C q out) A (out ∷ [])
   unfolding openPlainCall
-  open-plain-kept b q out = output-kept plainReply b A out (openPlainNumber m W C q (length out)) _ _ refl
+  open-plain-kept b q out = output-kept tallyReply b A out (openPlainNumber m W C q (length out)) _ _ refl
+
+  -- of iset_open_find_all and iset_open_find_all_exact
+  pub open-find-all-kept : (b : Bool) (q : Query) (out : List ℕ) → Kept (openFindAllExit b A m W C q out) A (out ∷ [])
+  unfolding openFindAllCall
+  open-find-all-kept b q out = output-kept tallyReply b A out (openStartNumber m W C q) _ _ refl

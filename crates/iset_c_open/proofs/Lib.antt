@@ -1,4 +1,3 @@
-pub mod Laws
 pub mod Same
 pub mod Kept
 pub mod Determined

@@ -13,11 +13,11 @@ use Rattle.iset.specs.Check.{checkRule}
 use Rattle.iset.specs.Remove.{RemoveAnswer}
 use Rattle.iset.specs.Insert.{InsertAnswer}
 use Rattle.iset.specs.Lookup.{StartAnswer, StepAnswer, DrainAnswer}
-use Rattle.iset.specs.Plain.{PlainAnswer}
+use Rattle.iset.specs.Tallies.{TallyAnswer}
 use Rattle.iset.specs.declared.Map.{Map}
-use Rattle.iset.proofs.Opened.{remove-is, insert-is, fresh-exact-is, step-is, drain-is, plain-is}
-use Rattle.iset_c.specs.Replies.{answerExit, effectExit, outputExit, removeReply, insertReply, startReply, stepReply, drainReply, plainReply, removeExit, insertExit, startExit, stepExit, drainExit, plainExit}
-use Rattle.iset_c_open.specs.Replies.{openRemoveExit, openInsertExit, openStartExit, openStepExit, openDrainExit, openPlainExit}
+use Rattle.iset.proofs.Opened.{remove-is, insert-is, fresh-exact-is, step-is, drain-is, plain-is, find-all-is}
+use Rattle.iset_c.specs.Replies.{answerExit, effectExit, outputExit, removeReply, insertReply, startReply, stepReply, drainReply, tallyReply, removeExit, insertExit, startExit, stepExit, drainExit, plainExit, findAllExit}
+use Rattle.iset_c_open.specs.Replies.{openRemoveExit, openInsertExit, openStartExit, openStepExit, openDrainExit, openPlainExit, openFindAllExit}
 
 module _ (A : List ℕ) (m : Map) (W C : List ℕ) (h : checkRule m W C ≡ 0) where
   pub remove-exit-is : (s : ℕ) → openRemoveExit A m W C s ≡ removeExit A m W C s
@@ -36,4 +36,7 @@ module _ (A : List ℕ) (m : Map) (W C : List ℕ) (h : checkRule m W C ≡ 0) w
   drain-exit-is b q c limit out = ap (λ (k : Output DrainAnswer). outputExit drainReply b A out k) (drain-is m W C h q c limit out)
 
   pub plain-exit-is : (b : Bool) (q : Query) (out : List ℕ) → openPlainExit b A m W C q out ≡ plainExit b A m W C q out
-  plain-exit-is b q out = ap (λ (k : Output PlainAnswer). outputExit plainReply b A out k) (plain-is m W C h q out)
+  plain-exit-is b q out = ap (λ (k : Output TallyAnswer). outputExit tallyReply b A out k) (plain-is m W C h q out)
+
+  pub find-all-exit-is : (b : Bool) (q : Query) (out : List ℕ) → openFindAllExit b A m W C q out ≡ findAllExit b A m W C q out
+  find-all-exit-is b q out = ap (λ (k : Output TallyAnswer). outputExit tallyReply b A out k) (find-all-is m W C h q out)

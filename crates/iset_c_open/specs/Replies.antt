@@ -12,8 +12,9 @@ use Rattle.iset.specs.Remove.{openRemoveCall}
 use Rattle.iset.specs.Insert.{openInsertCall}
 use Rattle.iset.specs.Lookup.{openStartCall, openStepCall, openDrainCall}
 use Rattle.iset.specs.Plain.{openPlainCall}
+use Rattle.iset.specs.Find.{openFindAllCall}
 use Rattle.iset.specs.declared.Map.{Map}
-use Rattle.iset_c.specs.Replies.{Exit, answerExit, effectExit, outputExit, removeReply, insertReply, startReply, stepReply, drainReply, plainReply}
+use Rattle.iset_c.specs.Replies.{Exit, answerExit, effectExit, outputExit, removeReply, insertReply, startReply, stepReply, drainReply, tallyReply}
 
 abbrev pub openRemoveExit : (places : List ℕ) (map : Map) (words colours : List ℕ) (slot : ℕ) → Exit
 openRemoveExit A m W C slot = effectExit removeReply A W C (openRemoveCall m W C slot)
@@ -36,4 +37,8 @@ openDrainExit b A m W C q c limit out = outputExit drainReply b A out (openDrain
 
 abbrev pub openPlainExit : (known : Bool) (places : List ℕ) (map : Map) (words colours : List ℕ)
     (query : Query) (out : List ℕ) → Exit
-openPlainExit b A m W C q out = outputExit plainReply b A out (openPlainCall m W C q out)
+openPlainExit b A m W C q out = outputExit tallyReply b A out (openPlainCall m W C q out)
+
+abbrev pub openFindAllExit : (known : Bool) (places : List ℕ) (map : Map) (words colours : List ℕ)
+    (query : Query) (out : List ℕ) → Exit
+openFindAllExit b A m W C q out = outputExit tallyReply b A out (openFindAllCall m W C q out)

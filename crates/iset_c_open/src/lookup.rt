@@ -1,12 +1,10 @@
 // Looking up in an opened store, one that passed the check and that only these calls have written
-// since. One call finds the entries at an address. A cursor, a lookup's place between two calls, is
-// three numbers: slot, levels and bits. A bound is two numbers: its kind and its value.
-use iset::Bound;
+// since. A cursor, a lookup's place between two calls, is three numbers: slot, levels and bits. A
+// bound is two numbers: its kind and its value.
 use iset::Cursor;
 use iset::Interval;
 use iset::Map;
 use iset::Query;
-use iset::Span;
 use iset::lookup::Drain;
 use iset::lookup::Started;
 use iset::lookup::Stepped;
@@ -22,7 +20,6 @@ ghost use mathlib.Core.Bool.{true};
 ghost use mathlib.Core.List.{[], _∷_};
 ghost use Prim.Native.Nat.{_≤_};
 ghost use lib.ListN.{length};
-ghost use Rattle.iter.specs.Cursors.{fresh};
 ghost use Rattle.iset.specs.Maps.{mapOf};
 ghost use Rattle.iset_c.specs.Replies.{cursorOf, exit};
 ghost use Rattle.iset_c.specs.Ranges.{rangeOf, intervalOf, exactOf, kinds};
@@ -237,40 +234,6 @@ pub extern "C" fn iset_open_drain_exact(
         colours,
         Query::Exact(Interval { start, end }),
         Cursor { slot, levels, bits },
-        limit,
-        out,
-        answer,
-    )
-}
-
-// Finds the entries that hold an address. It drains the range from the address to itself, both
-// bounds Included, from the fresh cursor into the whole output. Answer: as for iset_open_drain.
-#[no_mangle]
-pub extern "C" fn iset_open_at(
-    count: u64,
-    root: u64,
-    nodes: &[u64],
-    colours: &[u8],
-    address: u64,
-    out: &mut [u64],
-    answer: &mut [u64],
-) -> u64
-    ensures { λ r. ⌜ exit r (now (answer .exit)) (now (out .exit) ∷ [])
-        ≡ openDrainExit true (now (answer .entry)) (mapOf count root) (now (nodes .entry)) (now (colours .entry)) (rangeOf 0 address 0 address) (fresh root) (length (now (out .entry))) (now (out .entry)) ⌝ }
-{
-    if answer.len() < 5 {
-        return SHORT_ANSWER;
-    }
-    let limit = out.len() as u64;
-    drain(
-        Map { count, root },
-        nodes,
-        colours,
-        Query::Overlap(Span {
-            lo: Bound::Included(address),
-            hi: Bound::Included(address),
-        }),
-        Cursor::fresh(root),
         limit,
         out,
         answer,

@@ -20,7 +20,8 @@ ghost use Rattle.plain_rule.specs.Tour.{ascend, nextOf, firstOf, plain};
 ghost use Rattle.plain.specs.Answers.{tally};
 ghost use Rattle.words.specs.Nodes.{Holds};
 
-// How many hits were written, and how many entries the lookup visited.
+// What a lookup that finds all hits at once returns: how many hits there are, and how many nodes it
+// entered.
 pub struct Tally {
     pub hits: u64,
     pub entered: u64,

@@ -33,6 +33,8 @@ use Rattle.iset.specs.Remove.{removeNumber, removeCall, openRemoveNumber}
 use Rattle.iset.specs.Insert.{fullNumber, openInsertNumber, roomThenCheck, insertNumber, insertCall}
 use Rattle.iset.specs.Lookup.{startNumber, stepNumber, drainNumber, startCall, stepCall, drainCall, openStartNumber, openStepNumber, openDrainNumber}
 use Rattle.iset.specs.Plain.{openPlainNumber, plainNumber, plainCall}
+use Rattle.iset.specs.Find.{findAllCall}
+use Rattle.fast_rule.specs.Fast.{shouldEnter, fastRules, startAt, entering, fastNodes, fastHits}
 use Rattle.test_document.specs.Stores.{buildIn, _minus_, _plus_, treeAt, treeOf, touched, boundOf}
 use Rattle.test_document.specs.Rows.{Each, outcome, stepsFrom, foundFrom, leftIn, tell}
 use Rattle.test_document.specs.Table.{storeA, storeA′, storeB, storeC, table}
@@ -84,6 +86,10 @@ touring : Unit {0}
 unfolding ascend nextOf firstOf tour entries plain openPlainNumber plainNumber plainCall
 touring = record {}
 
+entering-nodes : Unit {0}
+unfolding shouldEnter fastRules startAt entering fastNodes fastHits findAllCall
+entering-nodes = record {}
+
 changing : Unit {0}
 unfolding buildNumber buildCall openRemoveNumber removeNumber removeCall fullNumber openInsertNumber roomThenCheck insertNumber insertCall
 changing = record {}
@@ -94,5 +100,5 @@ telling = record {}
 
 -- one `refl` a row, in the table's order
 pub examples : Each table
-unfolding reading checking building repairing naming removing inserting reaching walking looking touring changing telling
-examples = (refl, (refl, (refl, (refl, (refl, (refl, (refl, (refl, (refl, (refl, (refl, (refl, (refl, (refl, (refl, (refl, (refl, (refl, (refl, (refl, (refl, (refl, (refl, (refl, (refl, (refl, (refl, (refl, (refl, (refl, (refl, (refl, (refl, (refl, (refl, (refl, (refl, (refl, record {}))))))))))))))))))))))))))))))))))))))
+unfolding reading checking building repairing naming removing inserting reaching walking looking touring entering-nodes changing telling
+examples = (refl, (refl, (refl, (refl, (refl, (refl, (refl, (refl, (refl, (refl, (refl, (refl, (refl, (refl, (refl, (refl, (refl, (refl, (refl, (refl, (refl, (refl, (refl, (refl, (refl, (refl, (refl, (refl, (refl, (refl, (refl, (refl, (refl, (refl, (refl, (refl, (refl, (refl, (refl, (refl, (refl, (refl, (refl, (refl, (refl, record {})))))))))))))))))))))))))))))))))))))))))))))

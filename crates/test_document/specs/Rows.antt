@@ -1,7 +1,7 @@
 -- A row of the table: what is asked of the public calls' rules, and what they tell.
 -- Letters: t store, s slot, e entry, q query, c pair or cursor or call, x interval, S triples,
---   a old slot or pair or answer, d answer, k steps at most or slot, r row, b new slot or pair or
---   byte, l pairs
+--   a old slot or pair or answer, d output or answer, k steps at most or slot, r row, b new slot or
+--   pair or byte, l pairs
 use mathlib.Core.Path.{_≡_}
 use mathlib.Core.Bool.{false, cond}
 use mathlib.Core.List.{List, [], _∷_}
@@ -26,7 +26,9 @@ use Rattle.iset.specs.Build.{BuildAnswer, buildCall}
 use Rattle.iset.specs.Remove.{RemoveAnswer, removeCall}
 use Rattle.iset.specs.Insert.{InsertAnswer, insertCall}
 use Rattle.iset.specs.Lookup.{StartAnswer, StepAnswer, DrainAnswer, startCall, stepCall, drainCall}
-use Rattle.iset.specs.Plain.{PlainAnswer, plainCall}
+use Rattle.iset.specs.Tallies.{TallyAnswer}
+use Rattle.iset.specs.Plain.{plainCall}
+use Rattle.iset.specs.Find.{findAllCall}
 use Rattle.iset.specs.Sequence.{State}
 use Rattle.test_document.specs.Stores.{buildIn, _plus_, treeOf, touched, boundOf}
 
@@ -72,6 +74,7 @@ pub data Call : Type 0 where
   drain : (store : State) (lo hi : Bound) (cursor : Cursor) (limit : ℕ) (out : List ℕ) → Call
   exact : (store : State) (interval : Interval) → Call
   plain : (store : State) (query : Query) (out : List ℕ) → Call
+  findAll : (store : State) (query : Query) (out : List ℕ) → Call
 
 -- what a build or an insertion leaves; the tree says which node has which children
 pub record Left : Type 0 where
@@ -94,8 +97,8 @@ pub record Limits : Type 0 where
 
 -- What is told. Of a build, a removal and an insertion: the answer, and what it leaves, of a
 -- removal the colour bytes. Of an overlap lookup: what is found, t and the bound; of its first
--- step: the whole answer; of a drain and of a plain lookup: the answer and the output. Of an exact
--- lookup: the answer of `fresh_exact`, and what is found from its cursor on.
+-- step: the whole answer; of a drain, a plain lookup and a fast one: the answer and the output. Of
+-- an exact lookup: the answer of `fresh_exact`, and what is found from its cursor on.
 pub data Told : Type 0 where
   built : (answer : BuildAnswer) (left : Left) → Told
   removed : (answer : RemoveAnswer) (colours : List ℕ) → Told
@@ -106,7 +109,7 @@ pub data Told : Type 0 where
   stepped : (answer : StepAnswer) → Told
   drained : (answer : DrainAnswer) (output : List ℕ) → Told
   started : (answer : StartAnswer) (found : Found) → Told
-  looked : (answer : PlainAnswer) (output : List ℕ) → Told
+  looked : (answer : TallyAnswer) (output : List ℕ) → Told
 
 infix 68 _gives_
 pub data Row : Type 0 where
@@ -136,6 +139,10 @@ span lo hi = record { lo = lo; hi = hi }
 unfoldable pub leftIn : (store : State) → Left
 leftIn t = record { tree = treeOf t; bytes = t .colours; h = height (treeOf t); words = t .words }
 
+-- what a lookup tells that finds all hits at once
+abbrev pub lookedBy : (output : Output TallyAnswer) → Told
+lookedBy d = looked (d .answer) (d .output)
+
 -- what the rules of the public calls tell
 unfoldable pub tell : (call : Call) → Told
 tell (build words bytes S) = built (buildCall (replicate words 0) (replicate bytes 0) S .answer) (leftIn (buildIn words bytes S))
@@ -156,9 +163,8 @@ tell (drain t lo hi c limit out) =
 tell (exact t x) =
     let a : StartAnswer = startCall (t .map) (t .words) (t .colours) x in
     started a (foundFrom t (Exact x) (a .cursor))
-tell (plain t q out) =
-    let d : Output PlainAnswer = plainCall (t .map) (t .words) (t .colours) q out in
-    looked (d .answer) (d .output)
+tell (plain t q out) = lookedBy (plainCall (t .map) (t .words) (t .colours) q out)
+tell (findAll t q out) = lookedBy (findAllCall (t .map) (t .words) (t .colours) q out)
 
 -- a row holds if the rules tell what it says; a table, if each of its rows holds
 abbrev pub Holds : (row : Row) → Type 0

@@ -19,7 +19,7 @@ use Rattle.iter.specs.declared.rules.Query.the-variants.{Overlap, Exact}
 use Rattle.iset.specs.Maps.{mapOf}
 use Rattle.iset.specs.Sequence.{State}
 use Rattle.test_document.specs.Stores.{buildIn, _minus_, _plus_}
-use Rattle.test_document.specs.Rows.{Row, _gives_, _to_, moved, colours, _entering_, hit, end, build, remove, insert, rootRight, slot, overlap, step, drain, exact, plain, span, built, removed, inserted, link, holds, found, stepped, drained, started, looked}
+use Rattle.test_document.specs.Rows.{Row, _gives_, _to_, moved, colours, _entering_, hit, end, build, remove, insert, rootRight, slot, overlap, step, drain, exact, plain, findAll, span, built, removed, inserted, link, holds, found, stepped, drained, started, looked}
 
 -- "Store A, built from [10,20) 1, [10,30) 2, [25,40) 3, [40,50) 4, [45,60) 5", in 40 words and a
 -- byte
@@ -216,4 +216,17 @@ table =
     -- count", though no entry is equal
     plain storeB (Exact (5 until 9)) (7 ∷ 7 ∷ 7 ∷ []) gives looked (record { no = 0; hits = 3; entered = 3 }) (0 ∷ 1 ∷ 2 ∷ []) ∷
     plain storeB (Exact (5 until 8)) (7 ∷ 7 ∷ []) gives looked (record { no = refusalNumber ShortOutput; hits = 0; entered = 0 }) (7 ∷ 7 ∷ []) ∷
+    -- the fast lookup finds the same, and enters fewer nodes: "Included 20, Excluded 25" two where
+    -- a drain enters three, "Included 60, Excluded 70" one where it enters two
+    findAll storeA (Overlap (span (Included 20) (Excluded 25))) (7 ∷ 7 ∷ []) gives looked (record { no = 0; hits = 1; entered = 2 }) (1 ∷ 7 ∷ []) ∷
+    findAll storeA (Overlap (span (Included 60) (Excluded 70))) (7 ∷ []) gives looked (record { no = 0; hits = 0; entered = 1 }) (7 ∷ []) ∷
+    -- an entry that starts at an Included upper bound is found
+    findAll storeA (Overlap (span (Excluded 20) (Included 25))) (7 ∷ 7 ∷ []) gives looked (record { no = 0; hits = 2; entered = 2 }) (1 ∷ 2 ∷ []) ∷
+    -- one that ends at the lower bound touches it, and is not found; here all three do
+    findAll storeB (Overlap (span (Included 9) (Included 9))) (7 ∷ []) gives looked (record { no = 0; hits = 0; entered = 1 }) (7 ∷ []) ∷
+    -- hits past a short output are counted and not written
+    findAll storeA (Overlap (span Unbounded Unbounded)) (7 ∷ 7 ∷ []) gives looked (record { no = 0; hits = 5; entered = 5 }) (0 ∷ 1 ∷ []) ∷
+    -- equal entries, in tree order; and none, where nothing is entered
+    findAll storeB (Exact (5 until 9)) (7 ∷ 7 ∷ 7 ∷ []) gives looked (record { no = 0; hits = 3; entered = 3 }) (0 ∷ 1 ∷ 2 ∷ []) ∷
+    findAll storeB (Exact (5 until 8)) (7 ∷ []) gives looked (record { no = 0; hits = 0; entered = 0 }) (7 ∷ []) ∷
     []

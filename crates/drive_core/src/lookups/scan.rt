@@ -1,11 +1,12 @@
-// `plain QUERY ROOM`: visits every entry, and writes all hits to an output of ROOM places.
+// `plain QUERY ROOM` and `find QUERY ROOM`: the lookups that find all hits at once and write them to
+// an output of ROOM places. The plain one visits every entry; the fast one tests hulls.
 use crate::lookups::query;
 use crate::lookups::query::Kind;
 use crate::lookups::reply::Reply;
 use iset::Map;
 use iset::scan::Looked;
 
-// What is printed of a plain lookup: how many hits, and how many entries it visited.
+// What is printed of them: how many hits, and how many nodes were entered.
 fn reply(no: u64, hits: u64, entered: u64) -> Reply {
     Reply {
         no,
@@ -29,4 +30,15 @@ pub(crate) fn plain(
     hits: &mut [u64],
 ) -> Reply {
     reply_of(m.plain(nodes, colours, query::query(kind, numbers), hits))
+}
+
+pub(crate) fn find_all(
+    m: Map,
+    kind: Kind,
+    numbers: &[u64],
+    nodes: &[u64],
+    colours: &[u8],
+    hits: &mut [u64],
+) -> Reply {
+    reply_of(m.find_all(nodes, colours, query::query(kind, numbers), hits))
 }

@@ -1,5 +1,6 @@
 use Rattle.iset.proofs.Laws.{let-through, turned-away}
-use Rattle.iset.proofs.Plains.{plain-words, plain-places, plain-is, refused-plain}
+use Rattle.iset.proofs.AtOnces.{tally-is, refused-tally}
+use Rattle.iset.proofs.Plains.{plain-words, plain-places}
 use Rattle.iset.specs.Plain.{openPlainCall}
 use borrow.Author.Needs.{needs}
 use Rattle.iset.proofs.Map.open_plain.Statement.{statement}
@@ -15,5 +16,5 @@ open-plain-spec =
     (λ c. search needs)
     (λ c κs. (search plain-words, search plain-places))
     (λ c. search needs)
-    (λ c. search (let-through, plain-is))
-    (λ c. search (turned-away, refused-plain)))
+    (λ c. search (let-through, tally-is))
+    (λ c. search (turned-away, refused-tally)))

@@ -1,4 +1,4 @@
-use Rattle.iset_c.proofs.Laws.{short-exit, bounded, unbounded-exit}
+use Rattle.iset_c.proofs.Laws.{short-exit, looked-exit, bounded, unbounded-exit}
 use Rattle.iset_c.specs.Replies.{plainExit}
 use borrow.Author.Needs.{needs}
 use Rattle.iset_c.proofs.scan.iset_plain.Statement.{statement}
@@ -12,7 +12,8 @@ iset-plain-spec =
     (λ c κs. search needs)
     (λ c κs. search needs)
     (λ c κs. search needs)
+    (λ c κs. search needs)
     (λ c. search needs)
     (λ c. search needs)
-    (λ c. search (bounded plainExit))
+    (λ c. search (bounded plainExit, looked-exit))
     (λ c. search unbounded-exit))

@@ -1,4 +1,4 @@
-use Rattle.iset_c.proofs.Laws.{short-exit, bounded, unbounded-exit}
+use Rattle.iset_c.proofs.Laws.{short-exit, looked-exit, bounded, unbounded-exit}
 use Rattle.iset_c_open.specs.Replies.{openPlainExit}
 use borrow.Author.Needs.{needs}
 use Rattle.iset_c_open.proofs.scan.iset_open_plain.Statement.{statement}
@@ -12,7 +12,8 @@ iset-open-plain-spec =
     (λ c κs. search needs)
     (λ c κs. search needs)
     (λ c κs. search needs)
+    (λ c κs. search needs)
     (λ c. search needs)
     (λ c. search needs)
-    (λ c. search (bounded openPlainExit))
+    (λ c. search (bounded openPlainExit, looked-exit))
     (λ c. search unbounded-exit))

@@ -1,0 +1,71 @@
+// The fast lookup in an opened store (see lookup.rt). It tests both ends of a node's hull before it
+// enters the node.
+use iset::Interval;
+use iset::Map;
+use iset::Query;
+use iset_c::BAD_BOUND;
+use iset_c::SHORT_ANSWER;
+use iset_c::answer::put_looked;
+use iset_c::range::are_kinds;
+use iset_c::range::range;
+ghost use mathlib.Core.Path.{_≡_};
+ghost use mathlib.Core.Bool.{true};
+ghost use mathlib.Core.List.{[], _∷_};
+ghost use Rattle.iset.specs.Maps.{mapOf};
+ghost use Rattle.iset_c.specs.Replies.{exit};
+ghost use Rattle.iset_c.specs.Ranges.{rangeOf, exactOf, kinds};
+ghost use Rattle.iset_c_open.specs.Replies.{openFindAllExit};
+
+// Writes the slots of the entries that intersect a range, in tree order, as many as the
+// output has places for. Answer: how many entries there are, how many nodes were entered.
+#[no_mangle]
+pub extern "C" fn iset_open_find_all(
+    count: u64,
+    root: u64,
+    nodes: &[u64],
+    colours: &[u8],
+    lo_kind: u64,
+    lo: u64,
+    hi_kind: u64,
+    hi: u64,
+    out: &mut [u64],
+    answer: &mut [u64],
+) -> u64
+    ensures { λ r. ⌜ exit r (now (answer .exit)) (now (out .exit) ∷ [])
+        ≡ openFindAllExit (kinds «lo_kind» «hi_kind») (now (answer .entry)) (mapOf count root) (now (nodes .entry)) (now (colours .entry)) (rangeOf «lo_kind» lo «hi_kind» hi) (now (out .entry)) ⌝ }
+{
+    if answer.len() < 2 {
+        return SHORT_ANSWER;
+    }
+    if are_kinds(lo_kind, hi_kind) {
+        let map = Map { count, root };
+        let query = range(lo_kind, lo, hi_kind, hi);
+        put_looked(map.open_find_all(nodes, colours, query, out), answer)
+    } else {
+        BAD_BOUND
+    }
+}
+
+// Writes the slots of the entries that are equal to an interval, in tree order, as many as the
+// output has places for. Answer: as for iset_open_find_all.
+#[no_mangle]
+pub extern "C" fn iset_open_find_all_exact(
+    count: u64,
+    root: u64,
+    nodes: &[u64],
+    colours: &[u8],
+    start: u64,
+    end: u64,
+    out: &mut [u64],
+    answer: &mut [u64],
+) -> u64
+    ensures { λ r. ⌜ exit r (now (answer .exit)) (now (out .exit) ∷ [])
+        ≡ openFindAllExit true (now (answer .entry)) (mapOf count root) (now (nodes .entry)) (now (colours .entry)) (exactOf start end) (now (out .entry)) ⌝ }
+{
+    if answer.len() < 2 {
+        return SHORT_ANSWER;
+    }
+    let map = Map { count, root };
+    let query = Query::Exact(Interval { start, end });
+    put_looked(map.open_find_all(nodes, colours, query, out), answer)
+}
