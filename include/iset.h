@@ -104,7 +104,8 @@ enum iset_answer {
     ISET_FRESH_ANSWER = 3,
     ISET_STEP_ANSWER = 5,
     ISET_DRAIN_ANSWER = 5,
-    ISET_PLAIN_ANSWER = 2
+    ISET_PLAIN_ANSWER = 2,
+    ISET_FIND_ALL_ANSWER = 2
 };
 
 /* The places of each answer. */
@@ -138,6 +139,7 @@ enum iset_drain_place {
     ISET_DRAINED_NEXT_BITS = 4
 };
 enum iset_plain_place { ISET_PLAIN_HITS = 0, ISET_PLAIN_ENTERED = 1 };
+enum iset_find_all_place { ISET_FOUND_HITS = 0, ISET_FOUND_ENTERED = 1 };
 
 #ifdef __cplusplus
 extern "C" {
@@ -267,6 +269,25 @@ uint64_t iset_plain(uint64_t count, uint64_t root, const uint64_t *nodes, size_t
  * Refusals: SHORT_ANSWER, NO_ROOM, BROKEN, BAD_INTERVAL, SHORT_OUTPUT. */
 uint64_t iset_plain_exact(uint64_t count, uint64_t root, const uint64_t *nodes, size_t nodes_len,
     const uint8_t *colours, size_t colours_len, uint64_t start, uint64_t end,
+    uint64_t *out, size_t out_len, uint64_t *answer, size_t answer_len);
+
+/* Finds all entries that intersect a range, at once: it tests both ends of a hull before it enters
+ * a node, so it enters no node that iset_drain does not enter. It writes to `out` the slots that
+ * iset_drain writes from the fresh cursor to the end, the first `out_len` of them. Places past the
+ * slots are unchanged. If there are more hits than places, call again with that many places, or
+ * drain. A lookup of one address is the range from it to itself, both bounds Included.
+ * Answer: the number of hits, those that `out` has no place for included; the number of nodes
+ * entered.
+ * Refusals: SHORT_ANSWER, BAD_BOUND, NO_ROOM, BROKEN, BAD_RANGE. */
+uint64_t iset_find_all(uint64_t count, uint64_t root, const uint64_t *nodes, size_t nodes_len,
+    const uint8_t *colours, size_t colours_len, uint64_t lo_kind, uint64_t lo, uint64_t hi_kind,
+    uint64_t hi, uint64_t *out, size_t out_len, uint64_t *answer, size_t answer_len);
+
+/* The same for the entries that are equal to an interval.
+ * Answer: as of iset_find_all.
+ * Refusals: SHORT_ANSWER, NO_ROOM, BROKEN, BAD_INTERVAL. */
+uint64_t iset_find_all_exact(uint64_t count, uint64_t root, const uint64_t *nodes,
+    size_t nodes_len, const uint8_t *colours, size_t colours_len, uint64_t start, uint64_t end,
     uint64_t *out, size_t out_len, uint64_t *answer, size_t answer_len);
 
 #ifdef __cplusplus

@@ -90,7 +90,8 @@ typedef struct iset_drained {
     iset_cursor next;
 } iset_drained;
 
-/* The answer of a plain lookup: the number of slots written, and the number of entries visited. */
+/* The answer of a lookup that finds all hits at once: the number of hits, and the number of nodes
+ * entered. */
 typedef struct iset_tally {
     uint64_t hits, entered;
 } iset_tally;
@@ -334,6 +335,30 @@ static inline uint64_t iset_map_plain_exact(iset_map map, iset_memory memory, ui
     return no;
 }
 
+static inline uint64_t iset_map_find_all(iset_map map, iset_memory memory, iset_range range,
+    uint64_t *out, size_t out_len, iset_tally *tally) {
+    uint64_t answer[ISET_FIND_ALL_ANSWER] = {0, 0};
+    uint64_t no = iset_find_all(ISET_LENT_(map, memory), ISET_RANGE_(range), out, out_len, answer,
+        ISET_FIND_ALL_ANSWER);
+    *tally = iset_tally_(answer);
+    return no;
+}
+
+static inline uint64_t iset_map_find_all_exact(iset_map map, iset_memory memory, uint64_t start,
+    uint64_t end, uint64_t *out, size_t out_len, iset_tally *tally) {
+    uint64_t answer[ISET_FIND_ALL_ANSWER] = {0, 0};
+    uint64_t no = iset_find_all_exact(ISET_LENT_(map, memory), start, end, out, out_len, answer,
+        ISET_FIND_ALL_ANSWER);
+    *tally = iset_tally_(answer);
+    return no;
+}
+
+/* Finds the entries that hold an address. */
+static inline uint64_t iset_map_at(iset_map map, iset_memory memory, uint64_t address,
+    uint64_t *out, size_t out_len, iset_tally *tally) {
+    return iset_map_find_all(map, memory, iset_range_at(address), out, out_len, tally);
+}
+
 /* The opened calls. */
 
 static inline uint64_t iset_map_open_remove(iset_map *map, iset_memory memory, uint64_t slot,
@@ -419,13 +444,28 @@ static inline uint64_t iset_map_open_plain_exact(iset_map map, iset_memory memor
     return no;
 }
 
-static inline uint64_t iset_map_open_at(iset_map map, iset_memory memory, uint64_t address,
-    uint64_t *out, size_t out_len, iset_drained *drained) {
-    uint64_t answer[ISET_DRAIN_ANSWER] = ISET_NO_HITS_;
-    uint64_t no = iset_open_at(ISET_LENT_(map, memory), address, out, out_len, answer,
-        ISET_DRAIN_ANSWER);
-    *drained = iset_drained_(answer);
+static inline uint64_t iset_map_open_find_all(iset_map map, iset_memory memory, iset_range range,
+    uint64_t *out, size_t out_len, iset_tally *tally) {
+    uint64_t answer[ISET_FIND_ALL_ANSWER] = {0, 0};
+    uint64_t no = iset_open_find_all(ISET_LENT_(map, memory), ISET_RANGE_(range), out, out_len,
+        answer, ISET_FIND_ALL_ANSWER);
+    *tally = iset_tally_(answer);
     return no;
+}
+
+static inline uint64_t iset_map_open_find_all_exact(iset_map map, iset_memory memory,
+    uint64_t start, uint64_t end, uint64_t *out, size_t out_len, iset_tally *tally) {
+    uint64_t answer[ISET_FIND_ALL_ANSWER] = {0, 0};
+    uint64_t no = iset_open_find_all_exact(ISET_LENT_(map, memory), start, end, out, out_len,
+        answer, ISET_FIND_ALL_ANSWER);
+    *tally = iset_tally_(answer);
+    return no;
+}
+
+/* Finds the entries that hold an address. */
+static inline uint64_t iset_map_open_at(iset_map map, iset_memory memory, uint64_t address,
+    uint64_t *out, size_t out_len, iset_tally *tally) {
+    return iset_map_open_find_all(map, memory, iset_range_at(address), out, out_len, tally);
 }
 
 #undef ISET_LENT_

@@ -9,9 +9,10 @@
  * may take long. Even then every call ends, and none reads or writes outside the arrays.
  *
  * The calls of iset.h check the whole store each time. These do not: the time of an insertion, a
- * removal and a step grows with the height of the tree, that of a drain with the nodes that it
- * enters, that of a plain lookup with the count. A step or a drain that continues from a cursor
- * tests that cursor first, one link a level: to fetch many slots, ask for 64 at a time.
+ * removal and a step grows with the height of the tree, that of a drain and of iset_open_find_all
+ * with the nodes that they enter, that of a plain lookup with the count. A step or a drain that
+ * continues from a cursor tests that cursor first, one link a level: to fetch many slots, ask for
+ * 64 at a time.
  *
  * Arguments, answers, refusals and their order are those of iset.h, except that these calls never
  * return ISET_BROKEN. Link libiset_open.a beside libiset.a; `./archive` writes both:
@@ -75,14 +76,15 @@ uint64_t iset_open_plain_exact(uint64_t count, uint64_t root, const uint64_t *no
     size_t nodes_len, const uint8_t *colours, size_t colours_len, uint64_t start, uint64_t end,
     uint64_t *out, size_t out_len, uint64_t *answer, size_t answer_len);
 
-/* Finds the entries that hold an address: the drain from the fresh cursor of the range from the
- * address to itself, both Included, into the whole output. If the next cursor's slot is not ISET_U
- * there may be more: continue with iset_open_drain from that cursor.
- * Answer: as of iset_drain.
- * Refusals: SHORT_ANSWER, NO_ROOM. */
-uint64_t iset_open_at(uint64_t count, uint64_t root, const uint64_t *nodes, size_t nodes_len,
-    const uint8_t *colours, size_t colours_len, uint64_t address, uint64_t *out, size_t out_len,
-    uint64_t *answer, size_t answer_len);
+/* Refusals: SHORT_ANSWER, BAD_BOUND, NO_ROOM, BAD_RANGE. */
+uint64_t iset_open_find_all(uint64_t count, uint64_t root, const uint64_t *nodes, size_t nodes_len,
+    const uint8_t *colours, size_t colours_len, uint64_t lo_kind, uint64_t lo, uint64_t hi_kind,
+    uint64_t hi, uint64_t *out, size_t out_len, uint64_t *answer, size_t answer_len);
+
+/* Refusals: SHORT_ANSWER, NO_ROOM, BAD_INTERVAL. */
+uint64_t iset_open_find_all_exact(uint64_t count, uint64_t root, const uint64_t *nodes,
+    size_t nodes_len, const uint8_t *colours, size_t colours_len, uint64_t start, uint64_t end,
+    uint64_t *out, size_t out_len, uint64_t *answer, size_t answer_len);
 
 #ifdef __cplusplus
 }

@@ -191,25 +191,30 @@ static void drain(const char *name, struct query q) {
     drain_in(name, q, ISET_DRAIN_ANSWER);
 }
 
-// A plain lookup. It writes the slots that a drain from the fresh cursor writes.
-static void plain_in(const char *name, struct query q, size_t room) {
+// A lookup that finds all hits at once: the fast one writes the slots that a drain from the fresh
+// cursor writes, as many as there are places; the plain one too, if there is a place for each entry.
+static uint64_t at_once(int fast, struct query q, size_t room) {
+#define STORE now.count, now.root, now.nodes, now.words, now.colours, now.bytes
+#define TO now.out, now.places, now.answer, room
+    if (q.exact) return fast ? iset_find_all_exact(STORE, q.lo, q.hi, TO) : iset_plain_exact(STORE, q.lo, q.hi, TO);
+    return fast ? iset_find_all(STORE, q.lo_kind, q.lo, q.hi_kind, q.hi, TO) : iset_plain(STORE, q.lo_kind, q.lo, q.hi_kind, q.hi, TO);
+}
+
+static void at_once_in(int fast, const char *name, struct query q, size_t room) {
     fill(now.out, PLACES);
     begin(room);
-    uint64_t no = q.exact
-        ? iset_plain_exact(now.count, now.root, now.nodes, now.words, now.colours, now.bytes, q.lo, q.hi, now.out, now.places, now.answer, room)
-        : iset_plain(now.count, now.root, now.nodes, now.words, now.colours, now.bytes, q.lo_kind, q.lo, q.hi_kind, q.hi, now.out, now.places,
-            now.answer, room);
-    line(name, no, ISET_PLAIN_ANSWER, no == 0 ? (size_t)now.answer[0] : 0, 0);
-    if (no == 0) {
-        printf(" slots");
-        for (uint64_t i = 0; i < now.answer[0]; i++) printf(" %" PRIu64, now.out[i]);
-    }
+    uint64_t no = at_once(fast, q, room);
+    size_t slots = no != 0 ? 0 : now.answer[0] < now.places ? (size_t)now.answer[0] : now.places;
+    line(name, no, 2, slots, 0);
+    if (no == 0) printf(" slots");
+    for (size_t i = 0; i < slots; i++) printf(" %" PRIu64, now.out[i]);
     printf("\n");
 }
 
-static void plain(const char *name, struct query q) {
-    plain_in(name, q, ISET_PLAIN_ANSWER);
-}
+static void plain_in(const char *name, struct query q, size_t room) { at_once_in(0, name, q, room); }
+static void plain(const char *name, struct query q) { plain_in(name, q, ISET_PLAIN_ANSWER); }
+static void find_all_in(const char *name, struct query q, size_t room) { at_once_in(1, name, q, room); }
+static void find_all(const char *name, struct query q) { find_all_in(name, q, ISET_FIND_ALL_ANSWER); }
 
 static const uint64_t LIST_A[15] = {10, 20, 1, 10, 30, 2, 25, 40, 3, 40, 50, 4, 45, 60, 5};
 static const uint64_t LIST_B[9] = {5, 9, 1, 5, 9, 2, 5, 9, 3};
@@ -327,6 +332,25 @@ static void looked_up_plainly(void) {
     plain("[5, 9) plain", exact(5, 9)), plain("[5, 8) plain", exact(5, 8)), plain("[7, 7] plain", range(ISET_INCLUDED, 7, ISET_INCLUDED, 7));
 }
 
+static void found_all(void) {
+    struct query some = range(ISET_INCLUDED, 20, ISET_EXCLUDED, 25), all = range(ISET_UNBOUNDED, 0, ISET_UNBOUNDED, 0);
+    lend(40, 1);
+    find_all("no entries find_all", all), now.places = 0, find_all("no places", all), find_all("no places, exact", exact(5, 9));
+    store_a();
+    find_all("[20, 25) find_all", some), find_all("(20, 25] find_all", range(ISET_EXCLUDED, 20, ISET_INCLUDED, 25)), find_all("all find_all", all);
+    find_all("[60, 70) find_all", range(ISET_INCLUDED, 60, ISET_EXCLUDED, 70)), find_all("[0, 10) find_all", range(ISET_INCLUDED, 0, ISET_EXCLUDED, 10));
+    find_all("[47, 47] find_all", range(ISET_INCLUDED, 47, ISET_INCLUDED, 47));
+    find_all("[25, 40) find_all", exact(25, 40)), find_all("[25, 41) find_all", exact(25, 41));
+    now.places = 3, find_all("3 places", all), now.places = 0, find_all("no places", all), find_all("and one hit", exact(25, 40));
+    find_all("3 to 1", range(ISET_INCLUDED, 3, ISET_INCLUDED, 1)), find_all("an empty interval", exact(9, 9));
+    find_all("a kind 3", range(3, 0, ISET_UNBOUNDED, 0)), find_all_in("a short answer, a kind 3", range(3, 0, ISET_UNBOUNDED, 0), 1);
+    find_all_in("a short answer, exact", exact(25, 40), 1), now.root = 1, find_all("root 1, 3 to 1", range(ISET_INCLUDED, 3, ISET_INCLUDED, 1));
+    now.count = 6, find_all("count 6", all), find_all("count 6, exact", exact(9, 9));
+    lend(24, 1);
+    build("B build", LIST_B, 9);
+    find_all("[5, 9) find_all", exact(5, 9)), find_all("[5, 8) find_all", exact(5, 8)), find_all("[9, 9] find_all", range(ISET_INCLUDED, 9, ISET_INCLUDED, 9));
+}
+
 static void bad_stores(void) {
     store_a(), now.words = 39, check("39 words"), remove_slot("remove", 0);
     store_a(), now.bytes = 0, check("no colours");
@@ -418,6 +442,7 @@ int main(void) {
     refused_insertions();
     looked_up();
     looked_up_plainly();
+    found_all();
     bad_stores();
     bad_lists();
     bad_queries();

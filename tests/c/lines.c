@@ -111,14 +111,16 @@ static void drain(void) {
     put_changes();
 }
 
-static void plain(void) {
+// a lookup that finds all hits at once, by the plain or by the fast one
+static void at_once(int fast) {
     uint64_t q[4];
     int is_exact = exact(q);
-    uint64_t places = number(), a[2] = {0, 0};
+    uint64_t places = number(), a[2] = {0, 0}, no;
     for (size_t i = 0; i < places; i++) out[i] = 777777;
-    put(is_exact ? iset_open_plain_exact(count, root, copy, words, colours_copy, bytes, q[0], q[1], out, places, a, 2)
-                 : iset_open_plain(count, root, copy, words, colours_copy, bytes, q[0], q[1], q[2], q[3], out, places, a, 2),
-        a, 2);
+#define STORE count, root, copy, words, colours_copy, bytes
+    if (is_exact) no = (fast ? iset_open_find_all_exact : iset_open_plain_exact)(STORE, q[0], q[1], out, places, a, 2);
+    else no = (fast ? iset_open_find_all : iset_open_plain)(STORE, q[0], q[1], q[2], q[3], out, places, a, 2);
+    put(no, a, 2);
     printf(" ");
     put(places, out, places);
     put_changes();
@@ -135,7 +137,8 @@ int main(void) {
         else if (strcmp(name, "fresh") == 0) fresh();
         else if (strcmp(name, "step") == 0) step();
         else if (strcmp(name, "drain") == 0) drain();
-        else if (strcmp(name, "plain") == 0) plain();
+        else if (strcmp(name, "plain") == 0) at_once(0);
+        else if (strcmp(name, "find") == 0) at_once(1);
         else return 1;
     }
     return 0;

@@ -10,7 +10,7 @@ sys.path.insert(0, str(TOP / 'tests'))
 import drive  # noqa: E402
 import model  # noqa: E402
 
-TAKEN = 'remove', 'insert', 'fresh e', 'step', 'drain', 'plain'
+TAKEN = 'remove', 'insert', 'fresh e', 'step', 'drain', 'plain', 'find'
 
 
 def store_line(store):

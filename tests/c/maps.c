@@ -152,7 +152,7 @@ static void put_drain(int k, uint64_t no, const iset_drained *d) {
     put(&replies[k], no, ISET_DRAIN_ANSWER, numbers);
 }
 
-static void put_plain(int k, uint64_t no, const iset_tally *t) {
+static void put_tally(int k, uint64_t no, const iset_tally *t) {
     uint64_t numbers[] = {t->hits, t->entered};
     put(&replies[k], no, ISET_PLAIN_ANSWER, numbers);
 }
@@ -195,22 +195,28 @@ static void overlaps(void) {
     places = any(4) ? SLOTS : places;
     empty(ISET_PLAIN_ANSWER, NO_HITS);
     replies[RAW].no = iset_plain(LENT, BOUNDS(range), OUT(RAW), places, ANSWER, ISET_PLAIN_ANSWER);
-    put_plain(PUBLIC, iset_map_plain(MAP(1), MEMORY(1), range, OUT(1), places, &t), &t);
-    put_plain(OPENED, iset_map_open_plain(MAP(2), MEMORY(2), range, OUT(2), places, &t), &t);
+    put_tally(PUBLIC, iset_map_plain(MAP(1), MEMORY(1), range, OUT(1), places, &t), &t);
+    put_tally(OPENED, iset_map_open_plain(MAP(2), MEMORY(2), range, OUT(2), places, &t), &t);
     equal("plain");
+    places = any(10);
+    empty(ISET_FIND_ALL_ANSWER, NO_HITS);
+    replies[RAW].no =
+        iset_find_all(LENT, BOUNDS(range), OUT(RAW), places, ANSWER, ISET_FIND_ALL_ANSWER);
+    put_tally(PUBLIC, iset_map_find_all(MAP(1), MEMORY(1), range, OUT(1), places, &t), &t);
+    put_tally(OPENED, iset_map_open_find_all(MAP(2), MEMORY(2), range, OUT(2), places, &t), &t);
+    equal("find_all");
 }
 
-/* The entries at an address: by the drain with the limit 0, and by the opened call of its own. */
+/* The entries at an address. */
 static void at(void) {
     uint64_t address = any(100), places = any(10);
-    iset_cursor from = fresh();
     iset_range range = iset_range_at(address);
-    iset_drained d;
-    empty(ISET_DRAIN_ANSWER, NO_HITS);
-    replies[RAW].no = iset_drain(
-        LENT, BOUNDS(range), PLACE(from), 0, OUT(RAW), places, ANSWER, ISET_DRAIN_ANSWER);
-    put_drain(PUBLIC, iset_map_drain(MAP(1), MEMORY(1), range, from, 0, OUT(1), places, &d), &d);
-    put_drain(OPENED, iset_map_open_at(MAP(2), MEMORY(2), address, OUT(2), places, &d), &d);
+    iset_tally t;
+    empty(ISET_FIND_ALL_ANSWER, NO_HITS);
+    replies[RAW].no =
+        iset_find_all(LENT, BOUNDS(range), OUT(RAW), places, ANSWER, ISET_FIND_ALL_ANSWER);
+    put_tally(PUBLIC, iset_map_at(MAP(1), MEMORY(1), address, OUT(1), places, &t), &t);
+    put_tally(OPENED, iset_map_open_at(MAP(2), MEMORY(2), address, OUT(2), places, &t), &t);
     equal("at");
 }
 
@@ -250,10 +256,19 @@ static void exacts(void) {
     empty(ISET_PLAIN_ANSWER, NO_HITS);
     replies[RAW].no =
         iset_plain_exact(LENT, start, end, OUT(RAW), places, ANSWER, ISET_PLAIN_ANSWER);
-    put_plain(PUBLIC, iset_map_plain_exact(MAP(1), MEMORY(1), start, end, OUT(1), places, &t), &t);
+    put_tally(PUBLIC, iset_map_plain_exact(MAP(1), MEMORY(1), start, end, OUT(1), places, &t), &t);
     no = iset_map_open_plain_exact(MAP(2), MEMORY(2), start, end, OUT(2), places, &t);
-    put_plain(OPENED, no, &t);
+    put_tally(OPENED, no, &t);
     equal("plain_exact");
+    places = any(10);
+    empty(ISET_FIND_ALL_ANSWER, NO_HITS);
+    replies[RAW].no =
+        iset_find_all_exact(LENT, start, end, OUT(RAW), places, ANSWER, ISET_FIND_ALL_ANSWER);
+    no = iset_map_find_all_exact(MAP(1), MEMORY(1), start, end, OUT(1), places, &t);
+    put_tally(PUBLIC, no, &t);
+    no = iset_map_open_find_all_exact(MAP(2), MEMORY(2), start, end, OUT(2), places, &t);
+    put_tally(OPENED, no, &t);
+    equal("find_all_exact");
 }
 
 /* A list by chance, sorted or not, and what is refused leaves the map. */
@@ -312,6 +327,9 @@ static void faces(void) {
     tell(iset_map_drain_exact(MAP(1), MEMORY(1), 3, 4, c, 0, OUT(1), SLOTS, &d));
     tell(iset_map_plain(MAP(1), MEMORY(1), all, OUT(1), SLOTS, &t));
     tell(iset_map_plain_exact(MAP(1), MEMORY(1), 3, 4, OUT(1), SLOTS, &t));
+    tell(iset_map_find_all(MAP(1), MEMORY(1), all, OUT(1), SLOTS, &t));
+    tell(iset_map_find_all_exact(MAP(1), MEMORY(1), 3, 4, OUT(1), SLOTS, &t));
+    tell(iset_map_at(MAP(1), MEMORY(1), 3, OUT(1), SLOTS, &t));
     tell(iset_map_fresh_exact(MAP(1), MEMORY(1), 3, 4, &e));
     tell(iset_map_insert(&MAP(1), MEMORY(1), entry, &inserted));
     tell(iset_map_remove(&MAP(1), MEMORY(1), 0, &removed));
@@ -320,6 +338,9 @@ static void faces(void) {
     tell(iset_map_open_drain(MAP(2), MEMORY(2), all, c, 0, OUT(2), SLOTS, &d));
     tell(iset_map_open_plain(MAP(2), MEMORY(2), all, OUT(2), SLOTS, &t));
     tell(iset_map_open_plain_exact(MAP(2), MEMORY(2), 3, 4, OUT(2), SLOTS, &t));
+    tell(iset_map_open_find_all(MAP(2), MEMORY(2), all, OUT(2), SLOTS, &t));
+    tell(iset_map_open_find_all_exact(MAP(2), MEMORY(2), 3, 4, OUT(2), SLOTS, &t));
+    tell(iset_map_open_at(MAP(2), MEMORY(2), 3, OUT(2), SLOTS, &t));
     tell(iset_map_open_fresh_exact(MAP(2), MEMORY(2), 3, 4, &e));
     tell(iset_map_open_step_exact(MAP(2), MEMORY(2), 3, 4, e, &s));
     tell(iset_map_open_drain_exact(MAP(2), MEMORY(2), 3, 4, e, 0, OUT(2), SLOTS, &d));

@@ -25,7 +25,7 @@ struct store {
 
 static struct store first, second, kept;
 static size_t words, bytes;
-static unsigned long calls, refusals, carried, damaged;
+static unsigned long calls, refusals, carried, drains, damaged;
 
 static void fail(const char *what) {
     printf("opened: %s\n", what);
@@ -80,6 +80,22 @@ static void equal(const char *what) {
 static uint64_t count, root;
 static int compared;
 
+// No place of the output was written from this one on.
+static void unwritten(uint64_t from) {
+    for (uint64_t i = from; i < MOST; i++)
+        if (opened_reply.out[i] != UINT64_C(0x0707070707070707)) fail("a place past the hits or past the output changed");
+}
+
+// After a fast lookup into so many places, which was not refused: a drain of the same from its fresh
+// cursor to the end writes the same slots, all of them, and enters at least as many nodes.
+static void as_drained(uint64_t places, int no, const struct reply *found) {
+    uint64_t hits = found->answer[0];
+    if (no != 0 || OPENED[0] != hits || OPENED[2] != ISET_U) fail("another number of hits than a drain's");
+    if (memcmp(found->out, opened_reply.out, 8 * (hits < places ? hits : places))) fail("other hits than a drain's");
+    if (found->answer[1] > OPENED[1]) fail("more nodes than a drain's");
+    drains++;
+}
+
 // a slot, mostly one that is there
 static uint64_t near_slot(void) { return any(8) == 0 ? any(3) == 0 ? ISET_U : count + any(2) : any(count + 1); }
 
@@ -122,8 +138,24 @@ static void overlaps(void) {
     }
     BOTH("plain", iset_plain(count, root, FIRST, lk, lo, hk, hi, public_reply.out, whole, PUBLIC, 2),
         iset_open_plain(count, root, SECOND, lk, lo, hk, hi, opened_reply.out, whole, OPENED, 2));
-    BOTH("at", iset_drain(count, root, FIRST, ISET_INCLUDED, lo, ISET_INCLUDED, lo, root, 1, 0, places, public_reply.out, places, PUBLIC, 5),
-        iset_open_at(count, root, SECOND, lo, opened_reply.out, places, OPENED, 5));
+    if (any(3) == 0) lk = hk = ISET_INCLUDED, hi = lo;
+    BOTH("find_all", iset_find_all(count, root, FIRST, lk, lo, hk, hi, public_reply.out, places, PUBLIC, 2),
+        iset_open_find_all(count, root, SECOND, lk, lo, hk, hi, opened_reply.out, places, OPENED, 2));
+    unwritten(opened_reply.no != 0 ? 0 : OPENED[0] < places ? OPENED[0] : places);
+    if (!compared || opened_reply.no != 0) return;
+    struct reply found = opened_reply;
+    as_drained(places, iset_open_drain(count, root, SECOND, lk, lo, hk, hi, root, 1, 0, 0, opened_reply.out, MOST, OPENED, 5), &found);
+}
+
+static void finds_exactly(uint64_t start, uint64_t end, uint64_t places) {
+    uint64_t c[3];
+    BOTH("find_all_exact", iset_find_all_exact(count, root, FIRST, start, end, public_reply.out, places, PUBLIC, 2),
+        iset_open_find_all_exact(count, root, SECOND, start, end, opened_reply.out, places, OPENED, 2));
+    unwritten(opened_reply.no != 0 ? 0 : OPENED[0] < places ? OPENED[0] : places);
+    if (!compared || opened_reply.no != 0) return;
+    struct reply found = opened_reply;
+    if (iset_open_fresh_exact(count, root, SECOND, start, end, c, 3) != 0) fail("fresh_exact");
+    as_drained(places, iset_open_drain_exact(count, root, SECOND, start, end, c[0], c[1], c[2], 0, opened_reply.out, MOST, OPENED, 5), &found);
 }
 
 static void exacts(void) {
@@ -140,6 +172,7 @@ static void exacts(void) {
         iset_open_drain_exact(count, root, SECOND, start, end, c[0], c[1], c[2], limit, opened_reply.out, places, OPENED, 5));
     BOTH("plain_exact", iset_plain_exact(count, root, FIRST, start, end, public_reply.out, whole, PUBLIC, 2),
         iset_open_plain_exact(count, root, SECOND, start, end, opened_reply.out, whole, OPENED, 2));
+    finds_exactly(start, end, any(3));
     BOTH("step_exact", iset_step_exact(count, root, FIRST, start, end, c[0], c[1], c[2], PUBLIC, 5),
         iset_open_step_exact(count, root, SECOND, start, end, c[0], c[1], c[2], OPENED, 5));
 }
@@ -162,8 +195,9 @@ static void short_answers(void) {
         iset_open_drain(count, root, SECOND, slot, 0, 2, 0, root, 1, 0, 1, opened_reply.out, 1, OPENED, 4));
     BOTH("short plain", iset_plain(count, root, FIRST, slot, 0, 2, 0, public_reply.out, 1, PUBLIC, 1),
         iset_open_plain(count, root, SECOND, slot, 0, 2, 0, opened_reply.out, 1, OPENED, 1));
-    BOTH("short at", iset_drain(count, root, FIRST, 0, 9, 0, 9, root, 1, 0, 1, public_reply.out, 1, PUBLIC, 4),
-        iset_open_at(count, root, SECOND, 9, opened_reply.out, 1, OPENED, 4));
+    BOTH("short find_all", iset_find_all(count, root, FIRST, slot, 9, 0, 9, public_reply.out, 1, PUBLIC, 1),
+        iset_open_find_all(count, root, SECOND, slot, 9, 0, 9, opened_reply.out, 1, OPENED, 1));
+    unwritten(0);
 }
 
 // arrays of any length and contents; the map of no entries
@@ -224,7 +258,7 @@ int main(void) {
         sound_round();
         damaged_rounds();
     }
-    printf("opened: %lu calls as the public ones, %lu of them refused; %lu slots carried over a removal; %lu changes of damaged stores\n",
-        calls, refusals, carried, damaged);
+    printf("opened: %lu calls as the public ones, %lu of them refused; %lu slots carried over a removal; "
+        "%lu fast lookups as drains; %lu changes of damaged stores\n", calls, refusals, carried, drains, damaged);
     return 0;
 }
