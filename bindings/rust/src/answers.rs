@@ -71,6 +71,15 @@ pub struct Cursor {
     pub bits: u64,
 }
 
+impl Cursor {
+    /// The end of every lookup.
+    pub(crate) const ENDED: Cursor = Cursor {
+        slot: U,
+        levels: 0,
+        bits: 0,
+    };
+}
+
 /// The answer of a step.
 #[derive(Clone, Copy, Debug, PartialEq, Eq)]
 pub enum Step {
@@ -101,11 +110,14 @@ pub struct Drained {
     pub next: Cursor,
 }
 
-/// The answer of a plain lookup.
+/// The answer of a lookup that finds all hits at once.
 #[derive(Clone, Copy, Debug, PartialEq, Eq)]
 pub struct Tally {
-    /// How many slots were written.
+    /// How many hits there are. A plain lookup writes all of them, and [`Map::find_all`] as many as
+    /// the output has places for.
+    ///
+    /// [`Map::find_all`]: crate::Map::find_all
     pub hits: u64,
-    /// How many entries were visited, which is all of them.
+    /// How many nodes were entered; for a plain lookup all of them.
     pub entered: u64,
 }

@@ -70,15 +70,6 @@ exports! {
 
     /// Gives the cursor at which an overlap lookup begins. The answer has 3 numbers.
     fn iset_fresh(count: u64, root: u64, answer: *mut u64, answer_len: usize);
-
-    /// Finds the entries that hold an address, without the check of the store. The answer has 5
-    /// numbers.
-    fn iset_open_at(
-        count: u64, root: u64,
-        nodes: *const u64, nodes_len: usize, colours: *const u8, colours_len: usize,
-        address: u64,
-        out: *mut u64, out_len: usize, answer: *mut u64, answer_len: usize,
-    );
 }
 
 pairs! {
@@ -152,6 +143,22 @@ pairs! {
 
     /// Finds all entries that are equal to an interval, without pruning. The answer has 2 numbers.
     PlainExact: fn iset_plain_exact, iset_open_plain_exact(
+        count: u64, root: u64,
+        nodes: *const u64, nodes_len: usize, colours: *const u8, colours_len: usize,
+        start: u64, end: u64,
+        out: *mut u64, out_len: usize, answer: *mut u64, answer_len: usize,
+    );
+
+    /// Finds all entries that intersect a range, at once. The answer has 2 numbers.
+    FindAll: fn iset_find_all, iset_open_find_all(
+        count: u64, root: u64,
+        nodes: *const u64, nodes_len: usize, colours: *const u8, colours_len: usize,
+        lo_kind: u64, lo: u64, hi_kind: u64, hi: u64,
+        out: *mut u64, out_len: usize, answer: *mut u64, answer_len: usize,
+    );
+
+    /// Finds all entries that are equal to an interval, at once. The answer has 2 numbers.
+    FindAllExact: fn iset_find_all_exact, iset_open_find_all_exact(
         count: u64, root: u64,
         nodes: *const u64, nodes_len: usize, colours: *const u8, colours_len: usize,
         start: u64, end: u64,

@@ -55,6 +55,24 @@ impl<'m, B: AsRef<[u64]> + AsMut<[u64]>> Hits<'m, B> {
         }
     }
 
+    /// The lookup of an address, by one call that finds all hits. If the buffer does not hold them, it
+    /// is fetched from its beginning in pieces.
+    pub(crate) fn at(store: StoreRef<'m>, address: u64, mut buffer: B) -> Hits<'m, B> {
+        let query = Query::at(address);
+        let out = buffer.as_mut();
+        let found = match store.lent.find_all(&OPENED, query, out) {
+            Ok(tally) => tally.hits,
+            Err(why) => refused(why),
+        };
+        let held = found <= out.len() as u64;
+        let mut hits = Hits::from_cursor(store, query, store.lent.map.fresh(), buffer);
+        if held {
+            hits.next = Cursor::ENDED;
+            hits.end = found as usize;
+        }
+        hits
+    }
+
     /// Fetches the next slots into the buffer.
     pub(crate) fn fetch(&mut self) -> Result<(), Refusal> {
         let out = self.buffer.as_mut();

@@ -14,6 +14,8 @@ pub(crate) struct Calls {
     drain_exact: ffi::DrainExact,
     plain: ffi::Plain,
     plain_exact: ffi::PlainExact,
+    find_all: ffi::FindAll,
+    find_all_exact: ffi::FindAllExact,
 }
 
 /// They check the store.
@@ -27,6 +29,8 @@ pub(crate) static PUBLIC: Calls = Calls {
     drain_exact: ffi::iset_drain_exact,
     plain: ffi::iset_plain,
     plain_exact: ffi::iset_plain_exact,
+    find_all: ffi::iset_find_all,
+    find_all_exact: ffi::iset_find_all_exact,
 };
 
 /// They do not.
@@ -40,6 +44,8 @@ pub(crate) static OPENED: Calls = Calls {
     drain_exact: ffi::iset_open_drain_exact,
     plain: ffi::iset_open_plain,
     plain_exact: ffi::iset_open_plain_exact,
+    find_all: ffi::iset_open_find_all,
+    find_all_exact: ffi::iset_open_find_all_exact,
 };
 
 /// A map and slices that a call reads.
@@ -238,16 +244,32 @@ impl Lent<'_> {
     }
 
     pub fn plain(self, calls: &Calls, query: Query, out: &mut [u64]) -> Result<Tally, Refusal> {
+        self.at_once(calls.plain, calls.plain_exact, query, out)
+    }
+
+    pub fn find_all(self, calls: &Calls, query: Query, out: &mut [u64]) -> Result<Tally, Refusal> {
+        self.at_once(calls.find_all, calls.find_all_exact, query, out)
+    }
+
+    /// A lookup that finds all hits at once, by a call for each kind of query. The plain one and the
+    /// fast one have the same arguments.
+    fn at_once(
+        self,
+        overlap: ffi::Plain,
+        exact: ffi::PlainExact,
+        query: Query,
+        out: &mut [u64],
+    ) -> Result<Tally, Refusal> {
         let mut answer = [0; 2];
         told(match query {
             Query::Overlap(lo, hi) => {
                 let ((a, lo), (b, hi)) = (numbers(lo), numbers(hi));
                 // SAFETY: as in `begin`; the output is borrowed by `&mut` too.
-                unsafe { call!(calls.plain, self, as_ptr; a, lo, b, hi; out, answer) }
+                unsafe { call!(overlap, self, as_ptr; a, lo, b, hi; out, answer) }
             }
             Query::Exact { start, end } => {
                 // SAFETY: as in `begin`; the output is borrowed by `&mut` too.
-                unsafe { call!(calls.plain_exact, self, as_ptr; start, end; out, answer) }
+                unsafe { call!(exact, self, as_ptr; start, end; out, answer) }
             }
         })?;
         let [hits, entered] = answer;

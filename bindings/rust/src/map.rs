@@ -200,6 +200,38 @@ impl Map {
         self.over(nodes, colours).plain(&PUBLIC, query, out)
     }
 
+    /// Finds all hits at once, and writes the slots of the first of them to `out`: as many as it
+    /// holds. They are the slots that [`Map::hits`] hands out. The number of hits includes those that
+    /// were not written. It enters no node that [`Map::drain`] does not enter.
+    ///
+    #[cfg_attr(iset_linked, doc = "```")]
+    #[cfg_attr(not(iset_linked), doc = "```no_run")]
+    /// use iset_proved::{Map, Query, Refusal};
+    ///
+    /// # fn main() -> Result<(), Refusal> {
+    /// let (mut nodes, mut colours, mut out) = ([0; 3 * 8], [0; 1], [7; 2]);
+    /// let map = Map::build(&mut nodes, &mut colours, &[10, 20, 1, 10, 30, 2, 25, 40, 3])?;
+    /// let found = map.find_all(&nodes, &colours, Query::at(27), &mut out)?;
+    /// assert_eq!((found.hits, out), (2, [1, 2]));
+    /// let found = map.find_all(&nodes, &colours, Query::overlap(..), &mut out)?;
+    /// assert_eq!((found.hits, out), (3, [0, 1]));
+    /// # Ok(())
+    /// # }
+    /// ```
+    ///
+    /// # Errors
+    ///
+    /// [`Refusal::NoRoom`], [`Refusal::Broken`], [`Refusal::BadRange`] or [`Refusal::BadInterval`].
+    pub fn find_all(
+        self,
+        nodes: &[u64],
+        colours: &[u8],
+        query: Query,
+        out: &mut [u64],
+    ) -> Result<Tally, Refusal> {
+        self.over(nodes, colours).find_all(&PUBLIC, query, out)
+    }
+
     /// The slots of all hits, in order, fetched through a lent buffer: as many at a time as it
     /// holds. The store is checked once, here: the borrow keeps it as it is.
     ///

@@ -30,4 +30,15 @@ impl Query {
     pub fn overlap(range: impl RangeBounds<u64>) -> Query {
         Query::Overlap(range.start_bound().cloned(), range.end_bound().cloned())
     }
+
+    /// The entries that hold an address.
+    ///
+    /// ```
+    /// use iset_proved::Query;
+    ///
+    /// assert_eq!(Query::at(20), Query::overlap(20..=20));
+    /// ```
+    pub fn at(address: u64) -> Query {
+        Query::overlap(address..=address)
+    }
 }

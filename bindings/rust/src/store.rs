@@ -85,7 +85,8 @@ impl<'m> StoreRef<'m> {
     /// The entries that hold an address, in order.
     #[inline]
     pub fn at(self, address: u64) -> Entries<'m, FEW> {
-        Entries::of_map(self, Query::overlap(address..=address))
+        let hits = Hits::at(self, address, [0; FEW]);
+        Entries { hits }
     }
 
     /// The entries that intersect a range, in order.
@@ -130,6 +131,15 @@ impl<'m> StoreRef<'m> {
     /// [`Refusal::BadRange`] or [`Refusal::BadInterval`]; [`Refusal::ShortOutput`].
     pub fn plain(self, query: Query, out: &mut [u64]) -> Result<Tally, Refusal> {
         self.lent.plain(&OPENED, query, out)
+    }
+
+    /// Writes the slots of the first hits to `out`, as many as it holds: as [`Map::find_all`].
+    ///
+    /// # Errors
+    ///
+    /// [`Refusal::BadRange`] or [`Refusal::BadInterval`].
+    pub fn find_all(self, query: Query, out: &mut [u64]) -> Result<Tally, Refusal> {
+        self.lent.find_all(&OPENED, query, out)
     }
 }
 
@@ -290,6 +300,29 @@ impl<'m> Store<'m> {
     /// [`Refusal::BadRange`] or [`Refusal::BadInterval`]; [`Refusal::ShortOutput`].
     pub fn plain(&self, query: Query, out: &mut [u64]) -> Result<Tally, Refusal> {
         self.read().plain(query, out)
+    }
+
+    /// Writes the slots of the first hits to `out`, as many as it holds: as [`Map::find_all`].
+    ///
+    #[cfg_attr(iset_linked, doc = "```")]
+    #[cfg_attr(not(iset_linked), doc = "```no_run")]
+    /// use iset_proved::{Query, Refusal, Store};
+    ///
+    /// # fn main() -> Result<(), Refusal> {
+    /// let (mut nodes, mut colours, mut out) = ([0; 3 * 8], [0; 1], [7; 3]);
+    /// let list = [[10, 20, 1], [10, 30, 2], [25, 40, 3]];
+    /// let store = Store::build(&mut nodes, &mut colours, &list)?;
+    /// let found = store.find_all(Query::overlap(20..30), &mut out)?;
+    /// assert_eq!((found.hits, out), (2, [1, 2, 7]));
+    /// # Ok(())
+    /// # }
+    /// ```
+    ///
+    /// # Errors
+    ///
+    /// [`Refusal::BadRange`] or [`Refusal::BadInterval`].
+    pub fn find_all(&self, query: Query, out: &mut [u64]) -> Result<Tally, Refusal> {
+        self.read().find_all(query, out)
     }
 
     /// Adds an entry, after those that are equal to it, and returns its slot. No other entry

@@ -18,12 +18,13 @@ macro_rules! refusing {
 
 refusing! {
     11: iset_build iset_remove iset_insert iset_fresh_exact iset_step iset_step_exact iset_drain
-    iset_drain_exact iset_plain iset_plain_exact
+    iset_drain_exact iset_plain iset_plain_exact iset_find_all iset_find_all_exact
 }
 
 refusing! {
     12: iset_open_remove iset_open_insert iset_open_fresh_exact iset_open_step iset_open_step_exact
     iset_open_drain iset_open_drain_exact iset_open_plain iset_open_plain_exact
+    iset_open_find_all iset_open_find_all_exact
 }
 
 /// The check passes the map of no entries, so that a store can be opened, and no other.
@@ -64,6 +65,8 @@ fn maps() {
         let drained = map.drain(&nodes, &colours, query, FROM, 0, &mut out);
         assert_eq!(drained.err(), PUBLIC);
         assert_eq!(map.plain(&nodes, &colours, query, &mut out).err(), PUBLIC);
+        let found = map.find_all(&nodes, &colours, query, &mut out);
+        assert_eq!(found.err(), PUBLIC);
         assert_eq!(map.hits(&nodes, &colours, query, &mut out).err(), PUBLIC);
         let hits = Map::new().hits(&nodes, &colours, query, &mut out);
         assert_eq!(hits.err(), OPENED);
@@ -89,6 +92,7 @@ fn stores() {
     for query in QUERIES {
         assert_eq!(store.hits(query, &mut out).err(), OPENED);
         assert_eq!(store.plain(query, &mut out).err(), OPENED);
+        assert_eq!(store.find_all(query, &mut out).err(), OPENED);
     }
     assert!(catch_unwind(AssertUnwindSafe(|| store.at(1).count())).is_err());
     assert!(catch_unwind(AssertUnwindSafe(|| store.entries().count())).is_err());

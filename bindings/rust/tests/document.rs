@@ -280,6 +280,47 @@ fn looked_up_plainly() {
 }
 
 #[test]
+fn found_all() {
+    let a = Store::of(&LIST_A);
+    let queries = [
+        (Query::overlap(20..25), 2),
+        (Query::overlap(..), 5),
+        (Query::overlap(60..70), 1),
+        (Query::at(47), 3),
+        (Query::Exact { start: 25, end: 40 }, 1),
+        (Query::Exact { start: 25, end: 41 }, 0),
+    ];
+    for (query, entered) in queries {
+        let all = a.all(query, 2).unwrap();
+        let hits = all.len() as u64;
+        for places in 0..6 {
+            let mut out = [7; 6];
+            let found = a
+                .map
+                .find_all(&a.nodes, &a.colours, query, &mut out[..places]);
+            assert_eq!(found, Ok(Tally { hits, entered }));
+            let written = places.min(all.len());
+            assert_eq!(out[..written], all[..written]);
+            assert!(out[written..].iter().all(|&place| place == 7));
+        }
+    }
+    let mut out = [7; 6];
+    let mut refused = |map: Map, query| {
+        let why = map.find_all(&a.nodes, &a.colours, query, &mut out);
+        assert_eq!(out, [7; 6]);
+        why.err()
+    };
+    let falling = Query::overlap((Bound::Included(3), Bound::Included(1)));
+    let empty = Query::Exact { start: 9, end: 9 };
+    assert_eq!(refused(a.map, falling), Some(Refusal::BadRange));
+    assert_eq!(refused(a.map, empty), Some(Refusal::BadInterval));
+    let broken = Map { root: 1, ..a.map };
+    assert_eq!(refused(broken, falling), Some(Refusal::Broken));
+    let above = Map { count: 6, ..a.map };
+    assert_eq!(refused(above, falling), Some(Refusal::NoRoom));
+}
+
+#[test]
 fn hits_in_pieces() {
     let a = Store::of(&LIST_A);
     let b = Store::of(&[5, 9, 1, 5, 9, 2, 5, 9, 3]);

@@ -65,11 +65,23 @@ fn remove(store: &mut Store, plain: &mut Plain, chance: &mut Chance) {
     }
 }
 
-/// The plain lookup writes, and `hits` hands out, the slots of the entries.
+/// The plain and the fast lookup write, and `hits` hands out, the slots of the entries.
 fn same_slots(store: &Store, query: Query, found: Result<Vec<Entry>, Refusal>, piece: usize) {
     let (mut out, mut buffer) = ([U; SLOTS], [U; SLOTS]);
     let tally = store.plain(query, &mut out);
     let hits = store.hits(query, &mut buffer[..piece]);
+    let mut first = [U; SLOTS];
+    let fast = store.find_all(query, &mut first[..piece]);
+    assert_eq!(
+        fast.map(|fast| fast.hits).err(),
+        tally.map(|tally| tally.hits).err()
+    );
+    if let (Ok(fast), Ok(tally)) = (fast, tally) {
+        let held = piece.min(tally.hits as usize);
+        assert!(fast.hits == tally.hits && fast.entered <= tally.entered);
+        assert_eq!(first[..held], out[..held]);
+        assert!(first[held..].iter().all(|&place| place == U));
+    }
     match (tally, found) {
         (Ok(tally), Ok(found)) => {
             assert!(hits.unwrap().eq(found.iter().map(|entry| entry.slot)));
@@ -181,6 +193,13 @@ fn in_pieces() {
     let store = Store::build(&mut nodes, &mut colours, &list).unwrap();
     assert!(store.entries().map(|entry| entry.value).eq(0..1000));
     assert!(store.at(1).map(|entry| entry.value).eq(0..600));
+    // as many as are fetched at once, one less and one more
+    for n in 7..10 {
+        let (mut nodes, mut colours) = (vec![0; 80], vec![0; 2]);
+        let store = Store::build(&mut nodes, &mut colours, &list[..n]).unwrap();
+        assert!(store.at(1).map(|entry| entry.value).eq(0..n as u64));
+        assert_eq!(store.at(2000).next(), None);
+    }
     let third = store.exact(2..2000).unwrap();
     assert!(third.map(|entry| entry.value).eq(600..900));
     let mut buffer = [0; 7];
