@@ -25,6 +25,7 @@ uint64_t rust_remove(map *m, uint64_t slot);
 void rust_insert(map *m, uint64_t start, uint64_t end, uint64_t value);
 uint64_t rust_all(const map *m);
 uint64_t rust_point(const map *m, uint64_t p);
+uint64_t rust_window(const map *m, uint64_t start, uint64_t end);
 uint64_t rust_exact(const map *m, uint64_t start, uint64_t end);
 bool rust_check(const uint64_t *w, size_t wn, const uint8_t *b, size_t bn, uint64_t count, uint64_t root);
 
@@ -40,7 +41,7 @@ uint64_t store_exact(const store *s, uint64_t start, uint64_t end);
 /* Rust's libraries name it; nothing here unwinds. */
 void rust_eh_personality(void) {}
 
-enum { ROUNDS = 15, MOST = 65535, LOOKUPS = 10000, PLAINS = 200, PIECE = 64 };
+enum { ROUNDS = 15, MOST = 65535, LOOKUPS = 10000, PLAINS = 200, WINDOWS = 200, WINDOW = 300, PIECE = 64 };
 
 static uint64_t list[3 * MOST], mixed[3 * MOST], words[8 * MOST], spare[8 * MOST], held[8 * MOST], out[MOST], slots[MOST];
 static uint8_t bytes[MOST / 8 + 1], spare_bytes[MOST / 8 + 1], held_bytes[MOST / 8 + 1];
@@ -236,12 +237,47 @@ static uint64_t some_theirs(size_t lookups) {
 }
 static uint64_t points_theirs(void) { return some_theirs(LOOKUPS); }
 static uint64_t publics_theirs(void) { return some_theirs(publics); }
+/* The entries between two bounds: by one drain, and by the fast lookup. Both write to `out`. */
+static uint64_t drained(uint64_t lo, uint64_t hi_kind, uint64_t hi, size_t places) {
+    uint64_t answer[5] = {0};
+    iset_open_drain(n, root, words, 8 * n, bytes, colour_bytes, ISET_INCLUDED, lo, hi_kind, hi, root, 1, 0, 0, out, places, answer, 5);
+    return values(answer[0]);
+}
+static uint64_t found(uint64_t lo, uint64_t hi_kind, uint64_t hi, size_t places) {
+    uint64_t answer[2] = {0};
+    iset_open_find_all(n, root, words, 8 * n, bytes, colour_bytes, ISET_INCLUDED, lo, hi_kind, hi, out, places, answer, 2);
+    return values(answer[0]);
+}
 static uint64_t some_ours(size_t lookups) {
-    uint64_t sum = 0, answer[5] = {0};
-    for (size_t k = 0; k < lookups; k++) {
-        iset_open_at(n, root, words, 8 * n, bytes, colour_bytes, points[k], out, PIECE, answer, 5);
-        sum = 3 * sum + values(answer[0]);
-    }
+    uint64_t sum = 0;
+    for (size_t k = 0; k < lookups; k++)
+        sum = 3 * sum + drained(points[k], ISET_INCLUDED, points[k], PIECE);
+    return sum;
+}
+static uint64_t points_found(void) {
+    uint64_t sum = 0;
+    for (size_t k = 0; k < LOOKUPS; k++)
+        sum = 3 * sum + found(points[k], ISET_INCLUDED, points[k], PIECE);
+    return sum;
+}
+
+/* Windows: the entries that intersect a range of WINDOW addresses. */
+static uint64_t windows_theirs(void) {
+    uint64_t sum = 0;
+    for (size_t k = 0; k < WINDOWS; k++)
+        sum = 3 * sum + rust_window(crate, points[k], points[k] + WINDOW);
+    return sum;
+}
+static uint64_t windows_drained(void) {
+    uint64_t sum = 0;
+    for (size_t k = 0; k < WINDOWS; k++)
+        sum = 3 * sum + drained(points[k], ISET_EXCLUDED, points[k] + WINDOW, n);
+    return sum;
+}
+static uint64_t windows_found(void) {
+    uint64_t sum = 0;
+    for (size_t k = 0; k < WINDOWS; k++)
+        sum = 3 * sum + found(points[k], ISET_EXCLUDED, points[k] + WINDOW, n);
     return sum;
 }
 static uint64_t points_ours(void) { return some_ours(LOOKUPS); }
@@ -371,7 +407,12 @@ int main(int words_given, char **given) {
         insertion = {"insertion of every entry, opened", before_insertion, insert_theirs, insert_ours, after_insertion, 0},
         all = {"drain over the whole map at once, opened", nothing, all_theirs, all_at_once, nothing, 0},
         pieces = {"drain over the whole map in pieces of 64, opened", nothing, all_theirs, all_in_pieces, nothing, 0},
-        point = {"point lookups, opened", before_points, points_theirs, points_ours, nothing, 0},
+        point = {"point lookups by a drain, opened", before_points, points_theirs, points_ours, nothing, 0},
+        point_found = {"point lookups by find_all, opened", before_points, points_theirs, points_found, nothing, 0},
+        point_faster = {"point lookups by find_all, against the drain", before_points, points_ours, points_found, nothing, 0},
+        window = {"windows by a drain, opened", before_points, windows_theirs, windows_drained, nothing, 0},
+        window_found = {"windows by find_all, opened", before_points, windows_theirs, windows_found, nothing, 0},
+        window_faster = {"windows by find_all, against the drain", before_points, windows_drained, windows_found, nothing, 0},
         public = {"point lookups, public, with the check", before_points, publics_theirs, points_public, nothing, 0},
         whole_plain = {"plain lookup of the whole map, against the drain at once", nothing, all_at_once, all_plain, nothing, 0},
         point_plain = {"plain point lookups, against pruned ones", before_points, few_pruned, few_plain, nothing, 0},
@@ -391,6 +432,11 @@ int main(int words_given, char **given) {
         measure(&all, n);
         measure(&pieces, n);
         measure(&point, LOOKUPS);
+        measure(&point_found, LOOKUPS);
+        measure(&point_faster, LOOKUPS);
+        measure(&window, WINDOWS);
+        measure(&window_found, WINDOWS);
+        measure(&window_faster, WINDOWS);
         measure(&whole_plain, n);
         measure(&point_plain, PLAINS);
         measure(&removal_rust, n);

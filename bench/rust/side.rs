@@ -92,6 +92,12 @@ pub unsafe extern "C" fn rust_point(map: *const Map, p: u64) -> u64 {
     (*map).overlap(p).map(|(_, v)| *v).sum()
 }
 
+/// The sum of the values of the entries that intersect a range.
+#[no_mangle]
+pub unsafe extern "C" fn rust_window(map: *const Map, start: u64, end: u64) -> u64 {
+    (*map).iter(start..end).map(|(_, v)| *v).sum()
+}
+
 /// The sum of the values of the entries equal to an interval.
 #[no_mangle]
 pub unsafe extern "C" fn rust_exact(map: *const Map, start: u64, end: u64) -> u64 {
