@@ -1,6 +1,6 @@
 #!/usr/bin/env python3
-"""Lines for `drive` about the fast lookup: the queries of tests/plain_lines.py, into outputs that hold
-no hit, one hit less than there are, all of them, and more. crates/drive/stdin ends with these
+"""Lines for `drive` about the fast lookup: the queries of tests/plain_lines.py, into outputs that
+hold no hit, one hit less than there are, all of them, and more. crates/drive/stdin ends with these
 lines."""
 import model
 from lookups import U, start

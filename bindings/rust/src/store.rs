@@ -82,7 +82,12 @@ impl<'m> StoreRef<'m> {
         Entries::of_map(self, Query::overlap(..))
     }
 
-    /// The entries that hold an address, in order.
+    /// The entries that hold an address, in order: found at once, by [`Map::find_all`] without the
+    /// check.
+    ///
+    /// # Panics
+    ///
+    /// As [`Hits`].
     #[inline]
     pub fn at(self, address: u64) -> Entries<'m, FEW> {
         let hits = Hits::at(self, address, [0; FEW]);
@@ -258,7 +263,12 @@ impl<'m> Store<'m> {
         self.read().entries()
     }
 
-    /// The entries that hold an address, in order.
+    /// The entries that hold an address, in order: found at once, by [`Map::find_all`] without the
+    /// check.
+    ///
+    /// # Panics
+    ///
+    /// As [`Hits`].
     #[inline]
     pub fn at(&self, address: u64) -> Entries<'_, FEW> {
         self.read().at(address)

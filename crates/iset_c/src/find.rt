@@ -15,8 +15,8 @@ ghost use Rattle.iset.specs.Maps.{mapOf};
 ghost use Rattle.iset_c.specs.Replies.{exit, findAllExit};
 ghost use Rattle.iset_c.specs.Ranges.{rangeOf, exactOf, kinds};
 
-// Writes the slots of the entries that intersect a range, in tree order, as many as the
-// output has places for. Answer: how many entries there are, how many nodes were entered.
+// Writes the slots of the entries that intersect a range, in tree order, as many as the output has
+// places for. Answer: how many hits there are, how many nodes were entered.
 #[no_mangle]
 pub extern "C" fn iset_find_all(
     count: u64,
@@ -45,8 +45,8 @@ pub extern "C" fn iset_find_all(
     }
 }
 
-// Writes the slots of the entries that are equal to an interval, in tree order, as many as the
-// output has places for. Answer: as for iset_find_all.
+// Writes the slots of the entries that are equal to an interval, in the same way. Answer: as for
+// iset_find_all.
 #[no_mangle]
 pub extern "C" fn iset_find_all_exact(
     count: u64,

@@ -16,8 +16,8 @@ ghost use Rattle.iset_c.specs.Replies.{exit};
 ghost use Rattle.iset_c.specs.Ranges.{rangeOf, exactOf, kinds};
 ghost use Rattle.iset_c_open.specs.Replies.{openFindAllExit};
 
-// Writes the slots of the entries that intersect a range, in tree order, as many as the
-// output has places for. Answer: how many entries there are, how many nodes were entered.
+// Writes the slots of the entries that intersect a range, in tree order, as many as the output has
+// places for. Answer: how many hits there are, how many nodes were entered.
 #[no_mangle]
 pub extern "C" fn iset_open_find_all(
     count: u64,
@@ -46,8 +46,8 @@ pub extern "C" fn iset_open_find_all(
     }
 }
 
-// Writes the slots of the entries that are equal to an interval, in tree order, as many as the
-// output has places for. Answer: as for iset_open_find_all.
+// Writes the slots of the entries that are equal to an interval, in the same way. Answer: as for
+// iset_open_find_all.
 #[no_mangle]
 pub extern "C" fn iset_open_find_all_exact(
     count: u64,
