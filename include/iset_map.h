@@ -10,7 +10,7 @@
  * iset_map_NAME makes the public call iset_NAME, which checks the store; link libiset.a.
  * iset_map_open_NAME makes the opened call iset_open_NAME, which does not check: iset_open.h says
  * who may use it. For these link libiset_open.a too. A host that uses none of them does not need
- * it.
+ * it. iset_map_at and iset_map_open_at make the calls find_all for one address.
  *
  * An example is examples/host_map.c. */
 #ifndef ISET_MAP_H
