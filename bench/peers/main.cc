@@ -111,8 +111,8 @@ static bool takes_part(const side &s, operation side::*run) { return s.*run && (
 static void measure(const task &t) {
     std::vector<double> times[SIDES], then_times[SIDES];
     double spent[SIDES] = {0};
-    for (int round = 0; round < ROUNDS; round++) {
-        u64 first = 0;
+    u64 first = 0;
+    for (int round = 0; round < ROUNDS; round++)
         for (int j = 0; j < SIDES; j++) {
             const side &s = sides[j];
             if (!takes_part(s, t.run) || (spent[j] > LONG && round >= LEAST_ROUNDS)) continue;
@@ -129,7 +129,6 @@ static void measure(const task &t) {
             spent[j] += c - a;
             times[j].push_back((b - a) * 1e9 / double(k)), then_times[j].push_back((c - b) * 1e9 / double(k));
         }
-    }
     for (int j = 0; j < SIDES; j++) {
         if (!times[j].empty()) row(t.what, sides[j].name, times[j]);
         if (!times[j].empty() && t.then) row(t.then_what, sides[j].name, then_times[j]);
