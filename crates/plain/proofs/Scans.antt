@@ -15,16 +15,17 @@ use Rattle.words.specs.Nodes.{kid, par}
 use Rattle.words.specs.Lists.{filter}
 use Rattle.words.specs.declared.ix.Link.{Link}
 use Rattle.words.specs.declared.ix.Link.the-variants.{Slot, Nil}
-use Rattle.tree_links.proofs.LinkLaws.{read-linked, read-unlinked, slot-is}
+use Rattle.tree_edit.specs.Links.{leftmost}
+use Rattle.tree_links.proofs.LinkLaws.{read-linked, read-unlinked, slot-is, left-low, left-ends, left-on}
 use Rattle.iter.specs.Drains.{filled}
 use Rattle.iter.specs.Walk.{Rules}
 use Rattle.iter.proofs.Fills.{drop-on}
 use Rattle.plain_rule.specs.Tour.{ascend, nextOf, firstOf, tour, entries, plain}
 use Rattle.plain.specs.declared.Tally.{Tally}
 
--- the way up
+-- one link of the way up
 module _ (n : ℕ) (W : List ℕ) (s : ℕ) where
-  pub up-low : (h : ℕ) → h ≡ 0 → U ≡ ascend n h W s
+  up-low : (h : ℕ) → h ≡ 0 → U ≡ ascend n h W s
   unfolding ascend
   up-low zero e = refl
   up-low (suc h) e = absurd (omega arith)
@@ -35,20 +36,48 @@ module _ (n : ℕ) (W : List ℕ) (s : ℕ) where
     go-up zero z r q = absurd (z refl)
     go-up (suc h) z r q = rw (sub-one (suc h)) at q
 
-    pub up-none : l ≡ Nil → U ≡ ascend n h W s
+    up-none : l ≡ Nil → U ≡ ascend n h W s
     up-none q = go-up h z U (read-unlinked U n (par W s) w l (λ (k : ℕ). cond (eqb (kid W true k) s) k (ascend n (h - 1) W (par W s))) U e p q refl)
 
     module _ (k t : ℕ) (q : l ≡ Slot k) (f : t ≡ kid W true k) where
-      pub up-here : t ≡ s → k ≡ ascend n h W s
+      up-here : t ≡ s → k ≡ ascend n h W s
       up-here g =
           go-up h z k (read-linked k n (par W s) w l (λ (k : ℕ). cond (eqb (kid W true k) s) k (ascend n (h - 1) W (par W s))) U e p k q
           (rw (eq-eqb (kid W true k) s (sym f ∙ g))))
 
-      pub up-on : (r : ℕ) → (t ≡ s → ⊥) → r ≡ ascend n (h - 1) W k → r ≡ ascend n h W s
+      up-on : (r : ℕ) → (t ≡ s → ⊥) → r ≡ ascend n (h - 1) W k → r ≡ ascend n h W s
       up-on r g i =
           let j : k ≡ par W s = slot-is n w k l p q ∙ e in
           go-up h z r (read-linked r n (par W s) w l (λ (k : ℕ). cond (eqb (kid W true k) s) k (ascend n (h - 1) W (par W s))) U e p k q
           (rw (ne-eqb (kid W true k) s (λ y. g (f ∙ y)), ← j) i))
+
+-- the way up: X is where it ends
+module _ (n : ℕ) (W : List ℕ) (X h s : ℕ) (i : X ≡ ascend n h W s) where
+  pub above-ends : h ≤ 0 → U ≡ X
+  above-ends z = up-low n W s h (omega arith) ∙ sym i
+
+  module _ (w : ℕ) (l : Link) (e : w ≡ par W s) (p : l ≡ linkOf n w) (z : 0 < h) where
+    pub above-stops : l ≡ Nil → U ≡ X
+    above-stops q = up-none n W s h w l (λ y. omega arith) e p q ∙ sym i
+
+    module _ (k t : ℕ) (q : l ≡ Slot k) (f : t ≡ kid W true k) where
+      pub above-here : t ≡ s → k ≡ X
+      above-here g = up-here n W s h w l (λ y. omega arith) e p k t q f g ∙ sym i
+
+      pub above-on : (t ≡ s → ⊥) → X ≡ ascend n (h - 1) W k
+      above-on g = i ∙ sym (up-on n W s h w l (λ y. omega arith) e p k t q f (ascend n (h - 1) W k) g refl)
+
+-- the way down to the left: X is where it ends
+module _ (n : ℕ) (W : List ℕ) (X h s : ℕ) (i : X ≡ leftmost n h W s) where
+  pub down-ends : h ≤ 0 → s ≡ X
+  down-ends z = left-low n W s h (omega arith) ∙ sym i
+
+  module _ (w : ℕ) (l : Link) (e : w ≡ kid W true s) (p : l ≡ linkOf n w) where
+    pub down-stops : l ≡ Nil → s ≡ X
+    down-stops q = left-ends n W s h w l e p q ∙ sym i
+
+    pub down-on : (k : ℕ) → l ≡ Slot k → 0 < h → X ≡ leftmost n (h - 1) W k
+    down-on k q z = i ∙ sym (left-on n W s h w k (leftmost n (h - 1) W k) l (λ y. omega arith) e p q refl)
 
 -- the tour after m entries
 module _ (W : List ℕ) (n : ℕ) where

@@ -1,23 +1,27 @@
 // The plain lookup visits every entry in tree order by links alone, tests each and writes the hits.
-// Tree order is the left subtree, then the node, then the right subtree. The lookup has no stack
-// and reads no hull, the interval that a node keeps for its subtree. It ends on any words: it
-// visits at most `count` entries, with at most 33 links between two of them. In a store that passes
-// the check of crate audit no way down or up is longer than 32, so neither number decides there.
+// If the query asks for every entry, no entry needs a test. Tree order is the left subtree, then the
+// node, then the right subtree. The lookup has no stack and reads no hull, the interval that a node
+// keeps for its subtree. It ends on any words: it visits at most `count` entries, with at most 33
+// links between two of them. In a store that passes the check of crate audit no way down or up is
+// longer than 32, so neither number decides there.
 use iter::rules::Query;
 use iter::rules::matches;
 use tree_links::leftmost_from;
+use words::interval::Bound;
+use words::interval::Span;
 use words::ix::Link;
 use words::ix::U;
 use words::node::child_of;
 use words::node::parent_of;
 ghost use mathlib.Core.Path.{_≡_};
-ghost use mathlib.Core.Bool.{cond};
+ghost use mathlib.Core.Bool.{cond, _&&_};
 ghost use Prim.Native.Nat.{_+_, _<_, _≤_};
 ghost use lib.ListN.{length, set};
 ghost use Rattle.iter.specs.Drains.{filled};
 ghost use Rattle.iter.specs.Queries.{rules};
+ghost use Rattle.tree_edit.specs.Links.{leftmost};
 ghost use Rattle.plain_rule.specs.Tour.{ascend, nextOf, firstOf, plain};
-ghost use Rattle.plain.specs.Answers.{tally};
+ghost use Rattle.plain.specs.Answers.{unbounded, asksAll, tally};
 ghost use Rattle.words.specs.Nodes.{Holds};
 
 // What a lookup that finds all hits at once returns: how many hits there are, and how many nodes it
@@ -27,22 +31,83 @@ pub struct Tally {
     pub entered: u64,
 }
 
-// Returns the first slot above `slot` that has it on its left, at most `height` links up. Returns
-// U, the undefined link, if there is none.
-fn next_above(nodes: &[u64], count: u64, slot: u64, height: u64) -> u64
-    requires { ⌜ Holds (now nodes) count × (slot < count) ⌝ }
-    ensures { λ r. ⌜ r ≡ ascend count height (now (nodes .entry)) slot ⌝ }
+fn is_unbounded(bound: Bound) -> bool
+    ensures { λ r. ⌜ r ≡ unbounded bound ⌝ }
 {
-    if height == 0 {
-        return U;
+    match bound {
+        Bound::Included(_) => false,
+        Bound::Excluded(_) => false,
+        Bound::Unbounded => true,
     }
-    let Link::Slot(parent) = Link::new(parent_of(nodes, slot), count) else {
-        return U;
-    };
-    if child_of(nodes, parent, true) == slot {
-        return parent;
+}
+
+fn has_no_bound(range: Span) -> bool
+    ensures { λ r. ⌜ r ≡ unbounded (range .lo) && unbounded (range .hi) ⌝ }
+{
+    let lo = range.lo;
+    let hi = range.hi;
+    is_unbounded(lo) & is_unbounded(hi)
+}
+
+// Whether the query asks for every entry. The lookup works this out once, before the first entry.
+fn asks_for_all(query: Query) -> bool
+    ensures { λ r. ⌜ r ≡ asksAll query ⌝ }
+{
+    match query {
+        Query::Overlap(range) => has_no_bound(range),
+        Query::Exact(_) => false,
     }
-    next_above(nodes, count, parent, height - 1)
+}
+
+// Whether the query asks for the entry of a slot. `all` is whether it asks for every entry.
+fn is_hit(nodes: &[u64], count: u64, query: Query, all: bool, slot: u64) -> bool
+    requires { ⌜ Holds (now nodes) count × (slot < count) × (all ≡ asksAll query) ⌝ }
+    ensures { λ r. ⌜ r ≡ rules (now (nodes .entry)) count query .match slot ⌝ }
+{
+    if all {
+        true
+    } else {
+        matches(nodes, count, query, slot)
+    }
+}
+
+// Returns the leftmost slot from `slot` down. `tree_links::leftmost_from` finds the same by
+// recursion. The way to every second entry leads through here, so here it is a loop.
+fn lowest_left(nodes: &[u64], count: u64, slot: u64) -> u64
+    requires { ⌜ Holds (now nodes) count × (slot < count) ⌝ }
+    ensures { λ r. ⌜ r ≡ leftmost count 32 (now (nodes .entry)) slot ⌝ }
+{
+    let mut at = slot;
+    let mut height: u64 = 32;
+    while height > 0 {
+        let Link::Slot(left) = Link::new(child_of(nodes, at, true), count) else {
+            return at;
+        };
+        at = left;
+        height -= 1;
+    }
+    at
+}
+
+// Returns the first slot above `slot` that has it on its left, at most 32 links up. Returns U, the
+// undefined link, if there is none.
+fn next_above(nodes: &[u64], count: u64, slot: u64) -> u64
+    requires { ⌜ Holds (now nodes) count × (slot < count) ⌝ }
+    ensures { λ r. ⌜ r ≡ ascend count 32 (now (nodes .entry)) slot ⌝ }
+{
+    let mut at = slot;
+    let mut height: u64 = 32;
+    while height > 0 {
+        let Link::Slot(parent) = Link::new(parent_of(nodes, at), count) else {
+            return U;
+        };
+        if child_of(nodes, parent, true) == at {
+            return parent;
+        }
+        at = parent;
+        height -= 1;
+    }
+    U
 }
 
 // Returns the slot after `slot` in tree order, or U if there is none.
@@ -51,9 +116,9 @@ pub fn next_slot(nodes: &[u64], count: u64, slot: u64) -> u64
     ensures { λ r. ⌜ r ≡ nextOf count (now (nodes .entry)) slot ⌝ }
 {
     let Link::Slot(right) = Link::new(child_of(nodes, slot, false), count) else {
-        return next_above(nodes, count, slot, 32);
+        return next_above(nodes, count, slot);
     };
-    leftmost_from(nodes, count, right, 32)
+    lowest_left(nodes, count, right)
 }
 
 // Returns the first slot in tree order, or U if there is none.
@@ -87,6 +152,7 @@ pub fn scan(nodes: &[u64], count: u64, root: u64, query: Query, out: &mut [u64])
     ensures { λ r. ⌜ (r ≡ tally count (now (nodes .entry)) (rules (now (nodes .entry)) count query) root)
         × (now (out .exit) ≡ filled (plain count (now (nodes .entry)) (rules (now (nodes .entry)) count query) root) (now (out .entry))) ⌝ }
 {
+    let all = asks_for_all(query);
     let mut at = first_slot(nodes, count, root);
     let mut hits: u64 = 0;
     let mut seen: u64 = 0;
@@ -97,7 +163,7 @@ pub fn scan(nodes: &[u64], count: u64, root: u64, query: Query, out: &mut [u64])
                 entered: seen,
             };
         };
-        hits = note(out, hits, slot, matches(nodes, count, query, slot));
+        hits = note(out, hits, slot, is_hit(nodes, count, query, all, slot));
         at = next_slot(nodes, count, slot);
         seen += 1;
     }

@@ -13,11 +13,11 @@ use Rattle.plain.proofs.scan.Statement.{statement}
 use Rattle.plain.proofs.scan.Tie as tie
 
 abbrev Inv-loop : tie.InvT-loop
-Inv-loop nodes count root query out₀ at₀ hits₀ seen₀ out at hits seen = (plain count nodes (rules nodes count query) root ≡ take hits out ++ filter (rules nodes count query .match) (tour count (count - seen) nodes at))
+Inv-loop nodes count root query out₀ all at₀ hits₀ seen₀ out at hits seen = (plain count nodes (rules nodes count query) root ≡ take hits out ++ filter (rules nodes count query .match) (tour count (count - seen) nodes at))
     × (length (entries count nodes root) ≡ seen + length (tour count (count - seen) nodes at)) × (hits ≤ seen) × (seen ≤ count) × (drop hits out ≡ drop hits out₀) × (length out ≡ length out₀)
 
 abbrev μ-loop : tie.MeasureT-loop
-μ-loop nodes count root query out₀ at₀ hits₀ seen₀ out at hits seen = count - seen
+μ-loop nodes count root query out₀ all at₀ hits₀ seen₀ out at hits seen = count - seen
 
 pub scan-spec : {M : Type 1} → statement M
 scan-spec =
@@ -26,13 +26,14 @@ scan-spec =
     Inv-loop
     μ-loop
     (λ c κs. search needs)
+    (λ c κs. search needs)
     (λ c. (search scan-begin, search count-begin, omega arith, omega arith, refl, refl))
     (λ c κs. search needs)
     (λ c. search needs)
     (λ c. search needs)
     (λ c. search needs)
     (λ c. (search (tally-is, none-hits, count-none), search none-filled))
-    (λ c κs. (omega arith, search slot-live))
+    (λ c κs. (omega arith, search slot-live, search needs))
     (λ c κs. omega arith)
     (λ c κs. (omega arith, search slot-live))
     (λ c. omega arith)
