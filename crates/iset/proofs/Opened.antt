@@ -21,7 +21,9 @@ use Rattle.iset.specs.Remove.{RemoveAnswer, refusedRemoval, removeNumber
 use Rattle.iset.specs.Insert.{InsertAnswer, refusedInsertion, fullNumber, openInsertNumber, roomThenCheck, insertNumber, openInsertCall, insertCall}
 use Rattle.iset.specs.Lookup.{StartAnswer, refusedStart, StepAnswer, refusedStep, DrainAnswer, refusedDrain, startNumber, stepNumber, drainNumber, openStartCall, startCall, openStepCall, stepCall, openDrainCall, drainCall}
 use Rattle.iset.specs.Plain.{PlainAnswer, refusedPlain, plainNumber, openPlainCall, plainCall}
+use Rattle.iset.specs.Ticket.{ReadAnswer, refusedReading, readNumber, openReadCall, readCall}
 use Rattle.iset.specs.declared.Map.{Map}
+use Rattle.iset.specs.declared.ticket.Ticket.{Ticket}
 use Rattle.iset.specs.declared.Checked.{Checked}
 use Rattle.iset.specs.declared.Checked.the-variants.{Sound, Refused}
 
@@ -47,6 +49,10 @@ module _ (m : Map) (W C : List ℕ) (h : checkRule m W C ≡ 0) where
   pub plain-is : (q : Query) (out : List ℕ) → openPlainCall m W C q out ≡ plainCall m W C q out
   unfolding openPlainCall plainCall plainNumber
   plain-is q out = rw h refl
+
+  pub read-is : (t : Ticket) → openReadCall m W C t ≡ readCall m W C t
+  unfolding openReadCall readCall readNumber
+  read-is t = rw h refl
 
   pub remove-is : (s : ℕ) → openRemoveCall m W C s ≡ removeCall m W C s
   unfolding openRemoveCall removeCall removeNumber
@@ -79,6 +85,9 @@ module _ (m : Map) (W C : List ℕ) (t : Checked) (e : checkNumber t ≡ checkRu
     pub plain-through : (y : Query) (out : List ℕ) (r : Output PlainAnswer) → r ≡ openPlainCall m W C y out → r ≡ plainCall m W C y out
     plain-through y out r p = p ∙ plain-is m W C sound y out
 
+    pub read-through : (y : Ticket) (r : ReadAnswer) → r ≡ openReadCall m W C y → r ≡ readCall m W C y
+    read-through y r p = p ∙ read-is m W C sound y
+
     pub remove-through : (s : ℕ) (r : Effect RemoveAnswer) → r ≡ openRemoveCall m W C s → r ≡ removeCall m W C s
     remove-through s r p = p ∙ remove-is m W C sound s
 
@@ -101,6 +110,10 @@ module _ (m : Map) (W C : List ℕ) (t : Checked) (e : checkNumber t ≡ checkRu
     pub plain-away : (y : Query) (out : List ℕ) → output (refusedPlain (refusalNumber z)) out ≡ plainCall m W C y out
     unfolding plainCall plainNumber
     plain-away y out = rw (broken, some z, some z)
+
+    pub read-away : (y : Ticket) → refusedReading (refusalNumber z) ≡ readCall m W C y
+    unfolding readCall readNumber
+    read-away y = rw (broken, some z, some z)
 
     pub remove-away : (s : ℕ) → effect (refusedRemoval m (refusalNumber z)) W C ≡ removeCall m W C s
     unfolding removeCall removeNumber

@@ -4,12 +4,14 @@ pub mod Check
 pub mod Build
 pub mod Remove
 pub mod Insert
+pub mod Ticket
 pub mod Sequence
 pub mod Lookup
 pub mod Runs
 pub mod Plain
 pub mod PlainRuns
 pub mod Refusals
+pub mod Versions
 pub mod Below
 pub mod Demands
 pub mod Fits
