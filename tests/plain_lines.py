@@ -1,7 +1,8 @@
 #!/usr/bin/env python3
 """Lines for `drive` about the plain lookup. Each query is made by a drain from the fresh cursor to
 its end, and then by the plain lookup, into outputs of every size that matters. Every refusal and
-each pair of refusals is tried. crates/drive/stdin ends with these lines."""
+each pair of refusals is tried. crates/drive/stdin has these lines before those of
+tests/ticket_lines.py."""
 import random
 
 import model

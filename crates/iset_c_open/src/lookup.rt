@@ -45,7 +45,11 @@ pub extern "C" fn iset_open_fresh_exact(
     if answer.len() < 3 {
         return SHORT_ANSWER;
     }
-    match (Map { count, root }).open_fresh_exact(nodes, colours, Interval { start, end }) {
+    match (Map {
+        count,
+        root,
+        version: 0,
+    }).open_fresh_exact(nodes, colours, Interval { start, end }) {
         Started::Refused(why) => why.number(),
         Started::Done(c) => {
             put_cursor(c, answer);
@@ -101,7 +105,11 @@ pub extern "C" fn iset_open_step(
     }
     if are_kinds(lo_kind, hi_kind) {
         step(
-            Map { count, root },
+            Map {
+                count,
+                root,
+                version: 0,
+            },
             nodes,
             colours,
             range(lo_kind, lo, hi_kind, hi),
@@ -134,7 +142,11 @@ pub extern "C" fn iset_open_step_exact(
         return SHORT_ANSWER;
     }
     step(
-        Map { count, root },
+        Map {
+            count,
+            root,
+            version: 0,
+        },
         nodes,
         colours,
         Query::Exact(Interval { start, end }),
@@ -195,7 +207,11 @@ pub extern "C" fn iset_open_drain(
     }
     if are_kinds(lo_kind, hi_kind) {
         drain(
-            Map { count, root },
+            Map {
+                count,
+                root,
+                version: 0,
+            },
             nodes,
             colours,
             range(lo_kind, lo, hi_kind, hi),
@@ -232,7 +248,11 @@ pub extern "C" fn iset_open_drain_exact(
         return SHORT_ANSWER;
     }
     drain(
-        Map { count, root },
+        Map {
+            count,
+            root,
+            version: 0,
+        },
         nodes,
         colours,
         Query::Exact(Interval { start, end }),
@@ -263,7 +283,11 @@ pub extern "C" fn iset_open_at(
     }
     let limit = out.len() as u64;
     drain(
-        Map { count, root },
+        Map {
+            count,
+            root,
+            version: 0,
+        },
         nodes,
         colours,
         Query::Overlap(Span {

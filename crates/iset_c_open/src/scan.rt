@@ -64,7 +64,11 @@ pub extern "C" fn iset_open_plain(
     }
     if are_kinds(lo_kind, hi_kind) {
         looked(
-            Map { count, root },
+            Map {
+                count,
+                root,
+                version: 0,
+            },
             nodes,
             colours,
             range(lo_kind, lo, hi_kind, hi),
@@ -95,7 +99,11 @@ pub extern "C" fn iset_open_plain_exact(
         return SHORT_ANSWER;
     }
     looked(
-        Map { count, root },
+        Map {
+            count,
+            root,
+            version: 0,
+        },
         nodes,
         colours,
         Query::Exact(Interval { start, end }),
