@@ -109,10 +109,26 @@ class Drive:
         numbers.end()
         return self.on_store(model.insert, *entry)
 
+    def do_version(self, numbers):
+        version = numbers.one(2**32)
+        numbers.end()
+        self.store = self.store.copy()
+        self.store.version = version
+
+    def do_ticket(self, numbers):
+        slot = numbers.one()
+        numbers.end()
+        return f"0 {slot} {self.store.version}"
+
+    def do_read(self, numbers):
+        ticket = numbers.one(), numbers.one(2**32)
+        numbers.end()
+        return self.on_store(model.read, *ticket)
+
     def do_last(self, numbers):
         numbers.end()
         fits("store" in self.left)
-        return f"0 {self.left['store'].reach}"
+        return f"{self.left['store'].version} {self.left['store'].reach}"
 
     def do_fresh(self, numbers):
         query = numbers.query()

@@ -1,19 +1,24 @@
 #!/usr/bin/env python3
-"""What the calls return and leave, from the words of document 01, of document 02 for insertion and
-the plain lookup, and of docs/RULES.md for the fast lookup, in plain lists and recursion. It takes
-nothing from the code of the crate iset or of this project. tests/drive.py prints what it returns."""
+"""What the calls return and leave, from the words of document 01, of document 02 for insertion,
+tickets and the plain lookup, and of docs/RULES.md for the fast lookup, in plain lists and recursion.
+It takes nothing from the code of the crate iset or of this project. tests/drive.py prints what it
+returns."""
 
 U = 4294967295
 START, END, VALUE, LO, HI, LEFT, RIGHT, PARENT = range(8)
 
 
 class Store:
-    def __init__(self, count, root, words, colours):
-        self.count, self.root, self.words, self.colours = count, root, words, colours
+    def __init__(self, count, root, words, colours, version=0):
+        self.count, self.root, self.words, self.colours, self.version = count, root, words, colours, version
         self.reach = 0
 
     def copy(self):
-        return Store(self.count, self.root, list(self.words), list(self.colours))
+        return Store(self.count, self.root, list(self.words), list(self.colours), self.version)
+
+    def raise_version(self):
+        """One accepted build, removal or insertion."""
+        self.version = (self.version + 1) % 2**32
 
     def get(self, slot, word):
         return self.words[8 * slot + word]
@@ -106,6 +111,7 @@ def build(s, numbers):
 
     s.count, s.root = n, span(0, n, U, 1)
     s.reach = 0
+    s.raise_version()
     return "0 %d %d" % (s.count, s.root)
 
 
@@ -213,6 +219,7 @@ def remove(s, slot):
         lift(s, last, gone)
     s.words[8 * last:8 * last + 8] = [0] * 5 + [U] * 3
     s.count = last
+    s.raise_version()
     assert s.passes()
     pairs = sorted((old, new) for new, old in enumerate(where[:last]) if old != new)
     return " ".join(map(str, [0, value, s.count, s.root] + sum(([a, b] for a, b in (pairs + [(U, U)] * 3)[:3]), [])))
@@ -272,7 +279,15 @@ def insert(s, start, end, value):
     while at != U:
         s.rehull(at)
         at = s.get(at, PARENT)
+    s.raise_version()
     return "%d %d %d %d" % (0, s.count, s.root, slot)
+
+
+# Tickets: a slot with the version at which it was taken
+
+def read(s, slot, taken):
+    no = refuse_store(s) or (11 if taken != s.version else 3 if slot >= s.count else 0)
+    return "%d 0 0 0" % no if no else "0 %d %d %d" % (s.key(slot) + (s.get(slot, VALUE),))
 
 
 # Looking up

@@ -2,8 +2,8 @@
 """Lines for `drive` about the plain lookup. Each query is made by a drain from the fresh cursor to
 its end, and then by the plain lookup, into outputs of every size that matters. Every refusal and
 each pair of refusals is tried. In crates/drive/stdin the lines of tests/find_lines.py come after
-these. That file makes the same queries by the fast lookup: `name` is the request and `look` makes
-one query."""
+these, and those of tests/ticket_lines.py last. tests/find_lines.py makes the same queries by the
+fast lookup: `name` is the request and `look` makes one query."""
 import random
 
 import model

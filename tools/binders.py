@@ -117,9 +117,9 @@ MEANINGS = {
         k number of a refusal; y refusal; a answer; g answer of the code; t tree; p test of a slot;
         P proof that the store passes; l:[Ask] calls; c:Effect effect""",
     'iset/Below': 'n count; W words; C colours; X other words; D other colours',
-    'iset/Build': 'm map that was built',
+    'iset/Build': 'm map that is replaced',
     'iset/Check': 'k number of a refusal; x next number',
-    'iset/Demands': 'S triples; a slot',
+    'iset/Demands': 'S triples; a slot; t ticket',
     'iset/Fits': 'k number (the limit less 1)',
     'iset/Insert': 'a start; b end; v value; S:Store store; k:2 changed hulls',
     'iset/Lookup': """
@@ -132,6 +132,8 @@ MEANINGS = {
     'iset/Remove': 'R removal by the rule; P:Pairs pairs; p pair; a kept slot; k:2 changed hulls',
     'iset/Runs': 'x:Ask call; r:Run rest; i moves; h highest equal node; k slot',
     'iset/Sequence': 'S:State state; x call; l:[ℕ] triples; l:[Call] calls',
+    'iset/Versions': """
+        S state; t ticket; l:[ℕ] triples; l:[Call] calls; B state before the builds""",
     'iter': """
         Q rules of the lookup; c cursor; s slot; b side (true: left); e entered so far;
         x interval asked for; q range""",

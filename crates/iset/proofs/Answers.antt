@@ -38,6 +38,8 @@ use Rattle.iset.specs.Check.{checkRule}
 use Rattle.iset.specs.Build.{BuildAnswer, buildNumber, buildAnswer, buildCall}
 use Rattle.iset.specs.Remove.{RemoveAnswer, removeNumber, removeAnswer, removeCall}
 use Rattle.iset.specs.Insert.{InsertAnswer, insertNumber, insertAnswer, insertCall}
+use Rattle.iset.specs.Ticket.{readAnswer, readCall}
+use Rattle.iset.specs.declared.ticket.Reading.the-variants as reading
 use Rattle.iset.specs.Lookup.{startNumber, startAnswer, startCall, stepAnswer, stepCall, DrainAnswer, drainAnswer, drainCall}
 use Rattle.iset.specs.Tallies.{TallyAnswer, tallyAnswer}
 use Rattle.iset.specs.Plain.{plainCall}
@@ -53,6 +55,8 @@ use Rattle.iset.specs.declared.lookup.Started.the-variants as started
 use Rattle.iset.specs.declared.lookup.Stepped.the-variants as stepped
 use Rattle.iset.specs.declared.lookup.Drain.the-variants as drained
 use Rattle.iset.specs.declared.scan.Looked.the-variants as looked
+use Rattle.iset.proofs.Map.read.Reads as read-reads
+use Rattle.iset.proofs.Map.read.Kinds as read-kinds
 use Rattle.iset.proofs.Map.build.Reads as build-reads
 use Rattle.iset.proofs.Map.build.Kinds as build-kinds
 use Rattle.iset.proofs.Map.remove.Reads as remove-reads
@@ -92,13 +96,13 @@ pub fresh-answers : (κs : Lfts 0) (a : K.Dens κs fresh-kinds.ps) (r : K.resT f
 fresh-answers κs a r s p = p
 
 -- A build: as many entries as triples, in a store that passes and holds the list in its order.
-pub build-answers : (W C S : List ℕ) → buildCall W C S .answer .no ≡ 0
-    → (buildCall W C S .answer .map .count ≡ length S / 3)
-    × Built S W C (length S / 3) (buildCall W C S .words) (buildCall W C S .colours) (buildCall W C S .answer .map .root)
+pub build-answers : (m : Map) (W C S : List ℕ) → buildCall m W C S .answer .no ≡ 0
+    → (buildCall m W C S .answer .map .count ≡ length S / 3)
+    × Built S W C (length S / 3) (buildCall m W C S .words) (buildCall m W C S .colours) (buildCall m W C S .answer .map .root)
 unfolding buildCall
-build-answers W C S e =
-    let z : buildNumber (length W) (length C) S ≡ 0 = sym (build-no W C S) ∙ e in
-    (rw (eq-eqb (buildNumber (length W) (length C) S) 0 z), builds W C S z)
+build-answers m W C S e =
+    let z : buildNumber (length W) (length C) S ≡ 0 = sym (build-no m W C S) ∙ e in
+    (rw (eq-eqb (buildNumber (length W) (length C) S) 0 z), builds m W C S z)
 
 -- A removal: the count is one less; value, pairs, root and what is left are those of a removal of
 -- slot s.
@@ -143,8 +147,8 @@ module _ (m : Map) (W C : List ℕ) (x : Interval) (e : startCall m W C x .no �
 -- refusal, its parts are those above.
 pub build-done : (κs : Lfts 3) (a : K.Dens κs build-kinds.ps) (r : K.resT build-kinds.r κs .Denot) (s : AtExit (K.endedOf 3 build-kinds.ps build-kinds.r) κs)
     → build-reads.Post κs a r s → (m : Map) → r ≡ built.Done m
-    → buildCall (now (a .0)) (now (a .1 .0)) (now (a .1 .1 .0)) .answer ≡ record { no = 0; map = m }
-build-done κs a r s p m e = ap (λ (c : Effect BuildAnswer). c .answer) (sym p) ∙ ap buildAnswer e
+    → buildCall (a .0) (now (a .1 .0)) (now (a .1 .1 .0)) (now (a .1 .1 .1 .0)) .answer ≡ record { no = 0; map = m }
+build-done κs a r s p m e = ap (λ (c : Effect BuildAnswer). c .answer) (sym p) ∙ ap (buildAnswer (a .0)) e
 
 pub remove-done : (κs : Lfts 2) (a : K.Dens κs remove-kinds.ps) (r : K.resT remove-kinds.r κs .Denot) (s : AtExit (K.endedOf 2 remove-kinds.ps remove-kinds.r) κs)
     → remove-reads.Post κs a r s → (g : removed-payload.Removed) → r ≡ removed-as.Done g
@@ -157,6 +161,11 @@ pub insert-done : (κs : Lfts 2) (a : K.Dens κs insert-kinds.ps) (r : K.resT in
     → insertCall (a .0) (now (a .1 .0)) (now (a .1 .1 .0)) (record { start = a .1 .1 .1 .0; end = a .1 .1 .1 .1 .0; value = a .1 .1 .1 .1 .1 .0 }) .answer
     ≡ record { no = 0; slot = g .slot; map = g .map; reach = g .reach }
 insert-done κs a r s p g e = ap (λ (c : Effect InsertAnswer). c .answer) (sym p) ∙ ap (insertAnswer (a .0)) e
+
+pub read-done : (κs : Lfts 2) (a : K.Dens κs read-kinds.ps) (r : K.resT read-kinds.r κs .Denot) (s : AtExit (K.endedOf 2 read-kinds.ps read-kinds.r) κs)
+    → read-reads.Post κs a r s → (e : Entry) → r ≡ reading.Done e
+    → readCall (a .0) (now (a .1 .0)) (now (a .1 .1 .0)) (a .1 .1 .1 .0) ≡ record { no = 0; entry = e }
+read-done κs a r s p e q = sym p ∙ ap readAnswer q
 
 pub fresh-exact-done : (κs : Lfts 2) (a : K.Dens κs exact-kinds.ps) (r : K.resT exact-kinds.r κs .Denot) (s : AtExit (K.endedOf 2 exact-kinds.ps exact-kinds.r) κs)
     → exact-reads.Post κs a r s → (c : Cursor) → r ≡ started.Done c

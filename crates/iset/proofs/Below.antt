@@ -10,11 +10,11 @@ use lib.Dec.{eqb, ltb, leb}
 use borrow.Author.Tests.{ne-eqb, ltb-true}
 use Rattle.words.specs.Ix.{U}
 use Rattle.words.specs.Lists.{filter}
-use Rattle.words.specs.Nodes.{capacity, hi, lo, kid, par, hull}
+use Rattle.words.specs.Nodes.{capacity, hi, lo, kid, par, hull, entry}
 use Rattle.words.specs.Intervals.{reached, admits, contains}
 use Rattle.words.specs.declared.interval.Interval.{Interval}
 use Rattle.words.specs.declared.node.Entry.{Entry}
-use Rattle.words.specs.declared.node.Field.the-variants.{Start, End, HullStart, HullEnd, Child, Parent}
+use Rattle.words.specs.declared.node.Field.the-variants.{Start, End, Value, HullStart, HullEnd, Child, Parent}
 use Rattle.audit.proofs.Unread.{whole-below}
 use Rattle.tree_rm_rule.specs.Remove.{removeRule}
 use Rattle.tree.specs.Below.{Agree}
@@ -49,12 +49,15 @@ use Rattle.iset.specs.Remove.{removeNumber, RemoveAnswer, refusedRemoval
 use Rattle.iset.specs.Insert.{insertNumber, InsertAnswer, refusedInsertion, insertReach, insertEntry, insertCall}
 use Rattle.iset.specs.Lookup.{beginning, startNumber, stepNumber, drainNumber, startCall, stepCall, drainCall}
 use Rattle.iset.specs.Find.{findAllCall}
+use Rattle.iset.specs.Ticket.{readNumber, readBy, readCall}
 use Rattle.iset.specs.Below.{SameBelow, SameEffect}
 use Rattle.iset.specs.declared.Map.{Map}
+use Rattle.iset.specs.declared.ticket.Ticket.{Ticket}
 use Rattle.iset.proofs.Checks.{check-zero}
-use Rattle.iset.proofs.Orders.{remove-order, insert-order, start-order, step-order, drain-order}
+use Rattle.iset.proofs.Orders.{remove-order, read-order, insert-order, start-order, step-order, drain-order}
 use Rattle.iset.proofs.Removals as removals
 use Rattle.iset.proofs.Insertions as insertions
+use Rattle.iset.proofs.Readings as readings
 
 -- the check
 pub check-below : (m : Map) (W C X D : List ℕ) → SameBelow (m .count) W C X D → checkRule m W C ≡ checkRule m X D
@@ -62,13 +65,13 @@ unfolding checkRule
 check-below m W C X D s = rw (s .words .0, s .colours .0, whole-below W C X D (m .count) (s .words) (s .colours) (m .root))
 
 -- a build reads no slot at all: its answer goes by the two lengths and the list
-pub build-below : (W C X D S : List ℕ) → length W ≡ length X → length C ≡ length D → buildCall W C S .answer ≡ buildCall X D S .answer
+pub build-below : (m : Map) (W C X D S : List ℕ) → length W ≡ length X → length C ≡ length D → buildCall m W C S .answer ≡ buildCall m X D S .answer
 unfolding buildCall
-build-below W C X D S e f = rw (e, f) (go (eqb (buildNumber (length X) (length D) S) 0))
+build-below m W C X D S e f = rw (e, f) (go (eqb (buildNumber (length X) (length D) S) 0))
   where
     go : (t : Bool)
-        → cond t (buildList W C S) (effect (refusedBuild (buildNumber (length X) (length D) S)) W C) .answer
-        ≡ cond t (buildList X D S) (effect (refusedBuild (buildNumber (length X) (length D) S)) X D) .answer
+        → cond t (buildList m W C S) (effect (refusedBuild m (buildNumber (length X) (length D) S)) W C) .answer
+        ≡ cond t (buildList m X D S) (effect (refusedBuild m (buildNumber (length X) (length D) S)) X D) .answer
     go true = refl
     go false = refl
 
@@ -296,6 +299,24 @@ module _ (m : Map) (W C X D : List ℕ) (s : SameBelow (m .count) W C X D) where
       → SameEffect (f (cond (eqb k 0) x (effect a W C) .answer)) (cond (eqb k 0) x (effect a W C)) (cond (eqb k 0) y (effect a X D))
   by-number f zero x y a g h = g refl
   by-number f (suc k) x y a g h = rw (ne-eqb (suc k) 0 (λ z. omega arith)) (record { answers = refl; leaves = h })
+
+  -- a reading through a ticket
+  module _ (t : Ticket) where
+    same-entry : readNumber m W C t ≡ 0 → entry W (t .slot) ≡ entry X (t .slot)
+    same-entry e =
+        let l : t .slot < m .count = readings.accepts m W C t e .2 in
+        rw (s .words .1 Start (t .slot) l, s .words .1 End (t .slot) l, s .words .1 Value (t .slot) l)
+
+    pub read-below : readCall m W C t ≡ readCall m X D t
+    unfolding readCall
+    read-below = rw (← same-number) (go (readNumber m W C t) refl)
+      where
+        same-number : readNumber m W C t ≡ readNumber m X D t
+        same-number = rw (read-order m W C t, read-order m X D t, check-below m W C X D s)
+
+        go : (k : ℕ) → readNumber m W C t ≡ k → readBy W t k ≡ readBy X t k
+        go zero e = rw (same-entry e)
+        go (suc k) e = rw (ne-eqb (suc k) 0 (λ z. omega arith)) refl
 
   -- a removal
   module _ (t : ℕ) where

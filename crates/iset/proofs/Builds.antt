@@ -15,6 +15,7 @@ use Rattle.builder_laws.specs.Built.{Built}
 use Rattle.builder_laws.proofs.Tests.{tests-sound, tests-complete}
 use Rattle.builder_laws.proofs.Builds.{build-passes}
 use Rattle.iset.specs.Build.{buildNumber, buildCall}
+use Rattle.iset.specs.declared.Map.{Map}
 
 -- whole triples, that the slices hold, proper and never falling
 pub record Accepted (words bytes : ℕ) (S : List ℕ) : Type 0 where
@@ -44,10 +45,10 @@ module _ (words bytes : ℕ) (S : List ℕ) where
 
 -- "The store after every build .. passes the check": the tree is the input in its order, entry k in
 -- slot k, and the rest is kept
-pub builds : (W C S : List ℕ) → buildNumber (length W) (length C) S ≡ 0
-    → Built S W C (length S / 3) (buildCall W C S .words) (buildCall W C S .colours) (buildCall W C S .answer .map .root)
+pub builds : (m : Map) (W C S : List ℕ) → buildNumber (length W) (length C) S ≡ 0
+    → Built S W C (length S / 3) (buildCall m W C S .words) (buildCall m W C S .colours) (buildCall m W C S .answer .map .root)
 unfolding buildCall
-builds W C S e =
+builds m W C S e =
     let a : Accepted (length W) (length C) S = accepted (length W) (length C) S e in
     rw (eq-eqb (buildNumber (length W) (length C) S) 0 e)
     (build-passes S W C (length S / 3) (omega (arith, a .room-for)) (omega (arith, a .room-for)) (omega (arith, a .room-for)) (a .input))

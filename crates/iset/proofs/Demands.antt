@@ -25,7 +25,7 @@ use Rattle.iset.specs.declared.Map.{Map}
 use Rattle.iset.proofs.Checks.{check-zero}
 use Rattle.iset.proofs.Removals as removals
 use Rattle.iset.proofs.Insertions as insertions
-use Rattle.iset.proofs.Refusals.{check-refusals, build-refusals, build-leaves, remove-refusals, remove-no, remove-leaves, insert-refusals, insert-no, insert-leaves, start-refusals, start-leaves, step-refusals, step-leaves, drain-refusals, drain-leaves, plain-refusals, plain-leaves, find-all-refusals, find-all-leaves}
+use Rattle.iset.proofs.Refusals.{check-refusals, build-refusals, build-leaves, remove-refusals, remove-no, remove-leaves, insert-refusals, insert-no, insert-leaves, read-refusals, read-leaves, start-refusals, start-leaves, step-refusals, step-leaves, drain-refusals, drain-leaves, plain-refusals, plain-leaves, find-all-refusals, find-all-leaves}
 use Rattle.iset.proofs.Answers.{build-answers, remove-answers, insert-answers}
 use Rattle.iset.proofs.Runs.{overlap-runs, exact-runs}
 
@@ -33,17 +33,19 @@ pub demand-1 : (m : Map) (W C : List ℕ) → Demand1 m W C
 demand-1 m W C =
     record {
       check = check-refusals m W C;
-      build = λ S. build-refusals W C S;
+      build = λ S. build-refusals m W C S;
       remove = λ s. remove-refusals m W C s;
       insert = λ e. insert-refusals m W C e;
+      read = λ t. read-refusals m W C t;
       fresh-exact = λ x. start-refusals m W C x;
       step = λ q c. step-refusals m W C c q;
       drain = λ q c limit out. drain-refusals m W C c limit q out;
       plain = λ q out. plain-refusals m W C q out;
       find-all = λ q out. find-all-refusals m W C q out;
-      build-leaves = λ S. build-leaves W C S;
+      build-leaves = λ S. build-leaves m W C S;
       remove-leaves = λ s. remove-leaves m W C s;
       insert-leaves = λ e. insert-leaves m W C e;
+      read-leaves = λ t. read-leaves m W C t;
       fresh-exact-leaves = λ x. start-leaves m W C x;
       step-leaves = λ q c. step-leaves m W C c q;
       drain-leaves = λ q c limit out. drain-leaves m W C c limit q out;
@@ -98,7 +100,7 @@ module _ (m : Map) (W C : List ℕ) (x : Entry) (e : insertNumber m W C x ≡ 0)
 pub demand-2 : (m : Map) (W C : List ℕ) → Demand2 m W C
 demand-2 m W C =
     record {
-      builds = λ S e. build-answers W C S e;
+      builds = λ S e. build-answers m W C S e;
       removes = λ s e P. remove-answers m W C s e P;
       inserts = λ x e P. insert-answers m W C x e P;
       remove-enough = λ s e. remove-enough m W C s (sym (remove-no m W C s) ∙ e);

@@ -28,6 +28,17 @@ use Rattle.iset.specs.declared.remove.Removal.the-variants as removal
 use Rattle.iset.specs.Insert.{InsertAnswer, insertAnswer}
 use Rattle.iset.specs.declared.insert.Insertion.{Insertion}
 use Rattle.iset.specs.declared.insert.Insertion.the-variants as insertion
+use Rattle.iset.specs.Ticket.{ReadAnswer, readAnswer}
+use Rattle.iset.specs.declared.ticket.Reading.{Reading}
+use Rattle.iset.specs.declared.ticket.Reading.the-variants as reading
+use Rattle.iset.proofs.next_version.Reads as next-version-reads
+use Rattle.iset.proofs.next_version.Kinds as next-version-kinds
+use Rattle.iset.proofs.Map.ticket.Reads as ticket-reads
+use Rattle.iset.proofs.Map.ticket.Kinds as ticket-kinds
+use Rattle.iset.proofs.Map.read.Reads as read-reads
+use Rattle.iset.proofs.Map.read.Kinds as read-kinds
+use Rattle.iset.proofs.Map.open_read.Reads as open-read-reads
+use Rattle.iset.proofs.Map.open_read.Kinds as open-read-kinds
 use Rattle.iset.proofs.Map.insert.Reads as insert-reads
 use Rattle.iset.proofs.Map.insert.Kinds as insert-kinds
 use Rattle.iset.proofs.Map.remove.Reads as remove-reads
@@ -122,14 +133,14 @@ check-determined κs a r r′ s s′ p q = sym (checked-back r) ∙ ap checkedAt
 abbrev builtAt : BuildAnswer → Built
 builtAt x = cond (eqb (x .no) 0) (Done (x .map)) (built.Refused (refusalAt (x .no)))
 
-built-back : (r : Built) → builtAt (buildAnswer r) ≡ r
-built-back (Done m) = refl
-built-back (built.Refused y) = rw (ne-eqb (refusalNumber y) 0 (omega (arith, number-pos y)), at-number y)
+built-back : (m : Map) (r : Built) → builtAt (buildAnswer m r) ≡ r
+built-back m (Done n) = refl
+built-back m (built.Refused y) = rw (ne-eqb (refusalNumber y) 0 (omega (arith, number-pos y)), at-number y)
 
 pub build-determined :
     (κs : Lfts 3) (a : K.Dens κs build-kinds.ps) (r r′ : K.resT build-kinds.r κs .Denot) (s s′ : AtExit (K.endedOf 3 build-kinds.ps build-kinds.r) κs)
-    → build-reads.Post κs a r s → build-reads.Post κs a r′ s′ → (r ≡ r′) × (now (s .0) ≡ now (s′ .0)) × (now (s .1 .0) ≡ now (s′ .1 .0))
-build-determined κs a r r′ s s′ p q = same-effect builtAt (built-back r) (built-back r′) p q
+    → build-reads.Post κs a r s → build-reads.Post κs a r′ s′ → (r ≡ r′) × (now (s .1 .0) ≡ now (s′ .1 .0)) × (now (s .1 .1 .0) ≡ now (s′ .1 .1 .0))
+build-determined κs a r r′ s s′ p q = same-effect builtAt (built-back _ r) (built-back _ r′) p q
 
 -- and a removal's
 abbrev removalAt : RemoveAnswer → Removal
@@ -162,6 +173,30 @@ pub insert-determined :
     (κs : Lfts 2) (a : K.Dens κs insert-kinds.ps) (r r′ : K.resT insert-kinds.r κs .Denot) (s s′ : AtExit (K.endedOf 2 insert-kinds.ps insert-kinds.r) κs)
     → insert-reads.Post κs a r s → insert-reads.Post κs a r′ s′ → (r ≡ r′) × (now (s .1 .0) ≡ now (s′ .1 .0)) × (now (s .1 .1 .0) ≡ now (s′ .1 .1 .0))
 insert-determined κs a r r′ s s′ p q = same-effect insertionAt (insertion-back _ r) (insertion-back _ r′) p q
+
+-- the version, a ticket, and what is read through one
+pub next-version-determined :
+    (κs : Lfts 0) (a : K.Dens κs next-version-kinds.ps) (r r′ : K.resT next-version-kinds.r κs .Denot)
+    (s s′ : AtExit (K.endedOf 0 next-version-kinds.ps next-version-kinds.r) κs)
+    → next-version-reads.Post κs a r s → next-version-reads.Post κs a r′ s′ → r ≡ r′
+next-version-determined κs a r r′ s s′ p q = p ∙ sym q
+
+pub ticket-determined :
+    (κs : Lfts 0) (a : K.Dens κs ticket-kinds.ps) (r r′ : K.resT ticket-kinds.r κs .Denot) (s s′ : AtExit (K.endedOf 0 ticket-kinds.ps ticket-kinds.r) κs)
+    → ticket-reads.Post κs a r s → ticket-reads.Post κs a r′ s′ → r ≡ r′
+ticket-determined κs a r r′ s s′ p q = p ∙ sym q
+
+abbrev readingAt : ReadAnswer → Reading
+readingAt x = cond (eqb (x .no) 0) (reading.Done (x .entry)) (reading.Refused (refusalAt (x .no)))
+
+reading-back : (r : Reading) → readingAt (readAnswer r) ≡ r
+reading-back (reading.Done e) = refl
+reading-back (reading.Refused y) = rw (ne-eqb (refusalNumber y) 0 (omega (arith, number-pos y)), at-number y)
+
+pub read-determined :
+    (κs : Lfts 2) (a : K.Dens κs read-kinds.ps) (r r′ : K.resT read-kinds.r κs .Denot) (s s′ : AtExit (K.endedOf 2 read-kinds.ps read-kinds.r) κs)
+    → read-reads.Post κs a r s → read-reads.Post κs a r′ s′ → r ≡ r′
+read-determined κs a r r′ s s′ p q = sym (reading-back r) ∙ ap readingAt (p ∙ sym q) ∙ reading-back r′
 
 -- a fresh cursor's, a step's and a drain's
 abbrev startedAt : StartAnswer → Started
@@ -239,6 +274,11 @@ pub open-find-all-determined :
     (s s′ : AtExit (K.endedOf 3 open-find-all-kinds.ps open-find-all-kinds.r) κs)
     → open-find-all-reads.Post κs a r s → open-find-all-reads.Post κs a r′ s′ → (r ≡ r′) × (now (s .1 .1 .1 .1 .0) ≡ now (s′ .1 .1 .1 .1 .0))
 open-find-all-determined κs a r r′ s s′ p q = same-output lookedAt (looked-back r) (looked-back r′) p q
+
+pub open-read-determined :
+    (κs : Lfts 2) (a : K.Dens κs open-read-kinds.ps) (r r′ : K.resT open-read-kinds.r κs .Denot) (s s′ : AtExit (K.endedOf 2 open-read-kinds.ps open-read-kinds.r) κs)
+    → open-read-reads.Post κs a r s → open-read-reads.Post κs a r′ s′ → r ≡ r′
+open-read-determined κs a r r′ s s′ p q = sym (reading-back r) ∙ ap readingAt (p ∙ sym q) ∙ reading-back r′
 
 pub open-plain-determined :
     (κs : Lfts 3) (a : K.Dens κs open-plain-kinds.ps) (r r′ : K.resT open-plain-kinds.r κs .Denot) (s s′ : AtExit (K.endedOf 3 open-plain-kinds.ps open-plain-kinds.r) κs)

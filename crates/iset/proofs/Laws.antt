@@ -19,7 +19,7 @@ use Rattle.tree_rm.specs.Answers.{removal}
 use Rattle.tree_rm.specs.declared.remove.Removed.{Removed}
 use Rattle.iset.specs.Effects.{Effect, effect}
 use Rattle.iset.specs.Check.{checkNumber}
-use Rattle.iset.specs.Maps.{mapOf}
+use Rattle.iset.specs.Maps.{mapAt, raised}
 use Rattle.iset.specs.Remove.{openRemoveNumber, RemoveAnswer, refusedRemoval, removeDone}
 use Rattle.iset.specs.declared.Map.{Map}
 use Rattle.iset.specs.Build.{buildNumber, BuildAnswer, refusedBuild}
@@ -80,18 +80,18 @@ module _ (words bytes : ℕ) (S : List ℕ) (t : Checked) (e : checkNumber t ≡
   pub built-bytes : length S / 3 ≤ bytes * 8
   built-bytes = omega (arith, built-room)
 
-pub done-build : (n r s : ℕ) (W C X D : List ℕ) → r ≡ s → W ≡ X → C ≡ D
-    → _≡_ {A = Effect BuildAnswer} (effect (record { no = 0; map = mapOf n r }) W C)
-    (effect (record { no = 0; map = mapOf n s }) X D)
-done-build n r s W C X D e f g = λ i. effect (record { no = 0; map = mapOf n (e i) }) (f i) (g i)
+pub done-build : (n r s v w : ℕ) (W C X D : List ℕ) → r ≡ s → v ≡ w → W ≡ X → C ≡ D
+    → _≡_ {A = Effect BuildAnswer} (effect (record { no = 0; map = mapAt n r v }) W C)
+    (effect (record { no = 0; map = mapAt n s w }) X D)
+done-build n r s v w W C X D e h f g = λ i. effect (record { no = 0; map = mapAt n (e i) (h i) }) (f i) (g i)
 
 -- a refusal by the number of the test that made it
 module _ (k : ℕ) (t : Checked) (z : Refusal) (e : checkNumber t ≡ k) (q : t ≡ Refused z) (W C : List ℕ) where
   same-number : refusalNumber z ≡ k
   same-number = sym (ap checkNumber q) ∙ e
 
-  pub refused-build : effect (refusedBuild (refusalNumber z)) W C ≡ effect (refusedBuild k) W C
-  refused-build = ap (λ (i : ℕ). effect (refusedBuild i) W C) same-number
+  pub refused-build : (m : Map) → effect (refusedBuild m (refusalNumber z)) W C ≡ effect (refusedBuild m k) W C
+  refused-build m = ap (λ (i : ℕ). effect (refusedBuild m i) W C) same-number
 
   pub refused-removal : (m : Map) → effect (refusedRemoval m (refusalNumber z)) W C ≡ effect (refusedRemoval m k) W C
   refused-removal m = ap (λ (i : ℕ). effect (refusedRemoval m i) W C) same-number
@@ -114,11 +114,11 @@ module _ (m : Map) (W C : List ℕ) (s : ℕ) (t : Checked) (e : checkNumber t �
   removable-slot = removable .1
 
 -- what the removal's code answers and leaves
-pub removed-slot : (a : Removed) (X K : List ℕ) (R : rule.Removed) → removal a X K ≡ R → (m : Map) (k : ℕ) → a .reach ≡ k
+pub removed-slot : (a : Removed) (X K : List ℕ) (R : rule.Removed) → removal a X K ≡ R → (m : Map) (k v : ℕ) → a .reach ≡ k → v ≡ raised (m .version)
     → _≡_ {A = Effect RemoveAnswer}
-    (effect (record { no = 0; value = a .value; map = mapOf (m .count - 1) (a .root); pairs = a .pairs; reach = a .reach }) X K)
+    (effect (record { no = 0; value = a .value; map = mapAt (m .count - 1) (a .root) v; pairs = a .pairs; reach = a .reach }) X K)
     (effect (removeDone m R k) (R .store .words) (R .store .colours))
-removed-slot a X K R e m k f = λ t. effect (removeDone m (e t) (f t)) (e t .store .words) (e t .store .colours)
+removed-slot a X K R e m k v f g = rw g (λ t. effect (removeDone m (e t) (f t)) (e t .store .words) (e t .store .colours))
 
 -- what the tests of an insertion leave: slices with places for one entry more
 module _ (m : Map) (W C : List ℕ) (e : Entry) (t : Checked) (f : checkNumber t ≡ openInsertNumber m W C e) (q : t ≡ Sound) where
@@ -132,7 +132,7 @@ module _ (m : Map) (W C : List ℕ) (e : Entry) (t : Checked) (f : checkNumber t
   insertable-bytes = omega (arith, insertable)
 
 -- what the insertion's code answers and leaves
-pub inserted-entry : (r : ℕ) (X K : List ℕ) (S : Store) → store X K r ≡ S → (m : Map) (j k : ℕ) → j ≡ k
-    → _≡_ {A = Effect InsertAnswer} (effect (record { no = 0; slot = m .count; map = mapOf (m .count + 1) r; reach = j }) X K)
+pub inserted-entry : (r : ℕ) (X K : List ℕ) (S : Store) → store X K r ≡ S → (m : Map) (j k v : ℕ) → j ≡ k → v ≡ raised (m .version)
+    → _≡_ {A = Effect InsertAnswer} (effect (record { no = 0; slot = m .count; map = mapAt (m .count + 1) r v; reach = j }) X K)
     (effect (insertDone m S k) (S .words) (S .colours))
-inserted-entry r X K S e m j k f = λ t. effect (insertDone m (e t) (f t)) (e t .words) (e t .colours)
+inserted-entry r X K S e m j k v f g = rw g (λ t. effect (insertDone m (e t) (f t)) (e t .words) (e t .colours))

@@ -6,12 +6,17 @@ pub mod After
 pub mod Insertions
 pub mod Opened
 pub mod Sequence
+pub mod Versions
+pub mod Readings
 pub mod Lookups
 pub mod Ones
 pub mod Found
 pub mod Runs
 pub mod Refusals
 pub mod AtOnces
+pub mod Raised
+pub mod Tickets
+pub mod Rounds
 pub mod Plains
 pub mod Finds
 pub mod BitRefusals

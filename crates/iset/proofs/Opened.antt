@@ -23,7 +23,9 @@ use Rattle.iset.specs.Lookup.{StartAnswer, refusedStart, StepAnswer, ref
 use Rattle.iset.specs.Tallies.{TallyAnswer, refusedTally}
 use Rattle.iset.specs.Plain.{plainNumber, openPlainCall, plainCall}
 use Rattle.iset.specs.Find.{openFindAllCall, findAllCall}
+use Rattle.iset.specs.Ticket.{ReadAnswer, refusedReading, readNumber, openReadCall, readCall}
 use Rattle.iset.specs.declared.Map.{Map}
+use Rattle.iset.specs.declared.ticket.Ticket.{Ticket}
 use Rattle.iset.specs.declared.Checked.{Checked}
 use Rattle.iset.specs.declared.Checked.the-variants.{Sound, Refused}
 
@@ -53,6 +55,10 @@ module _ (m : Map) (W C : List ℕ) (h : checkRule m W C ≡ 0) where
   pub find-all-is : (q : Query) (out : List ℕ) → openFindAllCall m W C q out ≡ findAllCall m W C q out
   unfolding openFindAllCall findAllCall startNumber
   find-all-is q out = rw h refl
+
+  pub read-is : (t : Ticket) → openReadCall m W C t ≡ readCall m W C t
+  unfolding openReadCall readCall readNumber
+  read-is t = rw h refl
 
   pub remove-is : (s : ℕ) → openRemoveCall m W C s ≡ removeCall m W C s
   unfolding openRemoveCall removeCall removeNumber
@@ -88,6 +94,9 @@ module _ (m : Map) (W C : List ℕ) (t : Checked) (e : checkNumber t ≡ checkRu
     pub find-all-through : (y : Query) (out : List ℕ) (r : Output TallyAnswer) → r ≡ openFindAllCall m W C y out → r ≡ findAllCall m W C y out
     find-all-through y out r p = p ∙ find-all-is m W C sound y out
 
+    pub read-through : (y : Ticket) (r : ReadAnswer) → r ≡ openReadCall m W C y → r ≡ readCall m W C y
+    read-through y r p = p ∙ read-is m W C sound y
+
     pub remove-through : (s : ℕ) (r : Effect RemoveAnswer) → r ≡ openRemoveCall m W C s → r ≡ removeCall m W C s
     remove-through s r p = p ∙ remove-is m W C sound s
 
@@ -114,6 +123,10 @@ module _ (m : Map) (W C : List ℕ) (t : Checked) (e : checkNumber t ≡ checkRu
     pub find-all-away : (y : Query) (out : List ℕ) → output (refusedTally (refusalNumber z)) out ≡ findAllCall m W C y out
     unfolding findAllCall startNumber
     find-all-away y out = rw (broken, some z, some z)
+
+    pub read-away : (y : Ticket) → refusedReading (refusalNumber z) ≡ readCall m W C y
+    unfolding readCall readNumber
+    read-away y = rw (broken, some z, some z)
 
     pub remove-away : (s : ℕ) → effect (refusedRemoval m (refusalNumber z)) W C ≡ removeCall m W C s
     unfolding removeCall removeNumber

@@ -19,7 +19,9 @@ use Rattle.iset.specs.Remove.{openRemoveNumber, removeNumber}
 use Rattle.iset.specs.Insert.{fullNumber, openInsertNumber, roomThenCheck, insertNumber}
 use Rattle.iset.specs.Lookup.{queryNumber, beginning, formNumber, openStartNumber, openStepNumber, openDrainNumber, startNumber, stepNumber, drainNumber}
 use Rattle.iset.specs.Plain.{openPlainNumber, plainNumber}
+use Rattle.iset.specs.Ticket.{ticketNumber, openReadNumber, readNumber}
 use Rattle.iset.specs.declared.Map.{Map}
+use Rattle.iset.specs.declared.ticket.Ticket.{Ticket}
 use Rattle.iset.proofs.Checks.{checked-count}
 
 -- a refusal d that is not given where k is not
@@ -36,6 +38,11 @@ module _ (m : Map) (W C : List ℕ) where
   pub remove-order : (s : ℕ) → removeNumber m W C s ≡ first (checkRule m W C) (cond (ltb s (m .count)) 0 3)
   unfolding removeNumber openRemoveNumber
   remove-order s = passed-on (checkRule m W C) (countNumber m W C) (cond (ltb s (m .count)) 0 3) (checked-count m W C)
+
+  -- the check, then the ticket
+  pub read-order : (t : Ticket) → readNumber m W C t ≡ first (checkRule m W C) (ticketNumber m t)
+  unfolding readNumber openReadNumber
+  read-order t = passed-on (checkRule m W C) (countNumber m W C) (ticketNumber m t) (checked-count m W C)
 
   -- a full store, then the check, then the interval
   pub insert-order : (e : Entry)

@@ -49,8 +49,10 @@ use Rattle.iset.specs.Lookup.{ordered, queryNumber, beginning, formNumbe
 use Rattle.iset.specs.Tallies.{TallyAnswer, tallyAnswer, refusedTally}
 use Rattle.iset.specs.Plain.{plainNumber, plainCall}
 use Rattle.iset.specs.Find.{findAllCall}
-use Rattle.iset.specs.Refusals.{Rows, accept, refuse, Exactly, NoSuch, BadRange, BadInterval, BadCursor, ShortOutput, checkRows, buildRows, removeRows, insertRows, startRows, stepRows, drainRows, plainRows, findAllRows}
+use Rattle.iset.specs.Refusals.{Rows, accept, refuse, Exactly, NoSuch, Stale, BadRange, BadInterval, BadCursor, ShortOutput, checkRows, buildRows, removeRows, insertRows, readRows, startRows, stepRows, drainRows, plainRows, findAllRows}
+use Rattle.iset.specs.Ticket.{age, ticketNumber, readNumber, ReadAnswer, readCall}
 use Rattle.iset.specs.declared.Map.{Map}
+use Rattle.iset.specs.declared.ticket.Ticket.{Ticket}
 use Rattle.words.specs.Refusals.{refusalNumber}
 use Rattle.words.specs.declared.refusal.Refusal.{Refusal}
 use Rattle.words.proofs.Refusals.{number-pos}
@@ -78,7 +80,7 @@ use Rattle.iset.proofs.Map.build.Reads as build-reads
 use Rattle.iset.proofs.Map.build.Kinds as build-kinds
 use Rattle.iset.proofs.Checks.{cases, check-one, one-check, check-two, two-check}
 use Rattle.iset.proofs.Found.{tree-of, few}
-use Rattle.iset.proofs.Orders.{remove-order, insert-order, start-order, step-order, drain-order, plain-order}
+use Rattle.iset.proofs.Orders.{remove-order, read-order, insert-order, start-order, step-order, drain-order, plain-order}
 
 -- Tables. One after another:
 abbrev followed : Rows → Rows → Rows
@@ -150,7 +152,7 @@ every-fails p (suc m) k e = go (p k) refl e (every-fails p m (suc k))
     go true i q r = let (j, x, y, z) = r q in (j, omega arith, omega arith, z)
     go false i q r = (k, omega arith, omega arith, i)
 
-module _ (W C S : List ℕ) where
+module _ (m : Map) (W C S : List ℕ) where
   abbrev Improper : Type 0
   Improper = (k : ℕ) × (k < length S / 3) × BadInterval (startOf S k) (endOf S k)
 
@@ -177,7 +179,7 @@ module _ (W C S : List ℕ) where
       let (k, a, b, f) = every-fails (inOrder S) (count S - 1) 0 e in
       (k, omega arith, λ h. true≢false (sym (le-complete (intervalOf S k) (intervalOf S (k + 1)) (rw (add-one k) h)) ∙ f))
 
-  pub build-no : buildCall W C S .answer .no ≡ buildNumber (length W) (length C) S
+  pub build-no : buildCall m W C S .answer .no ≡ buildNumber (length W) (length C) S
   unfolding buildCall
   build-no = number-is (λ (a : Effect BuildAnswer). a .answer .no) (buildNumber (length W) (length C) S) _ _ refl refl
 
@@ -203,7 +205,7 @@ module _ (W C S : List ℕ) where
       (λ u. ltb-true (capacity (length W) (length C)) (length S / 3) u)
       (λ u p. omega (arith, ltb-false (capacity (length W) (length C)) (length S / 3) u)) (λ u. build-5)
 
-  pub build-refusals : Exactly (buildRows W C S) (buildCall W C S .answer .no)
+  pub build-refusals : Exactly (buildRows W C S) (buildCall m W C S .answer .no)
   unfolding buildNumber
   build-refusals =
       rw build-no
@@ -211,9 +213,9 @@ module _ (W C S : List ℕ) where
       (cond (ltb (capacity (length W) (length C)) (length S / 3)) 1 (cond (allProper S) (cond (sorted S) 0 6) 5)) (eqb (length S % 3) 0) (omega arith)
       (λ t p. p (eqb-true (length S % 3) 0 t)) (λ t i. true≢false (sym (eq-eqb (length S % 3) 0 i) ∙ t)) (λ t. build-1))
 
-  -- "a refused build: count 0, root U"
-  pub build-leaves : (buildCall W C S .answer .no ≡ 0 → ⊥)
-      → buildCall W C S ≡ effect (record { no = buildCall W C S .answer .no; map = record { count = 0; root = U } }) W C
+  -- "a refused build: count 0, root U", and document 02, item 4: "a refusal leaves the version"
+  pub build-leaves : (buildCall m W C S .answer .no ≡ 0 → ⊥)
+      → buildCall m W C S ≡ effect (record { no = buildCall m W C S .answer .no; map = record { count = 0; root = U; version = m .version } }) W C
   unfolding buildCall
   build-leaves d = rw build-no (kept (buildNumber (length W) (length C) S) _ _ (λ e. d (build-no ∙ e)))
 
@@ -244,6 +246,31 @@ module _ (m : Map) (W C : List ℕ) (s : ℕ) where
       }) W C
   unfolding removeCall
   remove-leaves d = rw remove-no (kept (removeNumber m W C s) _ _ (λ e. d (remove-no ∙ e)))
+
+-- A reading through a ticket.
+module _ (m : Map) (W C : List ℕ) (t : Ticket) where
+  pub read-no : readCall m W C t .no ≡ readNumber m W C t
+  unfolding readCall
+  read-no = number-is (λ (a : ReadAnswer). a .no) (readNumber m W C t) _ _ refl refl
+
+  ticket-row : Exactly (refuse 11 (Stale m t) (refuse 3 (NoSuch m (t .slot)) accept)) (ticketNumber m t)
+  unfolding ticketNumber
+  ticket-row =
+      passed-row 11 (Stale m t) (refuse 3 (NoSuch m (t .slot)) accept) (cond (ltb (t .slot) (m .count)) 0 3) (eqb (age (m .version) (t .version)) 0) (omega arith)
+      (λ i p. p (eqb-true (age (m .version) (t .version)) 0 i)) (λ i z. true≢false (sym (eq-eqb (age (m .version) (t .version)) 0 z) ∙ i))
+      (λ i. passed-row 3 (NoSuch m (t .slot)) accept 0 (ltb (t .slot) (m .count)) (omega arith)
+      (λ j p. omega (arith, ltb-true (t .slot) (m .count) j)) (ltb-false (t .slot) (m .count)) (λ j. refl))
+
+  pub read-refusals : Exactly (readRows m W C t) (readCall m W C t .no)
+  read-refusals =
+      rw (read-no, read-order m W C t)
+      (first-then (checkRows m W C) (refuse 11 (Stale m t) (refuse 3 (NoSuch m (t .slot)) accept)) (checkRule m W C) (ticketNumber m t) (omega arith)
+      (check-refusals m W C) (λ e. ticket-row))
+
+  -- "value and counts 0"
+  pub read-leaves : (readCall m W C t .no ≡ 0 → ⊥) → readCall m W C t ≡ record { no = readCall m W C t .no; entry = record { start = 0; end = 0; value = 0 } }
+  unfolding readCall
+  read-leaves d = rw read-no (kept (readNumber m W C t) _ _ (λ e. d (read-no ∙ e)))
 
 -- An insertion.
 module _ (m : Map) (W C : List ℕ) (e : Entry) where
@@ -484,14 +511,15 @@ store-left : {A : Type 0} (x y : Effect A) → x ≡ y → (x .words ≡ y .word
 store-left {A = A} x y e = (ap (λ (c : Effect A). c .words) e, ap (λ (c : Effect A). c .colours) e)
 
 pub build-code : (κs : Lfts 3) (a : K.Dens κs build-kinds.ps) (r : K.resT build-kinds.r κs .Denot) (s : AtExit (K.endedOf 3 build-kinds.ps build-kinds.r) κs)
-    → build-reads.Post κs a r s → (y : Refusal) → r ≡ built.Refused y → (now (s .0) ≡ now (a .0)) × (now (s .1 .0) ≡ now (a .1 .0))
+    → build-reads.Post κs a r s → (y : Refusal) → r ≡ built.Refused y → (now (s .1 .0) ≡ now (a .1 .0)) × (now (s .1 .1 .0) ≡ now (a .1 .1 .0))
 build-code κs a r s p y e =
-    let W : List ℕ = now (a .0) in
-    let C : List ℕ = now (a .1 .0) in
-    let S : List ℕ = now (a .1 .1 .0) in
-    let k : refusalNumber y ≡ buildCall W C S .answer .no =
-    ap (λ (x : Built). buildAnswer x .no) (sym e) ∙ ap (λ (x : Effect BuildAnswer). x .answer .no) p in
-    store-left _ _ (p ∙ build-leaves W C S (refused-number (buildCall W C S .answer .no) y k))
+    let m : Map = a .0 in
+    let W : List ℕ = now (a .1 .0) in
+    let C : List ℕ = now (a .1 .1 .0) in
+    let S : List ℕ = now (a .1 .1 .1 .0) in
+    let k : refusalNumber y ≡ buildCall m W C S .answer .no =
+    ap (λ (x : Built). buildAnswer m x .no) (sym e) ∙ ap (λ (x : Effect BuildAnswer). x .answer .no) p in
+    store-left _ _ (p ∙ build-leaves m W C S (refused-number (buildCall m W C S .answer .no) y k))
 
 pub remove-code : (κs : Lfts 2) (a : K.Dens κs remove-kinds.ps) (r : K.resT remove-kinds.r κs .Denot) (s : AtExit (K.endedOf 2 remove-kinds.ps remove-kinds.r) κs)
     → remove-reads.Post κs a r s → (y : Refusal) → r ≡ removal.Refused y → (now (s .1 .0) ≡ now (a .1 .0)) × (now (s .1 .1 .0) ≡ now (a .1 .1 .0))

@@ -8,6 +8,7 @@ use native.Mathlib.Omega.{arith}
 use lib.ListN.{length}
 use lib.Dec.{eqb}
 use borrow.Author.Tests.{eq-eqb, ne-eqb}
+use Rattle.words.specs.Ix.{U}
 use Rattle.words.specs.Nodes.{capacity}
 use Rattle.words.specs.declared.node.Entry.{Entry}
 use Rattle.tree.specs.Tree.{leaf}
@@ -27,7 +28,7 @@ use Rattle.iset.specs.Check.{checkRule}
 use Rattle.iset.specs.Build.{buildNumber, BuildAnswer, refusedBuild, buildList, buildCall}
 use Rattle.iset.specs.Remove.{removeNumber, RemoveAnswer, refusedRemoval, removeSlot, removeCall}
 use Rattle.iset.specs.Insert.{insertNumber, InsertAnswer, refusedInsertion, insertEntry, insertCall}
-use Rattle.iset.specs.Maps.{mapOf, emptyMap}
+use Rattle.iset.specs.Maps.{mapAt, emptyMap, nextMap}
 use Rattle.iset.specs.Sequence.{Call, build, remove, insert, State, left, removed, inserted, answered, allAnswered, openAnswered, allOpenAnswered}
 use Rattle.iset.specs.declared.Map.{Map}
 use Rattle.iset.proofs.Builds.{Accepted, accepted, builds}
@@ -37,24 +38,24 @@ use Rattle.iset.proofs.Opened.{remove-is, insert-is}
 use Rattle.iset.proofs.Removals as removals
 
 -- what a build leaves
-abbrev pub builtStore : List ℕ → List ℕ → List ℕ → Store
-builtStore W C S = let b = buildCall W C S in store (b .words) (b .colours) (b .answer .map .root)
+abbrev pub builtStore : Map → List ℕ → List ℕ → List ℕ → Store
+builtStore m W C S = let b = buildCall m W C S in store (b .words) (b .colours) (b .answer .map .root)
 
 -- a build, and any insertions and removals after it that find their slot or places
-pub build-then-change : (W C S : List ℕ) (l : List Change) → buildNumber (length W) (length C) S ≡ 0
+pub build-then-change : (m : Map) (W C S : List ℕ) (l : List Change) → buildNumber (length W) (length C) S ≡ 0
     → TakesAll (capacity (length W) (length C)) (length S / 3) l
-    → Passes (run (builtStore W C S) (length S / 3) l .words) (run (builtStore W C S) (length S / 3) l .colours) (total (length S / 3) l)
-    (run (builtStore W C S) (length S / 3) l .root)
-build-then-change W C S l e t =
+    → Passes (run (builtStore m W C S) (length S / 3) l .words) (run (builtStore m W C S) (length S / 3) l .colours) (total (length S / 3) l)
+    (run (builtStore m W C S) (length S / 3) l .root)
+build-then-change m W C S l e t =
     let a : Accepted (length W) (length C) S = accepted (length W) (length C) S e in
-    let b = builds W C S e in
-    ran l (builtStore W C S) (length S / 3) (capacity (length W) (length C)) (omega arith) (omega (arith, b .words-length))
+    let b = builds m W C S e in
+    ran l (builtStore m W C S) (length S / 3) (capacity (length W) (length C)) (omega arith) (omega (arith, b .words-length))
     (omega (arith, b .bits-length)) (a .room-for) (b .passes) t .0
 
--- the map of no entries passes in any words
-pub empty-passes : (W C : List ℕ) → checkRule emptyMap W C ≡ 0
-empty-passes W C =
-    zero-check emptyMap W C (omega arith)
+-- the map of no entries passes in any words, whatever its version is
+none-passes : (v : ℕ) (W C : List ℕ) → checkRule (mapAt 0 U v) W C ≡ 0
+none-passes v W C =
+    zero-check (mapAt 0 U v) W C (omega arith)
     (record {
       tree = leaf;
       shape = refl;
@@ -65,6 +66,9 @@ empty-passes W C =
       top = refl;
       redBlack = record {};
     })
+
+pub empty-passes : (W C : List ℕ) → checkRule emptyMap W C ≡ 0
+empty-passes = none-passes 0
 
 -- the store passes
 abbrev pub Sound : State → Type 0
@@ -84,13 +88,13 @@ module _ (m : Map) (W C : List ℕ) where
   build-sound : (l : List ℕ) → Sound (answered S (build l))
   unfolding buildCall
   build-sound l =
-      by-number (λ (a : BuildAnswer). a .map) (buildNumber (length W) (length C) l) (buildList W C l)
-      (effect (refusedBuild (buildNumber (length W) (length C) l)) W C)
+      by-number (λ (a : BuildAnswer). a .map) (buildNumber (length W) (length C) l) (buildList m W C l)
+      (effect (refusedBuild m (buildNumber (length W) (length C) l)) W C)
       (λ e. let a : Accepted (length W) (length C) l = accepted (length W) (length C) l e in
-      let b = rw (eq-eqb (buildNumber (length W) (length C) l) 0 e) at (builds W C l e) in
-      zero-check (mapOf (length l / 3) (buildRoot (length l / 3))) (buildWords l (length l / 3) W) (buildColours (length l / 3) C)
+      let b = rw (eq-eqb (buildNumber (length W) (length C) l) 0 e) at (builds m W C l e) in
+      zero-check (nextMap m (length l / 3) (buildRoot (length l / 3))) (buildWords l (length l / 3) W) (buildColours (length l / 3) C)
       (rw (b .words-length, b .bits-length) (a .room-for)) (b .passes))
-      (empty-passes W C)
+      (none-passes (m .version) W C)
 
   module _ (h : Sound S) where
     fits : m .count ≤ capacity (length W) (length C)
@@ -102,7 +106,7 @@ module _ (m : Map) (W C : List ℕ) where
         let R : Removed = removeRule W C (m .count) (m .root) s in
         by-number (λ (a : RemoveAnswer). a .map) (removeNumber m W C s) (removeSlot m W C s) (effect (refusedRemoval m (removeNumber m W C s)) W C)
         (λ e. let i : Inside (m .count) W C (R .store) = removed-inside W C (m .count) (m .root) s (removals.accepts m W C s e .1) in
-        zero-check (mapOf (m .count - 1) (R .store .root)) (R .store .words) (R .store .colours)
+        zero-check (nextMap m (m .count - 1) (R .store .root)) (R .store .words) (R .store .colours)
         (rw (i .words-length, i .colours-length) (omega (arith, fits))) (removals.by-rule m W C s e .passes))
         h
 
@@ -112,7 +116,7 @@ module _ (m : Map) (W C : List ℕ) where
         let R : Store = insertRule W C (m .count) (m .root) e in
         by-number (λ (a : InsertAnswer). a .map) (insertNumber m W C e) (insertEntry m W C e) (effect (refusedInsertion m (insertNumber m W C e)) W C)
         (λ z. let i : Inside (m .count + 1) W C R = inserted-inside W C (m .count) (m .root) e in
-        zero-check (mapOf (m .count + 1) (R .root)) (R .words) (R .colours)
+        zero-check (nextMap m (m .count + 1) (R .root)) (R .words) (R .colours)
         (rw (i .words-length, i .colours-length) (omega (arith, insertions.accepts m W C e z .0))) (insertions.by-rule m W C e z .passes))
         h
 

@@ -2,8 +2,8 @@
 -- answer and leave. A call's rule (specs/Check to Lookup) is what its code is proved to answer and
 -- leave on every input, so a statement about the rules is one about the calls. `proofs/Demands`
 -- proves them.
--- Letters: m map, W words, C colours, r root, S triples, a slot, s slot, e entry, x interval,
---   q query or range, c cursor, P proof that the store passes, l calls
+-- Letters: m map, W words, C colours, r root, S triples, a slot, t ticket, s slot, e entry,
+--   x interval, q query or range, c cursor, P proof that the store passes, l calls
 use mathlib.Core.Path.{_≡_}
 use mathlib.Core.Logic.{_≢_}
 use mathlib.Core.List.{List}
@@ -31,13 +31,15 @@ use Rattle.iset.specs.Effects.{Effect, effect, output}
 use Rattle.iset.specs.Build.{refusedBuild, buildCall}
 use Rattle.iset.specs.Remove.{RemoveAnswer, refusedRemoval, removeCall}
 use Rattle.iset.specs.Insert.{InsertAnswer, refusedInsertion, insertCall}
+use Rattle.iset.specs.Ticket.{refusedReading, readCall}
 use Rattle.iset.specs.Lookup.{refusedStart, startCall, refusedStep, stepCall, refusedDrain, drainCall}
 use Rattle.iset.specs.Tallies.{refusedTally}
 use Rattle.iset.specs.Plain.{plainCall}
 use Rattle.iset.specs.Find.{findAllCall}
-use Rattle.iset.specs.Refusals.{BadRange, BadInterval, Exactly, checkRows, buildRows, removeRows, insertRows, startRows, stepRows, drainRows, plainRows, findAllRows}
+use Rattle.iset.specs.Refusals.{BadRange, BadInterval, Exactly, checkRows, buildRows, removeRows, insertRows, readRows, startRows, stepRows, drainRows, plainRows, findAllRows}
 use Rattle.iset.specs.Runs.{Ask, OverlapRun, ExactRun}
 use Rattle.iset.specs.declared.Map.{Map}
+use Rattle.iset.specs.declared.ticket.Ticket.{Ticket}
 
 -- Demand 1: "Every public call .. tests everything itself, gives the first refusal in document 01's
 -- order, and then nothing lent has changed." `Exactly` is both directions: a call gives a row's
@@ -45,21 +47,23 @@ use Rattle.iset.specs.declared.Map.{Map}
 -- any numbers and any lent memory, is part of what the prover shows of its code.
 pub record Demand1 (m : Map) (W C : List ℕ) : Type 0 where
   pub check : Exactly (checkRows m W C) (checkRule m W C)
-  pub build : (S : List ℕ) → Exactly (buildRows W C S) (buildCall W C S .answer .no)
+  pub build : (S : List ℕ) → Exactly (buildRows W C S) (buildCall m W C S .answer .no)
   pub remove : (s : ℕ) → Exactly (removeRows m W C s) (removeCall m W C s .answer .no)
   pub insert : (e : Entry) → Exactly (insertRows m W C e) (insertCall m W C e .answer .no)
+  pub read : (t : Ticket) → Exactly (readRows m W C t) (readCall m W C t .no)
   pub fresh-exact : (x : Interval) → Exactly (startRows m W C x) (startCall m W C x .no)
   pub step : (q : Query) (c : Cursor) → Exactly (stepRows m W C q c) (stepCall m W C q c .no)
   pub drain : (q : Query) (c : Cursor) (limit : ℕ) (out : List ℕ) → Exactly (drainRows m W C q c limit (length out)) (drainCall m W C q c limit out .answer .no)
   pub plain : (q : Query) (out : List ℕ) → Exactly (plainRows m W C q (length out)) (plainCall m W C q out .answer .no)
   pub find-all : (q : Query) (out : List ℕ) → Exactly (findAllRows m W C q) (findAllCall m W C q out .answer .no)
   -- a refused call answers its number with the map or the cursor as given ("a refused build: count
-  -- 0, root U"), and leaves what was lent
-  pub build-leaves : (S : List ℕ) → (buildCall W C S .answer .no ≡ 0 → ⊥) → buildCall W C S ≡ effect (refusedBuild (buildCall W C S .answer .no)) W C
+  -- 0, root U", with the version as given), and leaves what was lent
+  pub build-leaves : (S : List ℕ) → (buildCall m W C S .answer .no ≡ 0 → ⊥) → buildCall m W C S ≡ effect (refusedBuild m (buildCall m W C S .answer .no)) W C
   pub remove-leaves : (s : ℕ) → (removeCall m W C s .answer .no ≡ 0 → ⊥)
       → removeCall m W C s ≡ effect (refusedRemoval m (removeCall m W C s .answer .no)) W C
   pub insert-leaves : (e : Entry) → (insertCall m W C e .answer .no ≡ 0 → ⊥)
       → insertCall m W C e ≡ effect (refusedInsertion m (insertCall m W C e .answer .no)) W C
+  pub read-leaves : (t : Ticket) → (readCall m W C t .no ≡ 0 → ⊥) → readCall m W C t ≡ refusedReading (readCall m W C t .no)
   pub fresh-exact-leaves : (x : Interval) → (startCall m W C x .no ≡ 0 → ⊥) → startCall m W C x ≡ refusedStart (startCall m W C x .no)
   pub step-leaves : (q : Query) (c : Cursor) → (stepCall m W C q c .no ≡ 0 → ⊥) → stepCall m W C q c ≡ refusedStep c (stepCall m W C q c .no)
   pub drain-leaves : (q : Query) (c : Cursor) (limit : ℕ) (out : List ℕ) → (drainCall m W C q c limit out .answer .no ≡ 0 → ⊥)
@@ -84,9 +88,9 @@ insertion m W C e = let r : Effect InsertAnswer = insertCall m W C e in store (r
 -- equal to document 01's rules. Each removal names exactly the entries that changed slot."
 pub record Demand2 (m : Map) (W C : List ℕ) : Type 0 where
   -- a build's store passes, with entry k in slot k
-  pub builds : (S : List ℕ) → buildCall W C S .answer .no ≡ 0
-      → (buildCall W C S .answer .map .count ≡ length S / 3)
-      × Built S W C (length S / 3) (buildCall W C S .words) (buildCall W C S .colours) (buildCall W C S .answer .map .root)
+  pub builds : (S : List ℕ) → buildCall m W C S .answer .no ≡ 0
+      → (buildCall m W C S .answer .map .count ≡ length S / 3)
+      × Built S W C (length S / 3) (buildCall m W C S .words) (buildCall m W C S .colours) (buildCall m W C S .answer .map .root)
   -- a removal's store passes, with the other entries in their order; value and pairs are those of
   -- the removed and of the moved entries
   pub removes : (s : ℕ) → removeCall m W C s .answer .no ≡ 0 → (P : Passes W C (m .count) (m .root))

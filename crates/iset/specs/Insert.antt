@@ -16,7 +16,7 @@ use Rattle.tree_in_rule.specs.Insert.{insertRule}
 use Rattle.tree_in_rule.specs.Reach.{insertHulls}
 use Rattle.iset.specs.Effects.{Effect, effect}
 use Rattle.iset.specs.Check.{first, checkRule}
-use Rattle.iset.specs.Maps.{mapOf}
+use Rattle.iset.specs.Maps.{nextMap}
 use Rattle.iset.specs.declared.Map.{Map}
 use Rattle.iset.specs.declared.insert.Insertion.{Insertion}
 use Rattle.iset.specs.declared.insert.Insertion.the-variants.{Done, Refused}
@@ -57,7 +57,7 @@ insertAnswer m (Refused y) = refusedInsertion m (refusalNumber y)
 
 -- what the rule of insertion answers, with k changed hulls: "slot count is always the next one"
 abbrev pub insertDone : (map : Map) (store : Store) (changed : ℕ) → InsertAnswer
-insertDone m S k = record { no = 0; slot = m .count; map = mapOf (m .count + 1) (S .root); reach = k }
+insertDone m S k = record { no = 0; slot = m .count; map = nextMap m (m .count + 1) (S .root); reach = k }
 
 -- how many of the hulls that an insertion works out change
 abbrev pub insertReach : (map : Map) (words colours : List ℕ) (entry : Entry) → ℕ

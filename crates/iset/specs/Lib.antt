@@ -4,6 +4,7 @@ pub mod Check
 pub mod Build
 pub mod Remove
 pub mod Insert
+pub mod Ticket
 pub mod Sequence
 pub mod Lookup
 pub mod Runs
@@ -14,6 +15,7 @@ pub mod AtOnce
 pub mod PlainRuns
 pub mod FindRuns
 pub mod Refusals
+pub mod Versions
 pub mod Below
 pub mod Demands
 pub mod Fits

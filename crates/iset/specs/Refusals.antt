@@ -1,9 +1,9 @@
--- Document 01's table of refusals, document 02's items 1 and 5, and the fast lookup: for each
+-- Document 01's table of refusals, document 02's items 1, 4 and 5, and the fast lookup: for each
 -- public call its rows, a refusal's number and when it is given, in the order in which the first is
 -- given.
 -- Letters: m map, W words, C colours, k number that is answered or limit, P condition or proof that
 --   the store passes, a lower number, b higher number, y high bound, s slot or stack, i place of a
---   bit, h highest equal node, S triples, e entry, x interval, q range, c cursor
+--   bit, h highest equal node, S triples, e entry, x interval, q range, c cursor, t ticket
 use mathlib.Core.Path.{_≡_}
 use mathlib.Core.Logic.{_↔_, _⊎_}
 use mathlib.Core.List.{List}
@@ -26,7 +26,9 @@ use Rattle.iter.specs.declared.rules.Query.the-variants.{Overlap, Exact}
 use Rattle.iter_laws.specs.Place.{Held}
 use Rattle.iter_laws.specs.Highest.{Highest}
 use Rattle.iset.specs.Lookup.{beginning}
+use Rattle.iset.specs.Ticket.{age}
 use Rattle.iset.specs.declared.Map.{Map}
+use Rattle.iset.specs.declared.ticket.Ticket.{Ticket}
 
 -- rows of a table; after the last one a call is accepted
 pub data Rows : Type 1 where
@@ -104,6 +106,14 @@ removeRows m W C s = refuse 1 (NoRoom m W C) (refuse 2 (Broken m W C) (refuse 3 
 abbrev pub insertRows : (map : Map) (words colours : List ℕ) (entry : Entry) → Rows
 insertRows m W C e =
     refuse 1 (capacity (length W) (length C) ≤ m .count) (refuse 2 (Broken m W C) (refuse 5 (BadInterval (e .start) (e .end)) accept))
+
+-- 11, Stale: changes lie between the ticket and the map, and not a multiple of 2^32 of them
+abbrev pub Stale : (map : Map) (ticket : Ticket) → Type 0
+Stale m t = age (m .version) (t .version) ≡ 0 → ⊥
+
+-- document 02, item 4: "11 Stale, after 2 and before 3"
+abbrev pub readRows : (map : Map) (words colours : List ℕ) (ticket : Ticket) → Rows
+readRows m W C t = refuse 1 (NoRoom m W C) (refuse 2 (Broken m W C) (refuse 11 (Stale m t) (refuse 3 (NoSuch m (t .slot)) accept)))
 
 -- the fresh cursor of an exact lookup: 1, 2, 5
 abbrev pub startRows : (map : Map) (words colours : List ℕ) (interval : Interval) → Rows

@@ -15,7 +15,7 @@ use Rattle.words.specs.declared.pair.Pair.{Pair}
 use Rattle.words.specs.declared.pair.Pairs.{Pairs}
 use Rattle.iset.specs.Effects.{Effect, effect}
 use Rattle.iset.specs.Check.{first, countNumber, checkRule}
-use Rattle.iset.specs.Maps.{mapOf}
+use Rattle.iset.specs.Maps.{nextMap}
 use Rattle.iset.specs.declared.Map.{Map}
 use Rattle.iset.specs.declared.remove.Removal.{Removal}
 use Rattle.iset.specs.declared.remove.Removal.the-variants.{Done, Refused}
@@ -49,7 +49,7 @@ removeAnswer m (Refused y) = refusedRemoval m (refusalNumber y)
 
 -- what the rule of removal answers, with k changed hulls
 abbrev pub removeDone : (map : Map) (removal : rule.Removed) (changed : ℕ) → RemoveAnswer
-removeDone m R k = record { no = 0; value = R .value; map = mapOf (m .count - 1) (R .store .root); pairs = R .pairs; reach = k }
+removeDone m R k = record { no = 0; value = R .value; map = nextMap m (m .count - 1) (R .store .root); pairs = R .pairs; reach = k }
 
 -- how many of the hulls that a removal works out change
 abbrev pub removeReach : (map : Map) (words colours : List ℕ) (slot : ℕ) → ℕ

@@ -1,7 +1,9 @@
 -- Public calls one after the other, each on the map that the last one answered.
 -- Letters: S state, x call, l triples or calls, s slot, e entry, c effect, a answer
+use mathlib.Core.Bool.{cond}
 use mathlib.Core.List.{List, [], _∷_}
-use Prim.Native.Nat.{ℕ}
+use Prim.Native.Nat.{ℕ, _+_}
+use lib.Dec.{eqb}
 use Rattle.words.specs.declared.node.Entry.{Entry}
 use Rattle.iset.specs.Effects.{Effect}
 use Rattle.iset.specs.Build.{BuildAnswer, buildCall}
@@ -36,13 +38,24 @@ inserted = left (λ (a : InsertAnswer). a .map)
 
 -- after a call, refused or not
 abbrev pub answered : (state : State) (call : Call) → State
-answered S (build l) = built (buildCall (S .words) (S .colours) l)
+answered S (build l) = built (buildCall (S .map) (S .words) (S .colours) l)
 answered S (remove s) = removed (removeCall (S .map) (S .words) (S .colours) s)
 answered S (insert e) = inserted (insertCall (S .map) (S .words) (S .colours) e)
 
 abbrev pub allAnswered : (state : State) (calls : List Call) → State
 allAnswered S [] = S
 allAnswered S (x ∷ l) = allAnswered (answered S x) l
+
+-- the refusal's number of a call, 0 for none
+abbrev pub refusalOf : (state : State) (call : Call) → ℕ
+refusalOf S (build l) = buildCall (S .map) (S .words) (S .colours) l .answer .no
+refusalOf S (remove s) = removeCall (S .map) (S .words) (S .colours) s .answer .no
+refusalOf S (insert e) = insertCall (S .map) (S .words) (S .colours) e .answer .no
+
+-- how many of the calls changed the map: those that were not refused
+abbrev pub made : (state : State) (calls : List Call) → ℕ
+made S [] = 0
+made S (x ∷ l) = cond (eqb (refusalOf S x) 0) 1 0 + made (answered S x) l
 
 -- the same by the opened calls, which do not run the check; a build has none
 abbrev pub openAnswered : (state : State) (call : Call) → State

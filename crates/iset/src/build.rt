@@ -1,6 +1,7 @@
 // Builds a map from a list of triples start, end, value.
 use crate::Checked;
 use crate::Map;
+use crate::next_version;
 use builder::from_sorted;
 use builder::list::all_proper;
 use builder::list::sorted;
@@ -36,11 +37,12 @@ fn test_list(list: &[u64], words: usize, bytes: usize) -> Checked
 }
 
 impl Map {
-    // Returns the map of the entries of a list, entry k in slot k. Slots and colour bits past them
-    // are unchanged.
-    pub fn build(nodes: &mut [u64], colours: &mut [u8], list: &[u64]) -> Built
-        ensures { λ r. ⌜ effect (buildAnswer r) (now (nodes .exit)) (now (colours .exit))
-            ≡ buildCall (now (nodes .entry)) (now (colours .entry)) (now (list .entry)) ⌝ }
+    // Returns the map of the entries of a list, entry k in slot k, in the place of this map. Of
+    // this map only the version is read: the new map has the next one. Slots and colour bits past
+    // the entries are unchanged.
+    pub fn build(self, nodes: &mut [u64], colours: &mut [u8], list: &[u64]) -> Built
+        ensures { λ r. ⌜ effect (buildAnswer self r) (now (nodes .exit)) (now (colours .exit))
+            ≡ buildCall self (now (nodes .entry)) (now (colours .entry)) (now (list .entry)) ⌝ }
     {
         let Checked::Refused(why) = test_list(list, nodes.len(), colours.len()) else {
             let n = list.len() / 3;
@@ -48,6 +50,7 @@ impl Map {
             return Built::Done(Map {
                 count: n as u64,
                 root,
+                version: next_version(self.version),
             });
         };
         Built::Refused(why)

@@ -1,6 +1,7 @@
 // Adds one entry.
 use crate::Checked;
 use crate::Map;
+use crate::next_version;
 use tree_in::force_insert;
 use words::node::Entry;
 use words::node::capacity;
@@ -70,6 +71,7 @@ impl Map {
             map: Map {
                 count: self.count + 1,
                 root: r.root,
+                version: next_version(self.version),
             },
             slot: self.count,
             reach: r.reach,

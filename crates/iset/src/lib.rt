@@ -13,6 +13,7 @@ pub mod insert;
 pub mod lookup;
 pub mod remove;
 pub mod scan;
+pub mod ticket;
 
 // The types that the calls' signatures name, so that a user imports from this crate alone.
 use audit::audit;
@@ -25,6 +26,7 @@ pub use words::interval::Bound;
 pub use words::interval::Interval;
 pub use words::interval::Span;
 use words::ix::U;
+pub use words::node::Entry;
 use words::node::capacity;
 pub use words::pair::Pair;
 pub use words::pair::Pairs;
@@ -32,14 +34,23 @@ pub use words::refusal::Refusal;
 ghost use mathlib.Core.Path.{_≡_};
 ghost use mathlib.Core.Bool.{cond};
 ghost use Rattle.words.specs.Refusals.{refusalNumber};
-ghost use Rattle.iset.specs.Maps.{emptyMap};
+ghost use Rattle.iset.specs.Maps.{emptyMap, raised};
 ghost use Rattle.iset.specs.Check.{checkNumber, countNumber, checkRule};
 
-// A map: how many entries it holds, in slots 0 .. count - 1, and the slot of its root, or U if it
-// has none. Its nodes and colours are in the slices that are lent beside it.
+// A map: how many entries it holds, in slots 0 .. count - 1, the slot of its root, or U if it has
+// none, and how often it was changed, modulo 2^32. Its nodes and colours are in the slices that are
+// lent beside it.
 pub struct Map {
     pub count: u64,
     pub root: u64,
+    pub version: u32,
+}
+
+// Returns the version of a map after one change more. After the greatest one comes 0.
+pub fn next_version(version: u32) -> u32
+    ensures { λ r. ⌜ r ≡ raised version ⌝ }
+{
+    std::num::wrapping_add_u32(version, 1)
 }
 
 // What the check returns.
@@ -76,7 +87,11 @@ impl Map {
     pub fn new() -> Map
         ensures { λ r. ⌜ r ≡ emptyMap ⌝ }
     {
-        Map { count: 0, root: U }
+        Map {
+            count: 0,
+            root: U,
+            version: 0,
+        }
     }
 
     // All that a call on an opened store tests of the store. Returns NoRoom if the count is above

@@ -1,6 +1,7 @@
 // Removes one entry by its slot.
 use crate::Checked;
 use crate::Map;
+use crate::next_version;
 use tree_rm::remove::remove_at;
 use words::ix::U;
 use words::pair::Pairs;
@@ -73,6 +74,7 @@ impl Map {
             map: Map {
                 count: self.count - 1,
                 root: r.root,
+                version: next_version(self.version),
             },
             value: r.value,
             pairs,

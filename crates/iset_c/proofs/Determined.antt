@@ -16,6 +16,8 @@ use Rattle.iset_c.proofs.iset_insert.Reads as insert-reads
 use Rattle.iset_c.proofs.iset_insert.Kinds as insert-kinds
 use Rattle.iset_c.proofs.iset_slot_after.Reads as slot-after-reads
 use Rattle.iset_c.proofs.iset_slot_after.Kinds as slot-after-kinds
+use Rattle.iset_c.proofs.ticket.iset_read.Reads as read-reads
+use Rattle.iset_c.proofs.ticket.iset_read.Kinds as read-kinds
 use Rattle.iset_c.proofs.lookup.iset_fresh.Reads as fresh-reads
 use Rattle.iset_c.proofs.lookup.iset_fresh.Kinds as fresh-kinds
 use Rattle.iset_c.proofs.lookup.iset_fresh_exact.Reads as fresh-exact-reads
@@ -56,9 +58,9 @@ pub build-determined :
     (s s′ : AtExit (K.endedOf 4 build-kinds.ps build-kinds.r) κs)
     → build-reads.Post κs a r s → build-reads.Post κs a r′ s′
     → (r ≡ r′)
-    × (now (s .1 .1 .1 .0) ≡ now (s′ .1 .1 .1 .0))
-    × (now (s .0) ≡ now (s′ .0))
+    × (now (s .1 .1 .1 .1 .0) ≡ now (s′ .1 .1 .1 .1 .0))
     × (now (s .1 .0) ≡ now (s′ .1 .0))
+    × (now (s .1 .1 .0) ≡ now (s′ .1 .1 .0))
 build-determined κs a r r′ s s′ p q = same-effect p q
 
 pub remove-determined :
@@ -66,9 +68,9 @@ pub remove-determined :
     (s s′ : AtExit (K.endedOf 3 remove-kinds.ps remove-kinds.r) κs)
     → remove-reads.Post κs a r s → remove-reads.Post κs a r′ s′
     → (r ≡ r′)
-    × (now (s .1 .1 .1 .1 .1 .0) ≡ now (s′ .1 .1 .1 .1 .1 .0))
-    × (now (s .1 .1 .0) ≡ now (s′ .1 .1 .0))
+    × (now (s .1 .1 .1 .1 .1 .1 .0) ≡ now (s′ .1 .1 .1 .1 .1 .1 .0))
     × (now (s .1 .1 .1 .0) ≡ now (s′ .1 .1 .1 .0))
+    × (now (s .1 .1 .1 .1 .0) ≡ now (s′ .1 .1 .1 .1 .0))
 remove-determined κs a r r′ s s′ p q = same-effect p q
 
 pub insert-determined :
@@ -76,10 +78,18 @@ pub insert-determined :
     (s s′ : AtExit (K.endedOf 3 insert-kinds.ps insert-kinds.r) κs)
     → insert-reads.Post κs a r s → insert-reads.Post κs a r′ s′
     → (r ≡ r′)
-    × (now (s .1 .1 .1 .1 .1 .1 .1 .0) ≡ now (s′ .1 .1 .1 .1 .1 .1 .1 .0))
-    × (now (s .1 .1 .0) ≡ now (s′ .1 .1 .0))
+    × (now (s .1 .1 .1 .1 .1 .1 .1 .1 .0) ≡ now (s′ .1 .1 .1 .1 .1 .1 .1 .1 .0))
     × (now (s .1 .1 .1 .0) ≡ now (s′ .1 .1 .1 .0))
+    × (now (s .1 .1 .1 .1 .0) ≡ now (s′ .1 .1 .1 .1 .0))
 insert-determined κs a r r′ s s′ p q = same-effect p q
+
+pub read-determined :
+    (κs : Lfts 3) (a : K.Dens κs read-kinds.ps) (r r′ : K.resT read-kinds.r κs .Denot)
+    (s s′ : AtExit (K.endedOf 3 read-kinds.ps read-kinds.r) κs)
+    → read-reads.Post κs a r s → read-reads.Post κs a r′ s′
+    → (r ≡ r′)
+    × (now (s .1 .1 .1 .1 .1 .1 .1 .0) ≡ now (s′ .1 .1 .1 .1 .1 .1 .1 .0))
+read-determined κs a r r′ s s′ p q = same-answer p q
 
 pub fresh-determined :
     (κs : Lfts 1) (a : K.Dens κs fresh-kinds.ps) (r r′ : K.resT fresh-kinds.r κs .Denot)

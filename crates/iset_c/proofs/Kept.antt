@@ -55,11 +55,11 @@ pub output-kept : {K : Type 0} (reply : K → Reply) (b : Bool) (A out : List �
 output-kept reply b A out zero x a z = exit-kept b A _ _ _ (λ d. absurd (d z))
 output-kept reply b A out (suc k) x a z = rw (ne-eqb (suc k) 0 (λ e. omega arith)) (exit-kept b A _ _ _ (λ d. refl))
 
-pub build-kept : (A W C S : List ℕ) → Kept (buildExit A W C S) A (W ∷ C ∷ [])
-unfolding buildCall
-build-kept A W C S = effect-kept buildReply A W C (buildNumber (length W) (length C) S) (buildList W C S) _ refl
-
 module _ (A : List ℕ) (m : Map) (W C : List ℕ) where
+  pub build-kept : (S : List ℕ) → Kept (buildExit A m W C S) A (W ∷ C ∷ [])
+  unfolding buildCall
+  build-kept S = effect-kept buildReply A W C (buildNumber (length W) (length C) S) (buildList m W C S) _ refl
+
   pub remove-kept : (s : ℕ) → Kept (removeExit A m W C s) A (W ∷ C ∷ [])
   unfolding removeCall
   remove-kept s = effect-kept removeReply A W C (removeNumber m W C s) (removeSlot m W C s) _ refl

@@ -14,6 +14,7 @@ use contract.Lifetimes.{Lfts}
 use borrow.Fn.Kinds as K
 use denote.Triple.Clauses.{AtExit}
 use denote.Ref.{now}
+use Rattle.words.specs.Ix.{U}
 use Rattle.words.specs.declared.interval.Interval.{Interval}
 use Rattle.words.specs.declared.node.Entry.{Entry}
 use Rattle.iter.specs.Drains.{filled}
@@ -26,10 +27,12 @@ use Rattle.iset.specs.Insert.{InsertAnswer, insertCall}
 use Rattle.iset.specs.Lookup.{startCall, stepCall, drainCall}
 use Rattle.iset.specs.Plain.{plainCall}
 use Rattle.iset.specs.Find.{findAllCall}
-use Rattle.iset.specs.Maps.{mapOf}
-use Rattle.iset.specs.Refusals.{Rows, accept, refuse, Exactly, checkRows, buildRows, removeRows, insertRows, startRows, stepRows, drainRows, plainRows, findAllRows}
+use Rattle.iset.specs.Maps.{mapOf, mapAt}
+use Rattle.iset.specs.Refusals.{Rows, accept, refuse, Exactly, checkRows, buildRows, removeRows, insertRows, readRows, startRows, stepRows, drainRows, plainRows, findAllRows}
+use Rattle.iset.specs.Ticket.{readCall}
 use Rattle.iset.specs.declared.Map.{Map}
-use Rattle.iset.proofs.Refusals.{Lacks, passed-row, failed-row, check-refusals, build-refusals, remove-refusals, insert-refusals, start-refusals, step-refusals, drain-refusals, plain-refusals, find-all-refusals}
+use Rattle.iset.proofs.Refusals.{Lacks, passed-row, failed-row, check-refusals, build-refusals, remove-refusals, insert-refusals, read-refusals, start-refusals, step-refusals, drain-refusals, plain-refusals, find-all-refusals}
+use Rattle.iset.specs.declared.ticket.Ticket.{Ticket}
 use Rattle.iset.proofs.BitRefusals.{Fails, le-fails, and-fails}
 use Rattle.iset_c.specs.Replies.{Reply, Exit, exit, number, handed, exitOf, stepReply, drainReply, tallyReply}
 use Rattle.iset_c.specs.Ranges.{rangeOf, kinds}
@@ -42,6 +45,8 @@ use Rattle.iset_c.proofs.iset_remove.Reads as remove-reads
 use Rattle.iset_c.proofs.iset_remove.Kinds as remove-kinds
 use Rattle.iset_c.proofs.iset_insert.Reads as insert-reads
 use Rattle.iset_c.proofs.iset_insert.Kinds as insert-kinds
+use Rattle.iset_c.proofs.ticket.iset_read.Reads as read-reads
+use Rattle.iset_c.proofs.ticket.iset_read.Kinds as read-kinds
 use Rattle.iset_c.proofs.lookup.iset_fresh.Reads as fresh-reads
 use Rattle.iset_c.proofs.lookup.iset_fresh.Kinds as fresh-kinds
 use Rattle.iset_c.proofs.lookup.iset_fresh_exact.Reads as fresh-exact-reads
@@ -104,41 +109,55 @@ pub check-told : (κs : Lfts 2) (a : K.Dens κs check-kinds.ps) (r : K.resT chec
     → Exactly (checkRows (mapOf (a .0) (a .1 .0)) (now (a .1 .1 .0)) (now (a .1 .1 .1 .0))) r
 check-told κs a r s p = rw p (check-refusals (mapOf (a .0) (a .1 .0)) (now (a .1 .1 .0)) (now (a .1 .1 .1 .0)))
 
--- `iset_build`: count, root
+-- `iset_build`: count, root, version
 pub build-told : (κs : Lfts 4) (a : K.Dens κs build-kinds.ps) (r : K.resT build-kinds.r κs .Denot) (s : AtExit (K.endedOf 4 build-kinds.ps build-kinds.r) κs)
     → build-reads.Post κs a r s
-    → let W : List ℕ = now (a .0) in
-    let C : List ℕ = now (a .1 .0) in
-    let S : List ℕ = now (a .1 .1 .0) in
-    let b : BuildAnswer = buildCall W C S .answer in
-    Told (buildRows W C S) (b .map .count ∷ b .map .root ∷ []) (now (a .1 .1 .1 .0)) (now (s .1 .1 .1 .0)) r
-build-told κs a r s p = told _ true _ _ _ r (omega arith) (build-refusals _ _ _) _ _ _ p
+    → let m : Map = mapAt 0 U (a .0) in
+    let W : List ℕ = now (a .1 .0) in
+    let C : List ℕ = now (a .1 .1 .0) in
+    let S : List ℕ = now (a .1 .1 .1 .0) in
+    let b : BuildAnswer = buildCall m W C S .answer in
+    Told (buildRows W C S) (b .map .count ∷ b .map .root ∷ b .map .version ∷ []) (now (a .1 .1 .1 .1 .0)) (now (s .1 .1 .1 .1 .0)) r
+build-told κs a r s p = told _ true _ _ _ r (omega arith) (build-refusals _ _ _ _) _ _ _ p
 
--- `iset_remove`: value, count, root, then three pairs, old slot, new slot, and how many hulls
--- changed
+-- `iset_remove`: value, count, root, then three pairs, old slot, new slot, how many hulls changed,
+-- and the version
 pub remove-told : (κs : Lfts 3) (a : K.Dens κs remove-kinds.ps) (r : K.resT remove-kinds.r κs .Denot) (s : AtExit (K.endedOf 3 remove-kinds.ps remove-kinds.r) κs)
     → remove-reads.Post κs a r s
-    → let m : Map = mapOf (a .0) (a .1 .0) in
-    let W : List ℕ = now (a .1 .1 .0) in
-    let C : List ℕ = now (a .1 .1 .1 .0) in
-    let slot : ℕ = a .1 .1 .1 .1 .0 in
+    → let m : Map = mapAt (a .0) (a .1 .0) (a .1 .1 .0) in
+    let W : List ℕ = now (a .1 .1 .1 .0) in
+    let C : List ℕ = now (a .1 .1 .1 .1 .0) in
+    let slot : ℕ = a .1 .1 .1 .1 .1 .0 in
     let b : RemoveAnswer = removeCall m W C slot .answer in
     Told (removeRows m W C slot)
     (b .value ∷ b .map .count ∷ b .map .root
-    ∷ b .pairs .first .old ∷ b .pairs .first .new ∷ b .pairs .second .old ∷ b .pairs .second .new ∷ b .pairs .third .old ∷ b .pairs .third .new ∷ b .reach ∷ [])
-    (now (a .1 .1 .1 .1 .1 .0)) (now (s .1 .1 .1 .1 .1 .0)) r
+    ∷ b .pairs .first .old ∷ b .pairs .first .new ∷ b .pairs .second .old ∷ b .pairs .second .new ∷ b .pairs .third .old ∷ b .pairs .third .new
+    ∷ b .reach ∷ b .map .version ∷ [])
+    (now (a .1 .1 .1 .1 .1 .1 .0)) (now (s .1 .1 .1 .1 .1 .1 .0)) r
 remove-told κs a r s p = told _ true _ _ _ r (omega arith) (remove-refusals _ _ _ _) _ _ _ p
 
--- `iset_insert`: count, root, the new entry's slot, and how many hulls changed
+-- `iset_insert`: count, root, the new entry's slot, how many hulls changed, and the version
 pub insert-told : (κs : Lfts 3) (a : K.Dens κs insert-kinds.ps) (r : K.resT insert-kinds.r κs .Denot) (s : AtExit (K.endedOf 3 insert-kinds.ps insert-kinds.r) κs)
     → insert-reads.Post κs a r s
-    → let m : Map = mapOf (a .0) (a .1 .0) in
-    let W : List ℕ = now (a .1 .1 .0) in
-    let C : List ℕ = now (a .1 .1 .1 .0) in
-    let e : Entry = record { start = a .1 .1 .1 .1 .0; end = a .1 .1 .1 .1 .1 .0; value = a .1 .1 .1 .1 .1 .1 .0 } in
+    → let m : Map = mapAt (a .0) (a .1 .0) (a .1 .1 .0) in
+    let W : List ℕ = now (a .1 .1 .1 .0) in
+    let C : List ℕ = now (a .1 .1 .1 .1 .0) in
+    let e : Entry = record { start = a .1 .1 .1 .1 .1 .0; end = a .1 .1 .1 .1 .1 .1 .0; value = a .1 .1 .1 .1 .1 .1 .1 .0 } in
     let b : InsertAnswer = insertCall m W C e .answer in
-    Told (insertRows m W C e) (b .map .count ∷ b .map .root ∷ b .slot ∷ b .reach ∷ []) (now (a .1 .1 .1 .1 .1 .1 .1 .0)) (now (s .1 .1 .1 .1 .1 .1 .1 .0)) r
+    Told (insertRows m W C e) (b .map .count ∷ b .map .root ∷ b .slot ∷ b .reach ∷ b .map .version ∷ [])
+    (now (a .1 .1 .1 .1 .1 .1 .1 .1 .0)) (now (s .1 .1 .1 .1 .1 .1 .1 .1 .0)) r
 insert-told κs a r s p = told _ true _ _ _ r (omega arith) (insert-refusals _ _ _ _) _ _ _ p
+
+-- `iset_read`: start, end, value
+pub read-told : (κs : Lfts 3) (a : K.Dens κs read-kinds.ps) (r : K.resT read-kinds.r κs .Denot) (s : AtExit (K.endedOf 3 read-kinds.ps read-kinds.r) κs)
+    → read-reads.Post κs a r s
+    → let m : Map = mapAt (a .0) (a .1 .0) (a .1 .1 .0) in
+    let W : List ℕ = now (a .1 .1 .1 .0) in
+    let C : List ℕ = now (a .1 .1 .1 .1 .0) in
+    let t : Ticket = record { slot = a .1 .1 .1 .1 .1 .0; version = a .1 .1 .1 .1 .1 .1 .0 } in
+    let e : Entry = readCall m W C t .entry in
+    Told (readRows m W C t) (e .start ∷ e .end ∷ e .value ∷ []) (now (a .1 .1 .1 .1 .1 .1 .1 .0)) (now (s .1 .1 .1 .1 .1 .1 .1 .0)) r
+read-told κs a r s p = told _ true _ _ _ r (omega arith) (read-refusals _ _ _ _) _ _ _ p
 
 -- `iset_fresh`: slot, levels, bits: the root, one level, 00. It has no refusal but 101.
 pub fresh-told : (κs : Lfts 1) (a : K.Dens κs fresh-kinds.ps) (r : K.resT fresh-kinds.r κs .Denot) (s : AtExit (K.endedOf 1 fresh-kinds.ps fresh-kinds.r) κs)

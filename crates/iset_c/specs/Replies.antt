@@ -3,7 +3,7 @@
 -- lent slice.
 -- Letters: m map, W words, C colours, A places of the answer, a answer of the call, R reply,
 --   s step, p pairs, n number, b known (whether each bound has a kind), k effect or output,
---   l slices, S triples, e entry, x interval, q query, c cursor
+--   l slices, S triples, e entry, x interval, q query, c cursor, t ticket
 use mathlib.Core.Bool.{Bool, true, cond}
 use mathlib.Core.List.{List, [], _∷_}
 use Prim.Native.Nat.{ℕ}
@@ -25,7 +25,9 @@ use Rattle.iset.specs.Lookup.{StartAnswer, StepAnswer, DrainAnswer, startCall, 
 use Rattle.iset.specs.Tallies.{TallyAnswer}
 use Rattle.iset.specs.Plain.{plainCall}
 use Rattle.iset.specs.Find.{findAllCall}
+use Rattle.iset.specs.Ticket.{ReadAnswer, readCall}
 use Rattle.iset.specs.declared.Map.{Map}
+use Rattle.iset.specs.declared.ticket.Ticket.{Ticket}
 
 -- What a call answers: the refusal's number, 0 for none, and the numbers of its answer.
 pub record Reply : Type 0 where
@@ -78,9 +80,10 @@ outputExit reply b A out k = exitOf b A (reply (k .answer)) (out ∷ []) (k .out
 abbrev pub cursorOf : (slot levels bits : ℕ) → Cursor
 cursorOf slot levels bits = record { slot = slot; levels = levels; bits = bits }
 
--- a build: the new map
+-- a build: the new map. The version comes after the numbers that were there before it, here and in
+-- a removal and an insertion.
 abbrev pub mapNumbers : (map : Map) → List ℕ
-mapNumbers m = m .count ∷ m .root ∷ []
+mapNumbers m = m .count ∷ m .root ∷ m .version ∷ []
 
 abbrev pub buildReply : (answer : BuildAnswer) → Reply
 buildReply a = record { no = a .no; numbers = mapNumbers (a .map) }
@@ -90,7 +93,7 @@ buildReply a = record { no = a .no; numbers = mapNumbers (a .map) }
 abbrev pub removedNumbers : (value : ℕ) (map : Map) (pairs : Pairs) (reach : ℕ) → List ℕ
 removedNumbers value m p reach =
     value ∷ m .count ∷ m .root
-    ∷ p .first .old ∷ p .first .new ∷ p .second .old ∷ p .second .new ∷ p .third .old ∷ p .third .new ∷ reach ∷ []
+    ∷ p .first .old ∷ p .first .new ∷ p .second .old ∷ p .second .new ∷ p .third .old ∷ p .third .new ∷ reach ∷ m .version ∷ []
 
 -- the pairs among those numbers
 abbrev pub pairsOf : (places : List ℕ) → Pairs
@@ -106,10 +109,21 @@ removeReply a = record { no = a .no; numbers = removedNumbers (a .value) (a .map
 
 -- an insertion: the new map, the slot of the new entry, and how many hulls changed
 abbrev pub insertedNumbers : (map : Map) (slot reach : ℕ) → List ℕ
-insertedNumbers m slot reach = m .count ∷ m .root ∷ slot ∷ reach ∷ []
+insertedNumbers m slot reach = m .count ∷ m .root ∷ slot ∷ reach ∷ m .version ∷ []
 
 abbrev pub insertReply : (answer : InsertAnswer) → Reply
 insertReply a = record { no = a .no; numbers = insertedNumbers (a .map) (a .slot) (a .reach) }
+
+-- a reading through a ticket: start, end, value
+abbrev pub entryNumbers : (entry : Entry) → List ℕ
+entryNumbers e = e .start ∷ e .end ∷ e .value ∷ []
+
+abbrev pub readReply : (answer : ReadAnswer) → Reply
+readReply a = record { no = a .no; numbers = entryNumbers (a .entry) }
+
+-- the ticket of a slot and of the version at which it was taken
+abbrev pub ticketAt : (slot taken : ℕ) → Ticket
+ticketAt slot taken = record { slot = slot; version = taken }
 
 -- a cursor: slot, levels, bits
 abbrev pub cursorNumbers : (cursor : Cursor) → List ℕ
@@ -147,8 +161,8 @@ abbrev pub tallyReply : (answer : TallyAnswer) → Reply
 tallyReply a = record { no = a .no; numbers = tallyNumbers (a .hits) (a .entered) }
 
 -- the exports of the public calls
-abbrev pub buildExit : (places words colours triples : List ℕ) → Exit
-buildExit A W C S = effectExit buildReply A W C (buildCall W C S)
+abbrev pub buildExit : (places : List ℕ) (map : Map) (words colours triples : List ℕ) → Exit
+buildExit A m W C S = effectExit buildReply A W C (buildCall m W C S)
 
 abbrev pub removeExit : (places : List ℕ) (map : Map) (words colours : List ℕ) (slot : ℕ) → Exit
 removeExit A m W C slot = effectExit removeReply A W C (removeCall m W C slot)
@@ -156,6 +170,10 @@ removeExit A m W C slot = effectExit removeReply A W C (removeCall m W C slot)
 abbrev pub insertExit : (places : List ℕ) (map : Map) (words colours : List ℕ) (entry : Entry)
     → Exit
 insertExit A m W C e = effectExit insertReply A W C (insertCall m W C e)
+
+abbrev pub readExit : (places : List ℕ) (map : Map) (words colours : List ℕ) (ticket : Ticket)
+    → Exit
+readExit A m W C t = answerExit true A (readReply (readCall m W C t))
 
 abbrev pub startExit : (places : List ℕ) (map : Map) (words colours : List ℕ) (interval : Interval)
     → Exit

@@ -1,6 +1,7 @@
 // Writes the numbers of an answer, in the order that include/iset.h declares.
 use iset::Cursor;
 use iset::Drained;
+use iset::Entry;
 use iset::Map;
 use iset::Step;
 use iset::Tally;
@@ -14,7 +15,7 @@ ghost use Prim.Native.Nat.{_≤_};
 ghost use lib.ListN.{length};
 ghost use Rattle.iter.specs.Drains.{filled};
 ghost use Rattle.iset.specs.Tallies.{tallyAnswer};
-ghost use Rattle.iset_c.specs.Replies.{number, handed, tallyReply, mapNumbers, removedNumbers, insertedNumbers, cursorNumbers, stepNumbers, foundNumbers, drainNumbers, tallyNumbers};
+ghost use Rattle.iset_c.specs.Replies.{number, handed, tallyReply, mapNumbers, removedNumbers, insertedNumbers, entryNumbers, cursorNumbers, stepNumbers, foundNumbers, drainNumbers, tallyNumbers};
 
 // Writes the numbers to the front of the answer. Places past them are unchanged.
 pub(crate) fn put(numbers: &[u64], answer: &mut [u64])
@@ -29,15 +30,15 @@ pub(crate) fn put(numbers: &[u64], answer: &mut [u64])
 }
 
 pub(crate) fn put_map(m: Map, answer: &mut [u64])
-    requires { ⌜ 2 ≤ length (now answer) ⌝ }
+    requires { ⌜ 3 ≤ length (now answer) ⌝ }
     ensures { λ _. ⌜ now (answer .exit) ≡ filled (mapNumbers m) (now (answer .entry)) ⌝ }
 {
-    let numbers = [m.count, m.root];
+    let numbers = [m.count, m.root, m.version as u64];
     put(&numbers, answer);
 }
 
 pub fn put_removed(g: Removed, answer: &mut [u64])
-    requires { ⌜ 10 ≤ length (now answer) ⌝ }
+    requires { ⌜ 11 ≤ length (now answer) ⌝ }
     ensures { λ _. ⌜ now (answer .exit) ≡ filled (removedNumbers (g .value) (g .map) (g .pairs) (g .reach)) (now (answer .entry)) ⌝ }
 {
     let numbers = [
@@ -51,15 +52,30 @@ pub fn put_removed(g: Removed, answer: &mut [u64])
         g.pairs.third.old,
         g.pairs.third.new,
         g.reach,
+        g.map.version as u64,
     ];
     put(&numbers, answer);
 }
 
 pub fn put_inserted(a: Inserted, answer: &mut [u64])
-    requires { ⌜ 4 ≤ length (now answer) ⌝ }
+    requires { ⌜ 5 ≤ length (now answer) ⌝ }
     ensures { λ _. ⌜ now (answer .exit) ≡ filled (insertedNumbers (a .map) (a .slot) (a .reach)) (now (answer .entry)) ⌝ }
 {
-    let numbers = [a.map.count, a.map.root, a.slot, a.reach];
+    let numbers = [
+        a.map.count,
+        a.map.root,
+        a.slot,
+        a.reach,
+        a.map.version as u64,
+    ];
+    put(&numbers, answer);
+}
+
+pub fn put_entry(e: Entry, answer: &mut [u64])
+    requires { ⌜ 3 ≤ length (now answer) ⌝ }
+    ensures { λ _. ⌜ now (answer .exit) ≡ filled (entryNumbers e) (now (answer .entry)) ⌝ }
+{
+    let numbers = [e.start, e.end, e.value];
     put(&numbers, answer);
 }
 

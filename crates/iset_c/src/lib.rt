@@ -12,6 +12,7 @@ pub mod find;
 pub mod lookup;
 pub mod range;
 pub mod scan;
+pub mod ticket;
 
 use crate::answer::put_inserted;
 use crate::answer::put_map;
@@ -23,16 +24,18 @@ use iset::build::Built;
 use iset::insert::Insertion;
 use iset::remove::Removal;
 use iset::remove::Removed;
+use words::ix::U;
 ghost use mathlib.Core.Path.{_≡_};
 ghost use mathlib.Core.List.{[], _∷_};
 ghost use Rattle.iset.specs.Check.{checkRule};
 ghost use Rattle.iset.specs.Remove.{slotAfter};
 ghost use Rattle.iset.specs.Insert.{entryOf};
-ghost use Rattle.iset.specs.Maps.{mapOf};
+ghost use Rattle.iset.specs.Maps.{mapAt, mapOf};
+ghost use Rattle.words.specs.Ix.{U};
 ghost use Rattle.iset_c.specs.Replies.{exit, pairsOf, buildExit, removeExit, insertExit};
 
-// The exports' own refusals. Their numbers leave room for refusals that the map may get after the
-// ten of crate words.
+// The exports' own refusals. Their numbers leave room for refusals that the map may get after
+// those of crate words.
 pub const SHORT_ANSWER: u64 = 101;
 
 pub const BAD_BOUND: u64 = 102;
@@ -42,24 +45,36 @@ pub const BAD_BOUND: u64 = 102;
 pub extern "C" fn iset_check(count: u64, root: u64, nodes: &[u64], colours: &[u8]) -> u64
     ensures { λ r. ⌜ r ≡ checkRule (mapOf count root) (now (nodes .entry)) (now (colours .entry)) ⌝ }
 {
-    (Map { count, root }).check(nodes, colours).number()
+    let map = Map {
+        count,
+        root,
+        version: 0,
+    };
+    map.check(nodes, colours).number()
 }
 
-// Builds the map of a list of triples start, end, value. Answer: count, root.
+// Builds the map of a list of triples start, end, value, in the place of a map of the given
+// version. Answer: count, root, version.
 #[no_mangle]
 pub extern "C" fn iset_build(
+    version: u32,
     nodes: &mut [u64],
     colours: &mut [u8],
     list: &[u64],
     answer: &mut [u64],
 ) -> u64
     ensures { λ r. ⌜ exit r (now (answer .exit)) (now (nodes .exit) ∷ now (colours .exit) ∷ [])
-        ≡ buildExit (now (answer .entry)) (now (nodes .entry)) (now (colours .entry)) (now (list .entry)) ⌝ }
+        ≡ buildExit (now (answer .entry)) (mapAt 0 U version) (now (nodes .entry)) (now (colours .entry)) (now (list .entry)) ⌝ }
 {
-    if answer.len() < 2 {
+    if answer.len() < 3 {
         return SHORT_ANSWER;
     }
-    match Map::build(nodes, colours, list) {
+    let old = Map {
+        count: 0,
+        root: U,
+        version,
+    };
+    match old.build(nodes, colours, list) {
         Built::Refused(why) => why.number(),
         Built::Done(m) => {
             put_map(m, answer);
@@ -69,24 +84,30 @@ pub extern "C" fn iset_build(
 }
 
 // Removes the entry of a slot. Answer: value, count, root; the entries that moved, as three pairs
-// of an old slot and a new slot; how many hulls changed. A slot's hull is the least range that
-// holds all entries of its subtree.
+// of an old slot and a new slot; how many hulls changed; version. A slot's hull is the least range
+// that holds all entries of its subtree.
 #[no_mangle]
 pub extern "C" fn iset_remove(
     count: u64,
     root: u64,
+    version: u32,
     nodes: &mut [u64],
     colours: &mut [u8],
     slot: u64,
     answer: &mut [u64],
 ) -> u64
     ensures { λ r. ⌜ exit r (now (answer .exit)) (now (nodes .exit) ∷ now (colours .exit) ∷ [])
-        ≡ removeExit (now (answer .entry)) (mapOf count root) (now (nodes .entry)) (now (colours .entry)) slot ⌝ }
+        ≡ removeExit (now (answer .entry)) (mapAt count root version) (now (nodes .entry)) (now (colours .entry)) slot ⌝ }
 {
-    if answer.len() < 10 {
+    if answer.len() < 11 {
         return SHORT_ANSWER;
     }
-    match (Map { count, root }).remove(nodes, colours, slot) {
+    let map = Map {
+        count,
+        root,
+        version,
+    };
+    match map.remove(nodes, colours, slot) {
         Removal::Refused(why) => why.number(),
         Removal::Done(g) => {
             put_removed(g, answer);
@@ -98,13 +119,14 @@ pub extern "C" fn iset_remove(
 // Takes the answer of a removal of slot `removed`. Returns the slot of the entry that was in slot
 // `kept` before it, or U if `kept` is `removed`.
 #[no_mangle]
-pub extern "C" fn iset_slot_after(answer: &[u64; 10], removed: u64, kept: u64) -> u64
+pub extern "C" fn iset_slot_after(answer: &[u64; 11], removed: u64, kept: u64) -> u64
     ensures { λ r. ⌜ r ≡ slotAfter (pairsOf (now (answer .entry))) removed kept ⌝ }
 {
     let done = Removed {
         map: Map {
             count: answer[1],
             root: answer[2],
+            version: 0,
         },
         value: answer[0],
         pairs: Pairs {
@@ -127,11 +149,12 @@ pub extern "C" fn iset_slot_after(answer: &[u64; 10], removed: u64, kept: u64) -
 }
 
 // Adds an entry in slot `count`. No other entry changes slot. Answer: count, root, the entry's
-// slot, and how many hulls changed.
+// slot, how many hulls changed, version.
 #[no_mangle]
 pub extern "C" fn iset_insert(
     count: u64,
     root: u64,
+    version: u32,
     nodes: &mut [u64],
     colours: &mut [u8],
     start: u64,
@@ -140,12 +163,17 @@ pub extern "C" fn iset_insert(
     answer: &mut [u64],
 ) -> u64
     ensures { λ r. ⌜ exit r (now (answer .exit)) (now (nodes .exit) ∷ now (colours .exit) ∷ [])
-        ≡ insertExit (now (answer .entry)) (mapOf count root) (now (nodes .entry)) (now (colours .entry)) (entryOf start end value) ⌝ }
+        ≡ insertExit (now (answer .entry)) (mapAt count root version) (now (nodes .entry)) (now (colours .entry)) (entryOf start end value) ⌝ }
 {
-    if answer.len() < 4 {
+    if answer.len() < 5 {
         return SHORT_ANSWER;
     }
-    match (Map { count, root }).insert(nodes, colours, start, end, value) {
+    let map = Map {
+        count,
+        root,
+        version,
+    };
+    match map.insert(nodes, colours, start, end, value) {
         Insertion::Refused(why) => why.number(),
         Insertion::Done(a) => {
             put_inserted(a, answer);

@@ -34,7 +34,14 @@ pub extern "C" fn iset_fresh(count: u64, root: u64, answer: &mut [u64]) -> u64
     if answer.len() < 3 {
         return SHORT_ANSWER;
     }
-    put_cursor((Map { count, root }).fresh(), answer);
+    put_cursor(
+        (Map {
+            count,
+            root,
+            version: 0,
+        }).fresh(),
+        answer,
+    );
     0
 }
 
@@ -55,7 +62,11 @@ pub extern "C" fn iset_fresh_exact(
     if answer.len() < 3 {
         return SHORT_ANSWER;
     }
-    match (Map { count, root }).fresh_exact(nodes, colours, Interval { start, end }) {
+    match (Map {
+        count,
+        root,
+        version: 0,
+    }).fresh_exact(nodes, colours, Interval { start, end }) {
         Started::Refused(why) => why.number(),
         Started::Done(c) => {
             put_cursor(c, answer);
@@ -111,7 +122,11 @@ pub extern "C" fn iset_step(
     }
     if are_kinds(lo_kind, hi_kind) {
         step(
-            Map { count, root },
+            Map {
+                count,
+                root,
+                version: 0,
+            },
             nodes,
             colours,
             range(lo_kind, lo, hi_kind, hi),
@@ -144,7 +159,11 @@ pub extern "C" fn iset_step_exact(
         return SHORT_ANSWER;
     }
     step(
-        Map { count, root },
+        Map {
+            count,
+            root,
+            version: 0,
+        },
         nodes,
         colours,
         Query::Exact(Interval { start, end }),
@@ -205,7 +224,11 @@ pub extern "C" fn iset_drain(
     }
     if are_kinds(lo_kind, hi_kind) {
         drain(
-            Map { count, root },
+            Map {
+                count,
+                root,
+                version: 0,
+            },
             nodes,
             colours,
             range(lo_kind, lo, hi_kind, hi),
@@ -242,7 +265,11 @@ pub extern "C" fn iset_drain_exact(
         return SHORT_ANSWER;
     }
     drain(
-        Map { count, root },
+        Map {
+            count,
+            root,
+            version: 0,
+        },
         nodes,
         colours,
         Query::Exact(Interval { start, end }),

@@ -10,6 +10,8 @@ use Rattle.iset_c_open.proofs.iset_open_remove.Reads as remove-reads
 use Rattle.iset_c_open.proofs.iset_open_remove.Kinds as remove-kinds
 use Rattle.iset_c_open.proofs.iset_open_insert.Reads as insert-reads
 use Rattle.iset_c_open.proofs.iset_open_insert.Kinds as insert-kinds
+use Rattle.iset_c_open.proofs.ticket.iset_open_read.Reads as read-reads
+use Rattle.iset_c_open.proofs.ticket.iset_open_read.Kinds as read-kinds
 use Rattle.iset_c_open.proofs.lookup.iset_open_fresh_exact.Reads as fresh-exact-reads
 use Rattle.iset_c_open.proofs.lookup.iset_open_fresh_exact.Kinds as fresh-exact-kinds
 use Rattle.iset_c_open.proofs.lookup.iset_open_step.Reads as step-reads
@@ -36,9 +38,9 @@ pub remove-determined :
     (s s′ : AtExit (K.endedOf 3 remove-kinds.ps remove-kinds.r) κs)
     → remove-reads.Post κs a r s → remove-reads.Post κs a r′ s′
     → (r ≡ r′)
-    × (now (s .1 .1 .1 .1 .1 .0) ≡ now (s′ .1 .1 .1 .1 .1 .0))
-    × (now (s .1 .1 .0) ≡ now (s′ .1 .1 .0))
+    × (now (s .1 .1 .1 .1 .1 .1 .0) ≡ now (s′ .1 .1 .1 .1 .1 .1 .0))
     × (now (s .1 .1 .1 .0) ≡ now (s′ .1 .1 .1 .0))
+    × (now (s .1 .1 .1 .1 .0) ≡ now (s′ .1 .1 .1 .1 .0))
 remove-determined κs a r r′ s s′ p q = same-effect p q
 
 pub insert-determined :
@@ -46,10 +48,18 @@ pub insert-determined :
     (s s′ : AtExit (K.endedOf 3 insert-kinds.ps insert-kinds.r) κs)
     → insert-reads.Post κs a r s → insert-reads.Post κs a r′ s′
     → (r ≡ r′)
-    × (now (s .1 .1 .1 .1 .1 .1 .1 .0) ≡ now (s′ .1 .1 .1 .1 .1 .1 .1 .0))
-    × (now (s .1 .1 .0) ≡ now (s′ .1 .1 .0))
+    × (now (s .1 .1 .1 .1 .1 .1 .1 .1 .0) ≡ now (s′ .1 .1 .1 .1 .1 .1 .1 .1 .0))
     × (now (s .1 .1 .1 .0) ≡ now (s′ .1 .1 .1 .0))
+    × (now (s .1 .1 .1 .1 .0) ≡ now (s′ .1 .1 .1 .1 .0))
 insert-determined κs a r r′ s s′ p q = same-effect p q
+
+pub read-determined :
+    (κs : Lfts 3) (a : K.Dens κs read-kinds.ps) (r r′ : K.resT read-kinds.r κs .Denot)
+    (s s′ : AtExit (K.endedOf 3 read-kinds.ps read-kinds.r) κs)
+    → read-reads.Post κs a r s → read-reads.Post κs a r′ s′
+    → (r ≡ r′)
+    × (now (s .1 .1 .1 .1 .1 .1 .1 .0) ≡ now (s′ .1 .1 .1 .1 .1 .1 .1 .0))
+read-determined κs a r r′ s s′ p q = same-answer p q
 
 pub fresh-exact-determined :
     (κs : Lfts 3) (a : K.Dens κs fresh-exact-kinds.ps) (r r′ : K.resT fresh-exact-kinds.r κs .Denot)

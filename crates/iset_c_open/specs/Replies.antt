@@ -1,6 +1,6 @@
 -- What the exports of the calls on an opened store return and leave, in the form of crate iset_c's.
 -- Letters: m map, W words, C colours, A places of the answer, b known (whether each bound has a
---   kind), q query, c cursor, e entry, x interval
+--   kind), t ticket, q query, c cursor, e entry, x interval
 use mathlib.Core.Bool.{Bool, true}
 use mathlib.Core.List.{List}
 use Prim.Native.Nat.{ℕ}
@@ -13,8 +13,10 @@ use Rattle.iset.specs.Insert.{openInsertCall}
 use Rattle.iset.specs.Lookup.{openStartCall, openStepCall, openDrainCall}
 use Rattle.iset.specs.Plain.{openPlainCall}
 use Rattle.iset.specs.Find.{openFindAllCall}
+use Rattle.iset.specs.Ticket.{openReadCall}
 use Rattle.iset.specs.declared.Map.{Map}
-use Rattle.iset_c.specs.Replies.{Exit, answerExit, effectExit, outputExit, removeReply, insertReply, startReply, stepReply, drainReply, tallyReply}
+use Rattle.iset_c.specs.Replies.{Exit, answerExit, effectExit, outputExit, removeReply, insertReply, readReply, startReply, stepReply, drainReply, tallyReply}
+use Rattle.iset.specs.declared.ticket.Ticket.{Ticket}
 
 abbrev pub openRemoveExit : (places : List ℕ) (map : Map) (words colours : List ℕ) (slot : ℕ) → Exit
 openRemoveExit A m W C slot = effectExit removeReply A W C (openRemoveCall m W C slot)
@@ -22,6 +24,10 @@ openRemoveExit A m W C slot = effectExit removeReply A W C (openRemoveCall m W C
 abbrev pub openInsertExit : (places : List ℕ) (map : Map) (words colours : List ℕ) (entry : Entry)
     → Exit
 openInsertExit A m W C e = effectExit insertReply A W C (openInsertCall m W C e)
+
+abbrev pub openReadExit : (places : List ℕ) (map : Map) (words colours : List ℕ) (ticket : Ticket)
+    → Exit
+openReadExit A m W C t = answerExit true A (readReply (openReadCall m W C t))
 
 abbrev pub openStartExit : (places : List ℕ) (map : Map) (words colours : List ℕ)
     (interval : Interval) → Exit

@@ -4,6 +4,7 @@
 pub mod find;
 pub mod lookup;
 pub mod scan;
+pub mod ticket;
 
 use iset::Map;
 use iset::insert::Insertion;
@@ -14,29 +15,35 @@ use iset_c::answer::put_removed;
 ghost use mathlib.Core.Path.{_≡_};
 ghost use mathlib.Core.List.{[], _∷_};
 ghost use Rattle.iset.specs.Insert.{entryOf};
-ghost use Rattle.iset.specs.Maps.{mapOf};
+ghost use Rattle.iset.specs.Maps.{mapAt};
 ghost use Rattle.iset_c.specs.Replies.{exit};
 ghost use Rattle.iset_c_open.specs.Replies.{openRemoveExit, openInsertExit};
 
 // Removes the entry of a slot. Answer: value, count, root; the entries that moved, as three pairs
-// of an old slot and a new slot; how many hulls changed. A slot's hull is the least range that
-// holds all entries of its subtree.
+// of an old slot and a new slot; how many hulls changed; version. A slot's hull is the least range
+// that holds all entries of its subtree.
 #[no_mangle]
 pub extern "C" fn iset_open_remove(
     count: u64,
     root: u64,
+    version: u32,
     nodes: &mut [u64],
     colours: &mut [u8],
     slot: u64,
     answer: &mut [u64],
 ) -> u64
     ensures { λ r. ⌜ exit r (now (answer .exit)) (now (nodes .exit) ∷ now (colours .exit) ∷ [])
-        ≡ openRemoveExit (now (answer .entry)) (mapOf count root) (now (nodes .entry)) (now (colours .entry)) slot ⌝ }
+        ≡ openRemoveExit (now (answer .entry)) (mapAt count root version) (now (nodes .entry)) (now (colours .entry)) slot ⌝ }
 {
-    if answer.len() < 10 {
+    if answer.len() < 11 {
         return SHORT_ANSWER;
     }
-    match (Map { count, root }).open_remove(nodes, colours, slot) {
+    let map = Map {
+        count,
+        root,
+        version,
+    };
+    match map.open_remove(nodes, colours, slot) {
         Removal::Refused(why) => why.number(),
         Removal::Done(g) => {
             put_removed(g, answer);
@@ -46,11 +53,12 @@ pub extern "C" fn iset_open_remove(
 }
 
 // Adds an entry in slot `count`. No other entry changes slot. Answer: count, root, the entry's
-// slot, and how many hulls changed.
+// slot, how many hulls changed, version.
 #[no_mangle]
 pub extern "C" fn iset_open_insert(
     count: u64,
     root: u64,
+    version: u32,
     nodes: &mut [u64],
     colours: &mut [u8],
     start: u64,
@@ -59,12 +67,17 @@ pub extern "C" fn iset_open_insert(
     answer: &mut [u64],
 ) -> u64
     ensures { λ r. ⌜ exit r (now (answer .exit)) (now (nodes .exit) ∷ now (colours .exit) ∷ [])
-        ≡ openInsertExit (now (answer .entry)) (mapOf count root) (now (nodes .entry)) (now (colours .entry)) (entryOf start end value) ⌝ }
+        ≡ openInsertExit (now (answer .entry)) (mapAt count root version) (now (nodes .entry)) (now (colours .entry)) (entryOf start end value) ⌝ }
 {
-    if answer.len() < 4 {
+    if answer.len() < 5 {
         return SHORT_ANSWER;
     }
-    match (Map { count, root }).open_insert(nodes, colours, start, end, value) {
+    let map = Map {
+        count,
+        root,
+        version,
+    };
+    match map.open_insert(nodes, colours, start, end, value) {
         Insertion::Refused(why) => why.number(),
         Insertion::Done(a) => {
             put_inserted(a, answer);

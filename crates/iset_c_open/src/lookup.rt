@@ -42,7 +42,11 @@ pub extern "C" fn iset_open_fresh_exact(
     if answer.len() < 3 {
         return SHORT_ANSWER;
     }
-    match (Map { count, root }).open_fresh_exact(nodes, colours, Interval { start, end }) {
+    match (Map {
+        count,
+        root,
+        version: 0,
+    }).open_fresh_exact(nodes, colours, Interval { start, end }) {
         Started::Refused(why) => why.number(),
         Started::Done(c) => {
             put_cursor(c, answer);
@@ -98,7 +102,11 @@ pub extern "C" fn iset_open_step(
     }
     if are_kinds(lo_kind, hi_kind) {
         step(
-            Map { count, root },
+            Map {
+                count,
+                root,
+                version: 0,
+            },
             nodes,
             colours,
             range(lo_kind, lo, hi_kind, hi),
@@ -131,7 +139,11 @@ pub extern "C" fn iset_open_step_exact(
         return SHORT_ANSWER;
     }
     step(
-        Map { count, root },
+        Map {
+            count,
+            root,
+            version: 0,
+        },
         nodes,
         colours,
         Query::Exact(Interval { start, end }),
@@ -192,7 +204,11 @@ pub extern "C" fn iset_open_drain(
     }
     if are_kinds(lo_kind, hi_kind) {
         drain(
-            Map { count, root },
+            Map {
+                count,
+                root,
+                version: 0,
+            },
             nodes,
             colours,
             range(lo_kind, lo, hi_kind, hi),
@@ -229,7 +245,11 @@ pub extern "C" fn iset_open_drain_exact(
         return SHORT_ANSWER;
     }
     drain(
-        Map { count, root },
+        Map {
+            count,
+            root,
+            version: 0,
+        },
         nodes,
         colours,
         Query::Exact(Interval { start, end }),

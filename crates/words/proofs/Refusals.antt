@@ -1,24 +1,27 @@
 -- A refusal's number says which it is.
 use mathlib.Core.Path.{_≡_, refl}
-use Prim.Native.Nat.{ℕ, zero, suc, _<_}
+use mathlib.Core.Bool.{cond}
+use Prim.Native.Nat.{ℕ, _<_}
 use native.Mathlib.Omega.{arith}
+use lib.Dec.{eqb}
 use Rattle.words.specs.Refusals.{refusalNumber}
 use Rattle.words.specs.declared.refusal.Refusal.{Refusal}
-use Rattle.words.specs.declared.refusal.Refusal.the-variants.{NoRoom, Broken, NoSuch, BadRange, BadInterval, NotSorted, BadCursor, BadList, ShortOutput, BadBit}
+use Rattle.words.specs.declared.refusal.Refusal.the-variants.{NoRoom, Broken, NoSuch, BadRange, BadInterval, NotSorted, BadCursor, BadList, ShortOutput, BadBit, Stale}
 
--- the refusal of a number
+-- the refusal of a number, one test after the other
 abbrev pub refusalAt : ℕ → Refusal
-refusalAt zero = NoRoom
-refusalAt (suc zero) = NoRoom
-refusalAt (suc (suc zero)) = Broken
-refusalAt (suc (suc (suc zero))) = NoSuch
-refusalAt (suc (suc (suc (suc zero)))) = BadRange
-refusalAt (suc (suc (suc (suc (suc zero))))) = BadInterval
-refusalAt (suc (suc (suc (suc (suc (suc zero)))))) = NotSorted
-refusalAt (suc (suc (suc (suc (suc (suc (suc zero))))))) = BadCursor
-refusalAt (suc (suc (suc (suc (suc (suc (suc (suc zero)))))))) = BadList
-refusalAt (suc (suc (suc (suc (suc (suc (suc (suc (suc zero))))))))) = ShortOutput
-refusalAt (suc (suc (suc (suc (suc (suc (suc (suc (suc (suc n)))))))))) = BadBit
+refusalAt k =
+    cond (eqb k 2) Broken (
+    cond (eqb k 3) NoSuch (
+    cond (eqb k 4) BadRange (
+    cond (eqb k 5) BadInterval (
+    cond (eqb k 6) NotSorted (
+    cond (eqb k 7) BadCursor (
+    cond (eqb k 8) BadList (
+    cond (eqb k 9) ShortOutput (
+    cond (eqb k 10) BadBit (
+    cond (eqb k 11) Stale (
+    NoRoom))))))))))
 
 pub at-number : (y : Refusal) → refusalAt (refusalNumber y) ≡ y
 at-number NoRoom = refl
@@ -31,6 +34,7 @@ at-number BadCursor = refl
 at-number BadList = refl
 at-number ShortOutput = refl
 at-number BadBit = refl
+at-number Stale = refl
 
 pub number-pos : (y : Refusal) → 0 < refusalNumber y
 number-pos NoRoom = omega arith
@@ -43,3 +47,4 @@ number-pos BadCursor = omega arith
 number-pos BadList = omega arith
 number-pos ShortOutput = omega arith
 number-pos BadBit = omega arith
+number-pos Stale = omega arith

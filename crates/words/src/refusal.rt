@@ -2,7 +2,7 @@
 ghost use mathlib.Core.Path.{_≡_};
 ghost use Rattle.words.specs.Refusals.{refusalNumber};
 
-// The ten refusals, in the order of their numbers.
+// The refusals, in the order of their numbers.
 pub enum Refusal {
     NoRoom,
     Broken,
@@ -14,10 +14,11 @@ pub enum Refusal {
     BadList,
     ShortOutput,
     BadBit,
+    Stale,
 }
 
 impl Refusal {
-    // Returns the refusal's number, from 1 to 10. The number 0 means: not refused.
+    // Returns the refusal's number, from 1 to 11. The number 0 means: not refused.
     pub fn number(self) -> u64
         ensures { λ r. ⌜ r ≡ refusalNumber self ⌝ }
     {
@@ -32,6 +33,7 @@ impl Refusal {
             Refusal::BadList => 8,
             Refusal::ShortOutput => 9,
             Refusal::BadBit => 10,
+            Refusal::Stale => 11,
         }
     }
 }

@@ -1,4 +1,3 @@
-use Prim.Native.Nat.{ℕ}
 use Rattle.words.proofs.Refusals.{number-pos}
 use Rattle.iset.specs.Build.{buildAnswer}
 use Rattle.iset_c.specs.Replies.{buildReply}
@@ -19,8 +18,8 @@ iset-build-spec =
     (λ c κs. search needs)
     (λ c. search needs)
     (λ c. search needs)
-    (λ c. search (refused-effect (λ (g : ℕ). buildAnswer) buildReply 0, number-pos))
+    (λ c. search (refused-effect buildAnswer buildReply, number-pos))
     (λ c. search needs)
     (λ c. search needs)
     (λ c. search needs)
-    (λ c. search (done-effect (λ (g : ℕ). buildAnswer) buildReply 0)))
+    (λ c. search (done-effect buildAnswer buildReply)))

@@ -13,6 +13,7 @@ build-spec =
     (λ c. search needs)
     (λ c. search needs)
     (λ c κs. (search built-few, search built-list, search built-words, search built-bytes))
+    (λ c κs. search needs)
     (λ c. search needs)
     (λ c. search needs)
     (λ c. search (let-through, done-build))

@@ -5,4 +5,4 @@ use Rattle.iset.proofs.Map.insert_entry.Tie as tie
 
 pub insert-entry-spec : {M : Type 1} → statement M
 insert-entry-spec =
-    tie.close (tie.spec (λ c κs. search needs) (λ c. search needs) (λ c. search needs) (λ c. search needs) (λ c. search inserted-entry))
+    tie.close (tie.spec (λ c κs. search needs) (λ c. search needs) (λ c κs. search needs) (λ c. search needs) (λ c. search needs) (λ c. search inserted-entry))

@@ -1,0 +1,50 @@
+-- The version after one call: raised if the call is accepted, left if it is refused. On any words.
+use mathlib.Core.Path.{_≡_, refl}
+use mathlib.Core.Bool.{Bool, true, false, cond}
+use mathlib.Core.List.{List}
+use Prim.Native.Nat.{ℕ}
+use lib.ListN.{length}
+use lib.Dec.{eqb}
+use Rattle.words.specs.declared.node.Entry.{Entry}
+use Rattle.iset.specs.Effects.{Effect, effect}
+use Rattle.iset.specs.Maps.{raised}
+use Rattle.iset.specs.Build.{buildNumber, BuildAnswer, refusedBuild, buildList, buildCall}
+use Rattle.iset.specs.Remove.{removeNumber, RemoveAnswer, refusedRemoval, removeSlot, removeCall}
+use Rattle.iset.specs.Insert.{insertNumber, InsertAnswer, refusedInsertion, insertEntry, insertCall}
+use Rattle.iset.specs.Versions.{versionAfter}
+use Rattle.iset.specs.declared.Map.{Map}
+use Rattle.iset.proofs.Refusals.{build-no, remove-no, insert-no}
+
+-- by the number k of the call
+by-number : {A : Type 0} (version : A → ℕ) (v k : ℕ) (x y : A) → version x ≡ raised v → version y ≡ v
+    → version (cond (eqb k 0) x y) ≡ cond (eqb k 0) (raised v) v
+by-number version v k x y p q = go (eqb k 0)
+  where
+    go : (t : Bool) → version (cond t x y) ≡ cond t (raised v) v
+    go true = p
+    go false = q
+
+module _ (m : Map) (W C : List ℕ) where
+  pub build-version : (l : List ℕ)
+      → buildCall m W C l .answer .map .version ≡ versionAfter m (buildCall m W C l .answer .no)
+  unfolding buildCall
+  build-version l =
+      rw (build-no m W C l)
+      (by-number (λ (c : Effect BuildAnswer). c .answer .map .version) (m .version) (buildNumber (length W) (length C) l) (buildList m W C l)
+      (effect (refusedBuild m (buildNumber (length W) (length C) l)) W C) refl refl)
+
+  pub remove-version : (s : ℕ)
+      → removeCall m W C s .answer .map .version ≡ versionAfter m (removeCall m W C s .answer .no)
+  unfolding removeCall
+  remove-version s =
+      rw (remove-no m W C s)
+      (by-number (λ (c : Effect RemoveAnswer). c .answer .map .version) (m .version) (removeNumber m W C s) (removeSlot m W C s)
+      (effect (refusedRemoval m (removeNumber m W C s)) W C) refl refl)
+
+  pub insert-version : (e : Entry)
+      → insertCall m W C e .answer .map .version ≡ versionAfter m (insertCall m W C e .answer .no)
+  unfolding insertCall
+  insert-version e =
+      rw (insert-no m W C e)
+      (by-number (λ (c : Effect InsertAnswer). c .answer .map .version) (m .version) (insertNumber m W C e) (insertEntry m W C e)
+      (effect (refusedInsertion m (insertNumber m W C e)) W C) refl refl)
