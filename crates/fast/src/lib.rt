@@ -5,7 +5,7 @@
 // there.
 use iter::rules::Query;
 use iter::rules::find_index;
-use iter::rules::goes;
+use iter::rules::goes_exact;
 use iter::rules::matches;
 use plain::Tally;
 use words::interval::Bound;
@@ -106,13 +106,7 @@ fn is_toward(nodes: &[u64], count: u64, start: u64, end: u64, slot: u64, left_si
     requires { ⌜ Holds (now nodes) count × (slot < count) ⌝ }
     ensures { λ r. ⌜ r ≡ shouldGoExact (now (nodes .entry)) count (record { start = start; end = end }) «left_side» slot ⌝ }
 {
-    goes(
-        nodes,
-        count,
-        Query::Exact(Interval { start, end }),
-        slot,
-        left_side,
-    )
+    goes_exact(nodes, count, Interval { start, end }, slot, left_side)
 }
 
 fn is_equal(nodes: &[u64], count: u64, start: u64, end: u64, slot: u64) -> bool

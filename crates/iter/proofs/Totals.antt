@@ -156,8 +156,7 @@ module _ (W : List ℕ) (n : ℕ) (Q : Rules) (small : n ≤ 65535) where
   one-move : (c : Cursor) → c .slot < n → Placed n c → (live n (move W Q c) + counts n c ≤ live n c)
   unfolding enters
   one-move c h p =
-      let (some, few) = p h in
-      rw (lt-ltb (c .slot) n h) (omega (arith, live-most n (move W Q c), ahead-move W Q c some few))
+      rw (lt-ltb (c .slot) n h) (omega (arith, live-most n (move W Q c), ahead-move W Q c (p h .0) (p h .1)))
 
   counts-most : (c : Cursor) → Placed n c → counts n c ≤ live n c
   unfolding enters
@@ -174,7 +173,7 @@ module _ (W : List ℕ) (n : ℕ) (Q : Rules) (small : n ≤ 65535) where
   unfolding seek
   seek-most zero e c p = rw end-none (omega (arith, counts-most c p))
   seek-most (suc f) e c p =
-      go (ltb (c .slot) n) refl (hits n Q (move W Q c)) (λ h. seek-most f (e + counts n (move W Q c)) (move W Q c) (move-placed W Q n c small (p h .0) (p h .1) (move W Q c) refl))
+      go (ltb (c .slot) n) refl (hits n Q (move W Q c)) (λ h. seek-most f (e + counts n (move W Q c)) (move W Q c) (move-placed W Q n c small (p h) (move W Q c) refl))
     where
       go : (t : Bool) → ltb (c .slot) n ≡ t → (b : Bool)
           → (c .slot < n → seek W n Q f (e + counts n (move W Q c)) (move W Q c) .entered

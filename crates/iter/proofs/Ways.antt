@@ -2,15 +2,17 @@
 use mathlib.Core.Path.{_≡_, refl, sym, _∙_}
 use mathlib.Core.Bool.{Bool, true, false, cond, _&&_}
 use mathlib.Core.List.{List}
-use Prim.Native.Nat.{ℕ, zero, suc, _-_, _/_, _^_, _<_, _≤_}
+use Prim.Native.Nat.{ℕ, zero, suc, _+_, _-_, _*_, _/_, _^_, _<_, _≤_}
 use native.Mathlib.Omega.{arith}
+use native.Mathlib.Nat.{lt-div-mul-add}
 use lib.Dec.{eqb, ltb, leb}
 use borrow.Author.Tests.{lt-ltb, le-ltb, le-leb, lt-leb, leb-true, eqb-true}
 use Rattle.words.specs.Ix.{U}
 use Rattle.words.specs.Nodes.{par}
 use Rattle.stack.specs.States.{stateAt}
+use Rattle.stack.proofs.Levels.{four}
 use Rattle.iter.specs.Forms.{same, onSide, formed, heldForm, formOf}
-use Rattle.iter.specs.Places.{Placed}
+use Rattle.iter.specs.Places.{Levelled, Placed}
 use Rattle.iter.specs.declared.Cursor.{Cursor}
 use Rattle.iter.specs.declared.Form.{Form}
 use Rattle.iter.specs.declared.Form.the-variants.{Fresh, Held, Ended, Bad}
@@ -62,6 +64,14 @@ module _ (l : ℕ) (b : Bool) where
       let o : 1 ≤ l = omega arith in
       rw (lt-ltb s n h, le-leb 1 l o, le-leb l 32 i) e
 
+-- if 10 is all that there is from the top level's bits up, there is no bit above the levels
+top-low : (x l : ℕ) → 1 ≤ l → x / 4 ^ (l - 1) ≡ 1 → x < 4 ^ l
+top-low x l h e =
+    let u : suc (l - 1) ≡ l = omega arith in
+    let w : x < x / 4 ^ (l - 1) * 4 ^ (l - 1) + 4 ^ (l - 1) = lt-div-mul-add (four (l - 1) .1) in
+    let y : x < 4 ^ suc (l - 1) = omega (arith, four (l - 1), rw e at w) in
+    rw u at y
+
 -- a cursor that has a form is fit for a step
 module _ (W : List ℕ) (n k : ℕ) (c : Cursor) (f : Form) (e : f ≡ formOf W n k c) where
   pub form-placed : (f ≡ Bad → ⊥) → n ≤ 65535 → Placed n c
@@ -70,18 +80,24 @@ module _ (W : List ℕ) (n k : ℕ) (c : Cursor) (f : Form) (e : f ≡ formOf W 
     where
       go : (a b d : Bool) → same k 1 0 c ≡ a → same U 0 0 c ≡ b → heldForm W n k c ≡ d → (cond a Fresh (cond b Ended (cond d Held Bad)) ≡ Bad → ⊥) → Placed n c
       go true b d i j l q =
-          λ h. let o : c .levels ≡ 1 = eqb-true (c .levels) 1 (and-left (eqb (c .levels) 1) (eqb (c .bits) 0) (and-right (eqb (c .slot) k) (eqb (c .levels) 1 && eqb (c .bits) 0) i)) in
-          (omega arith, omega arith)
+          λ h. let x : (eqb (c .levels) 1 && eqb (c .bits) 0) ≡ true = and-right (eqb (c .slot) k) (eqb (c .levels) 1 && eqb (c .bits) 0) i in
+          let o : c .levels ≡ 1 = eqb-true (c .levels) 1 (and-left (eqb (c .levels) 1) (eqb (c .bits) 0) x) in
+          let z : c .bits ≡ 0 = eqb-true (c .bits) 0 (and-right (eqb (c .levels) 1) (eqb (c .bits) 0) x) in
+          (omega arith, omega arith, rw (o, z) (omega arith))
       go false true d i j l q =
           λ h. let o : c .slot ≡ U = eqb-true (c .slot) U (and-left (eqb (c .slot) U) (eqb (c .levels) 0 && eqb (c .bits) 0) j) in
           absurd (omega arith)
       go false false true i j l q = λ h. held-levels l
         where
-          held-levels : heldForm W n k c ≡ true → (1 ≤ c .levels) × (c .levels ≤ 32)
+          held-levels : heldForm W n k c ≡ true → Levelled c
           held-levels l =
               let rest : Bool = eqb (c .bits / 4 ^ (c .levels - 1)) 1 && formed W n k (c .bits) (c .levels - 1) (c .slot) in
-              let x : (leb 1 (c .levels) && (leb (c .levels) 32 && rest)) ≡ true = and-right (ltb (c .slot) n) (leb 1 (c .levels) && (leb (c .levels) 32 && rest)) l in (
-                leb-true 1 (c .levels) (and-left (leb 1 (c .levels)) (leb (c .levels) 32 && rest) x),
-                leb-true (c .levels) 32 (and-left (leb (c .levels) 32) rest (and-right (leb 1 (c .levels)) (leb (c .levels) 32 && rest) x)),
+              let x : (leb 1 (c .levels) && (leb (c .levels) 32 && rest)) ≡ true = and-right (ltb (c .slot) n) (leb 1 (c .levels) && (leb (c .levels) 32 && rest)) l in
+              let y : (leb (c .levels) 32 && rest) ≡ true = and-right (leb 1 (c .levels)) (leb (c .levels) 32 && rest) x in
+              let some : 1 ≤ c .levels = leb-true 1 (c .levels) (and-left (leb 1 (c .levels)) (leb (c .levels) 32 && rest) x) in
+              let top : c .bits / 4 ^ (c .levels - 1) ≡ 1 = eqb-true (c .bits / 4 ^ (c .levels - 1)) 1 (and-left (eqb (c .bits / 4 ^ (c .levels - 1)) 1) (formed W n k (c .bits) (c .levels - 1) (c .slot)) (and-right (leb (c .levels) 32) rest y)) in (
+                some,
+                leb-true (c .levels) 32 (and-left (leb (c .levels) 32) rest y),
+                top-low (c .bits) (c .levels) some top,
               )
       go false false false i j l q = absurd (q refl)

@@ -7,5 +7,6 @@ pub mod Forms
 pub mod Overlap
 pub mod Exact
 pub mod Queries
+pub mod Limits
 pub mod Places
 pub mod Answers

@@ -1,12 +1,14 @@
 // The drain: it makes steps until the end or a limit of hits.
 use crate::Cursor;
 use crate::rules::Query;
+use crate::rules::Tests;
 use crate::seek::Step;
 ghost use mathlib.Core.Path.{_≡_};
 ghost use Prim.Native.Nat.{_≤_};
 ghost use lib.ListN.{length};
 ghost use Rattle.iter.specs.Drains.{drain, filled};
 ghost use Rattle.iter.specs.Queries.{rules};
+ghost use Rattle.iter.specs.Limits.{asked};
 ghost use Rattle.iter.specs.Places.{Placed};
 ghost use Rattle.iter.specs.Answers.{summary};
 ghost use Rattle.words.specs.Nodes.{Holds};
@@ -23,24 +25,24 @@ impl Cursor {
     // Writes the slots of at most `limit` hits. The sum of the nodes entered fits a number,
     // whatever the words of the store are: with at most 32 levels, a walk has no more than 2^32
     // ways down.
-    pub fn drain(
+    fn drain_by(
         self,
         nodes: &[u64],
         count: u64,
-        query: Query,
+        tests: Tests,
         limit: u64,
         out: &mut [u64],
     ) -> Drained
         requires { ⌜ Holds (now nodes) count × (count ≤ 65535) × (limit ≤ length (now out)) × Placed count self ⌝ }
-        ensures { λ r. ⌜ (r ≡ summary (drain (now (nodes .entry)) count (rules (now (nodes .entry)) count query) limit self))
+        ensures { λ r. ⌜ (r ≡ summary (drain (now (nodes .entry)) count (rules (now (nodes .entry)) count (asked tests)) limit self))
             × (now (out .exit)
-            ≡ filled (drain (now (nodes .entry)) count (rules (now (nodes .entry)) count query) limit self .slots) (now (out .entry))) ⌝ }
+            ≡ filled (drain (now (nodes .entry)) count (rules (now (nodes .entry)) count (asked tests)) limit self .slots) (now (out .entry))) ⌝ }
     {
         let mut cursor = self;
         let mut hits: u64 = 0;
         let mut entered: u64 = 0;
         while hits < limit {
-            let step = cursor.step(nodes, count, query);
+            let step = cursor.step(nodes, count, tests);
             entered += step.entered();
             let Step::Hit(next, _) = step else {
                 return Drained {
@@ -58,5 +60,21 @@ impl Cursor {
             entered,
             next: cursor,
         }
+    }
+
+    pub fn drain(
+        self,
+        nodes: &[u64],
+        count: u64,
+        query: Query,
+        limit: u64,
+        out: &mut [u64],
+    ) -> Drained
+        requires { ⌜ Holds (now nodes) count × (count ≤ 65535) × (limit ≤ length (now out)) × Placed count self ⌝ }
+        ensures { λ r. ⌜ (r ≡ summary (drain (now (nodes .entry)) count (rules (now (nodes .entry)) count query) limit self))
+            × (now (out .exit)
+            ≡ filled (drain (now (nodes .entry)) count (rules (now (nodes .entry)) count query) limit self .slots) (now (out .entry))) ⌝ }
+    {
+        self.drain_by(nodes, count, Tests::new(query), limit, out)
     }
 }

@@ -1,7 +1,9 @@
 // Lookups: a port of src/iter.rs. A cursor is the place of a walk: the slot that the walk is at,
 // and its stack.
 pub mod drain;
+pub mod exact;
 pub mod forms;
+pub mod limits;
 pub mod rules;
 pub mod seek;
 pub mod walk;

@@ -1,21 +1,24 @@
 // The rules of a walk: which children it visits, and which entries it looks for.
-use words::interval::Bound;
+use crate::limits::Limits;
 use words::interval::Interval;
 use words::interval::Span;
 use words::ix::Link;
 use words::ix::U;
 use words::node::child_of;
+use words::node::end_of;
 use words::node::hull_at;
 use words::node::hull_end_of;
 use words::node::hull_start_of;
 use words::node::interval_of;
+use words::node::start_of;
 ghost use mathlib.Core.Path.{_≡_};
 ghost use mathlib.Core.Bool.{true, false};
 ghost use Prim.Native.Nat.{_<_};
-ghost use Rattle.iter.specs.Overlap.{shouldGoLeft, shouldGoRight, shouldGo};
-ghost use Rattle.iter.specs.Exact.{shouldGoExact, find, findFrom};
+ghost use Rattle.iter.specs.Overlap.{shouldGoLeft, shouldGoRight, shouldGo, meets};
+ghost use Rattle.iter.specs.Exact.{shouldGoExact, equals, findFrom};
+ghost use Rattle.iter.specs.Limits.{spanOf, testsOf};
 ghost use Rattle.iter.specs.Queries.{rules};
-ghost use Rattle.words.specs.Nodes.{Holds};
+ghost use Rattle.words.specs.Nodes.{Has, Holds};
 
 // What is looked for: the entries that intersect a range, or those equal to an interval.
 pub enum Query {
@@ -23,26 +26,43 @@ pub enum Query {
     Exact(Interval),
 }
 
+// A query with its range as plain numbers. A lookup has one made of its query before its first move.
+pub enum Tests {
+    Within(Limits),
+    Equal(Interval),
+}
+
+impl Tests {
+    pub fn new(query: Query) -> Tests
+        ensures { λ r. ⌜ r ≡ testsOf query ⌝ }
+    {
+        match query {
+            Query::Overlap(range) => Tests::Within(Limits::new(range)),
+            Query::Exact(x) => Tests::Equal(x),
+        }
+    }
+}
+
 // Whether the walk goes left: an entry there may end at the lower bound or past it.
-fn should_go_left(nodes: &[u64], count: u64, index: u64, lo: Bound) -> bool
+fn should_go_left(nodes: &[u64], count: u64, index: u64, limits: Limits) -> bool
     requires { ⌜ Holds (now nodes) count × (index < count) ⌝ }
-    ensures { λ r. ⌜ r ≡ shouldGoLeft (now (nodes .entry)) count lo index ⌝ }
+    ensures { λ r. ⌜ r ≡ shouldGoLeft (now (nodes .entry)) count (spanOf limits .lo) index ⌝ }
 {
     let Link::Slot(left) = Link::new(child_of(nodes, index, true), count) else {
         return false;
     };
-    lo.reached_by(hull_end_of(nodes, left))
+    limits.reached_by(hull_end_of(nodes, left))
 }
 
 // Whether the walk goes right: the upper bound admits the least start there.
-fn should_go_right(nodes: &[u64], count: u64, index: u64, hi: Bound) -> bool
+fn should_go_right(nodes: &[u64], count: u64, index: u64, limits: Limits) -> bool
     requires { ⌜ Holds (now nodes) count × (index < count) ⌝ }
-    ensures { λ r. ⌜ r ≡ shouldGoRight (now (nodes .entry)) count hi index ⌝ }
+    ensures { λ r. ⌜ r ≡ shouldGoRight (now (nodes .entry)) count (spanOf limits .hi) index ⌝ }
 {
     let Link::Slot(right) = Link::new(child_of(nodes, index, false), count) else {
         return false;
     };
-    hi.admits_start(hull_start_of(nodes, right))
+    limits.admits_start(hull_start_of(nodes, right))
 }
 
 fn should_go_left_exact(nodes: &[u64], count: u64, index: u64, query: Interval) -> bool
@@ -65,20 +85,20 @@ fn should_go_right_exact(nodes: &[u64], count: u64, index: u64, query: Interval)
     interval_of(nodes, index).le(query) & hull_at(nodes, right).contains(query)
 }
 
-fn goes_overlap(nodes: &[u64], count: u64, index: u64, range: Span, left_side: bool) -> bool
+// Whether the walk goes to the left child of the slot `index`, or to the right one if `left_side`
+// is false.
+pub fn goes_overlap(nodes: &[u64], count: u64, limits: Limits, index: u64, left_side: bool) -> bool
     requires { ⌜ Holds (now nodes) count × (index < count) ⌝ }
-    ensures { λ r. ⌜ r ≡ shouldGo (now (nodes .entry)) count range «left_side» index ⌝ }
+    ensures { λ r. ⌜ r ≡ shouldGo (now (nodes .entry)) count (spanOf limits) «left_side» index ⌝ }
 {
-    let lo = range.lo;
-    let hi = range.hi;
     if left_side {
-        should_go_left(nodes, count, index, lo)
+        should_go_left(nodes, count, index, limits)
     } else {
-        should_go_right(nodes, count, index, hi)
+        should_go_right(nodes, count, index, limits)
     }
 }
 
-fn goes_exact(nodes: &[u64], count: u64, index: u64, query: Interval, left_side: bool) -> bool
+pub fn goes_exact(nodes: &[u64], count: u64, query: Interval, index: u64, left_side: bool) -> bool
     requires { ⌜ Holds (now nodes) count × (index < count) ⌝ }
     ensures { λ r. ⌜ r ≡ shouldGoExact (now (nodes .entry)) count query «left_side» index ⌝ }
 {
@@ -89,19 +109,22 @@ fn goes_exact(nodes: &[u64], count: u64, index: u64, query: Interval, left_side:
     }
 }
 
-// Whether the walk goes to the left child of the slot `index`, or to the right one if `left_side`
-// is false.
-pub fn goes(nodes: &[u64], count: u64, query: Query, index: u64, left_side: bool) -> bool
-    requires { ⌜ Holds (now nodes) count × (index < count) ⌝ }
-    ensures { λ r. ⌜ r ≡ rules (now (nodes .entry)) count query .go «left_side» index ⌝ }
+// Whether the entry of the slot `index` is looked for.
+pub fn is_within(nodes: &[u64], limits: Limits, index: u64) -> bool
+    requires { ⌜ Has (now nodes) index ⌝ }
+    ensures { λ r. ⌜ r ≡ meets (now (nodes .entry)) (spanOf limits) index ⌝ }
 {
-    match query {
-        Query::Overlap(range) => goes_overlap(nodes, count, index, range, left_side),
-        Query::Exact(x) => goes_exact(nodes, count, index, x, left_side),
-    }
+    limits.passed_by(end_of(nodes, index)) & limits.admits_start(start_of(nodes, index))
 }
 
-// Whether the query looks for the entry of the slot `index`.
+pub fn is_equal(nodes: &[u64], query: Interval, index: u64) -> bool
+    requires { ⌜ Has (now nodes) index ⌝ }
+    ensures { λ r. ⌜ r ≡ equals (now (nodes .entry)) query index ⌝ }
+{
+    interval_of(nodes, index).eq(query)
+}
+
+// The same by a query.
 pub fn matches(nodes: &[u64], count: u64, query: Query, index: u64) -> bool
     requires { ⌜ Holds (now nodes) count × (index < count) ⌝ }
     ensures { λ r. ⌜ r ≡ rules (now (nodes .entry)) count query .match index ⌝ }
@@ -113,35 +136,24 @@ pub fn matches(nodes: &[u64], count: u64, query: Query, index: u64) -> bool
     }
 }
 
-// Returns the highest node equal to the query in the subtree at a link, at most `height` nodes
-// down. Returns U, the undefined link, if there is none.
-fn find_below(nodes: &[u64], count: u64, query: Interval, link: u64, height: u64) -> u64
-    requires { ⌜ Holds (now nodes) count ⌝ }
-    ensures { λ r. ⌜ r ≡ find (now (nodes .entry)) count query height link ⌝ }
-{
-    if height == 0 {
-        return U;
-    }
-    if count <= link {
-        return U;
-    }
-    let own = interval_of(nodes, link);
-    if own.eq(query) {
-        return link;
-    }
-    find_below(
-        nodes,
-        count,
-        query,
-        child_of(nodes, link, query.le(own)),
-        height - 1,
-    )
-}
-
-// Returns the slot where an exact lookup starts, or U if it finds none.
+// Returns the slot where an exact lookup starts: the highest node equal to the query. Returns U, the
+// undefined link, if there is none at most 32 nodes down.
 pub fn find_index(nodes: &[u64], count: u64, query: Interval, root: u64) -> u64
     requires { ⌜ Holds (now nodes) count ⌝ }
     ensures { λ r. ⌜ r ≡ findFrom (now (nodes .entry)) count query root ⌝ }
 {
-    find_below(nodes, count, query, root, 32)
+    let mut at = root;
+    let mut height: u64 = 32;
+    while height > 0 {
+        if count <= at {
+            return U;
+        }
+        let own = interval_of(nodes, at);
+        if own.eq(query) {
+            return at;
+        }
+        at = child_of(nodes, at, query.le(own));
+        height -= 1;
+    }
+    U
 }

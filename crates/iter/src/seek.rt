@@ -1,12 +1,16 @@
 // The step: the walk until a hit or the end.
 use crate::Cursor;
-use crate::rules::Query;
+use crate::limits::Limits;
+use crate::rules::Tests;
+use crate::walk::Place;
 ghost use mathlib.Core.Path.{_≡_};
 ghost use Prim.Native.Nat.{_*_, _≤_};
 ghost use lib.Dec.{ltb};
 ghost use Rattle.iter.specs.Walk.{seek, step, fuel};
 ghost use Rattle.iter.specs.Queries.{rules};
-ghost use Rattle.iter.specs.Places.{Placed};
+ghost use Rattle.iter.specs.Limits.{spanOf, asked};
+ghost use Rattle.iter.specs.Overlap.{overlap};
+ghost use Rattle.iter.specs.Places.{Placed, Known};
 ghost use Rattle.iter.specs.Answers.{answer, isHit};
 ghost use Rattle.words.specs.Nodes.{Holds};
 
@@ -29,37 +33,44 @@ impl Step {
     }
 }
 
-impl Cursor {
-    // Moves until a hit or the end. `before` is how many nodes were entered so far. The Rust's
-    // `move_to_next_exact` is this function with an exact query.
-    fn move_to_next(self, nodes: &[u64], count: u64, query: Query, before: u64) -> Step
-        requires { ⌜ Holds (now nodes) count × (count ≤ 65535) × Placed count self × (before ≤ 1) ⌝ }
-        ensures { λ r. ⌜ (answer r ≡ seek (now (nodes .entry)) count (rules (now (nodes .entry)) count query) (fuel count) before self)
+impl Place {
+    // Moves until a hit or the end. `before` is how many nodes were entered so far.
+    fn move_to_next(self, nodes: &[u64], count: u64, limits: Limits, before: u64) -> Step
+        requires { ⌜ Holds (now nodes) count × (count ≤ 65535) × Placed count (self .cursor) × Known count self × (before ≤ 1) ⌝ }
+        ensures { λ r. ⌜ (answer r ≡ seek (now (nodes .entry)) count (overlap (now (nodes .entry)) count (spanOf limits)) (fuel count) before (self .cursor))
             × (isHit r ≡ ltb (answer r .slot) count) ⌝ }
     {
-        let mut cursor = self;
+        let mut place = self;
         let mut entered = before;
         let mut moves = count * 4 + 1;
         while moves > 0 {
-            if count <= cursor.slot {
+            if count <= place.cursor.slot {
                 return Step::End(entered);
             }
-            let next = cursor.walk(nodes, count, query);
-            if next.is_hit(nodes, count, query) {
-                return Step::Hit(next, entered);
+            let next = place.walk(nodes, count, limits);
+            if next.is_hit(nodes, count, limits) {
+                let hit = next.cursor;
+                return Step::Hit(hit, entered);
             }
             entered += next.counted(count);
-            cursor = next;
+            place = next;
             moves -= 1;
         }
         Step::End(entered)
     }
+}
 
-    pub fn step(self, nodes: &[u64], count: u64, query: Query) -> Step
+impl Cursor {
+    pub fn step(self, nodes: &[u64], count: u64, tests: Tests) -> Step
         requires { ⌜ Holds (now nodes) count × (count ≤ 65535) × Placed count self ⌝ }
-        ensures { λ r. ⌜ (answer r ≡ step (now (nodes .entry)) count (rules (now (nodes .entry)) count query) self)
+        ensures { λ r. ⌜ (answer r ≡ step (now (nodes .entry)) count (rules (now (nodes .entry)) count (asked tests)) self)
             × (isHit r ≡ ltb (answer r .slot) count) ⌝ }
     {
-        self.move_to_next(nodes, count, query, self.counted(count))
+        let place = self.place(count);
+        let before = place.counted(count);
+        match tests {
+            Tests::Within(limits) => place.move_to_next(nodes, count, limits, before),
+            Tests::Equal(x) => place.move_to_next_exact(nodes, count, x, before),
+        }
     }
 }

@@ -1,28 +1,37 @@
 // The walk. Each move sets a mark or follows a link. The marks are the states of a level of the
-// stack: 00 entered, 01 was left, 10 returned, 11 was right.
+// stack: 00 entered, 01 was left, 10 returned, 11 was right. A place has the state of its top level
+// beside its cursor. A move that sets a mark or goes down knows the state after it. Only a move up
+// reads it. So a move changes the bits by one addition or subtraction at the level's weight.
 use crate::Cursor;
-use crate::rules::Query;
-use crate::rules::goes;
-use crate::rules::matches;
-use stack::ActionStack;
+use crate::limits::Limits;
+use crate::rules::goes_overlap;
+use crate::rules::is_within;
 use stack::ENTERED;
 use stack::RETURNED;
 use stack::WAS_LEFT;
 use stack::WAS_RIGHT;
+use stack::change_state;
+use stack::state_at;
 use words::ix::U;
 use words::node::child_of;
 use words::node::parent_of;
 ghost use mathlib.Core.Path.{_≡_};
-ghost use mathlib.Core.Bool.{true, false, cond};
-ghost use Prim.Native.Nat.{_≤_, _<_};
-ghost use lib.Dec.{eqb};
-ghost use Rattle.words.specs.Ix.{U};
+ghost use mathlib.Core.Bool.{true, false, cond, _&&_};
+ghost use Prim.Native.Nat.{_^_, _≤_, _<_};
+ghost use lib.Dec.{eqb, ltb};
 ghost use Rattle.words.specs.Nodes.{par, Has, Holds};
 ghost use Rattle.stack.specs.States.{wasLeft, top};
 ghost use Rattle.iter.specs.Cursors.{stackOf, upTo};
-ghost use Rattle.iter.specs.Walk.{side, mark, down, deeper, move, enters, hits, counts};
-ghost use Rattle.iter.specs.Queries.{rules};
-ghost use Rattle.iter.specs.Places.{Placed, Live};
+ghost use Rattle.iter.specs.Walk.{side, mark, down, deeper, move, hits, counts};
+ghost use Rattle.iter.specs.Overlap.{overlap};
+ghost use Rattle.iter.specs.Limits.{spanOf};
+ghost use Rattle.iter.specs.Places.{Levelled, Placed, Known, at};
+
+// A cursor, and the state of its top level.
+pub struct Place {
+    pub cursor: Cursor,
+    pub state: u64,
+}
 
 // Returns the state that the top level gets before the walk goes down on a side.
 fn side_mark(left_side: bool) -> u64
@@ -31,150 +40,170 @@ fn side_mark(left_side: bool) -> u64
     if left_side { WAS_LEFT } else { WAS_RIGHT }
 }
 
-// Returns the slot that the walk goes up to: the parent, or U, the undefined link, from the last
-// level.
-fn slot_above(levels: u64, parent: u64) -> u64
-    ensures { λ r. ⌜ r ≡ cond (eqb levels 1) U parent ⌝ }
-{
-    if levels == 1 { U } else { parent }
-}
-
 impl Cursor {
-    fn stack(self) -> ActionStack
-        ensures { λ r. ⌜ (r ≡ stackOf self) × (r .levels ≡ self .levels) ⌝ }
+    // Reads the state of the top level. At no live slot, one below the count, there may be no level.
+    pub(crate) fn place(self, count: u64) -> Place
+        requires { ⌜ Placed count self ⌝ }
+        ensures { λ r. ⌜ (r .cursor ≡ self) × Known count r ⌝ }
     {
-        ActionStack {
-            levels: self.levels,
-            bits: self.bits,
+        if count <= self.slot {
+            return Place {
+                cursor: self,
+                state: ENTERED,
+            };
+        }
+        Place {
+            cursor: self,
+            state: state_at(self.bits, self.levels - 1),
         }
     }
 
-    // Returns the state of the top level.
-    fn state(self) -> u64
-        requires { ⌜ (1 ≤ self .levels) × (self .levels ≤ 32) ⌝ }
-        ensures { λ r. ⌜ r ≡ top (stackOf self) ⌝ }
+    // Gives the top level the state `new`. It has the state `old`.
+    pub(crate) fn mark(self, old: u64, new: u64) -> Place
+        requires { ⌜ (1 ≤ self .levels) × (self .levels ≤ 32) × (old ≡ top (stackOf self)) × (new < 4) ⌝ }
+        ensures { λ r. ⌜ r ≡ at (mark new self) ⌝ }
     {
-        self.stack().top()
-    }
-
-    fn mark(self, state: u64) -> Cursor
-        requires { ⌜ (1 ≤ self .levels) × (self .levels ≤ 32) × (state < 4) ⌝ }
-        ensures { λ r. ⌜ r ≡ mark state self ⌝ }
-    {
-        let stack = self.stack().mark(state);
-        Cursor {
-            slot: self.slot,
-            levels: stack.levels,
-            bits: stack.bits,
+        let levels = self.levels;
+        Place {
+            cursor: Cursor {
+                slot: self.slot,
+                levels,
+                bits: change_state(self.bits, levels - 1, old, new),
+            },
+            state: new,
         }
     }
 
-    fn down(self, nodes: &[u64], left_side: bool) -> Cursor
-        requires { ⌜ Has (now nodes) (self .slot) × (1 ≤ self .levels) × (self .levels < 32) ⌝ }
-        ensures { λ r. ⌜ r ≡ down (now (nodes .entry)) «left_side» self ⌝ }
+    // Goes down on a side. The top level has the state `old`. There is no bit above it, so the new
+    // level is in state 00 already.
+    fn down(self, nodes: &[u64], old: u64, left_side: bool) -> Place
+        requires { ⌜ Has (now nodes) (self .slot) × (1 ≤ self .levels) × (self .levels < 32) × (self .bits < 4 ^ self .levels) × (old ≡ top (stackOf self)) ⌝ }
+        ensures { λ r. ⌜ r ≡ at (down (now (nodes .entry)) «left_side» self) ⌝ }
     {
-        let marked = self.stack().mark(side_mark(left_side));
-        let stack = marked.deepen();
-        Cursor {
-            slot: child_of(nodes, self.slot, left_side),
-            levels: stack.levels,
-            bits: stack.bits,
+        let levels = self.levels;
+        Place {
+            cursor: Cursor {
+                slot: child_of(nodes, self.slot, left_side),
+                levels: levels + 1,
+                bits: change_state(self.bits, levels - 1, old, side_mark(left_side)),
+            },
+            state: ENTERED,
         }
     }
 
-    fn up(self, nodes: &[u64]) -> Cursor
-        requires { ⌜ Has (now nodes) (self .slot) × (1 ≤ self .levels) × (self .levels ≤ 32) ⌝ }
-        ensures { λ r. ⌜ r ≡ upTo (par (now (nodes .entry)) (self .slot)) self ⌝ }
+    // Goes up. The top level has the state `old`. From the last level the walk goes to U, the
+    // undefined link.
+    pub(crate) fn up(self, nodes: &[u64], old: u64) -> Place
+        requires { ⌜ Has (now nodes) (self .slot) × (1 ≤ self .levels) × (self .levels ≤ 32) × (old ≡ top (stackOf self)) ⌝ }
+        ensures { λ r. ⌜ r ≡ at (upTo (par (now (nodes .entry)) (self .slot)) self) ⌝ }
     {
-        let stack = self.stack().shorten();
-        let parent = parent_of(nodes, self.slot);
-        Cursor {
-            slot: slot_above(self.levels, parent),
-            levels: stack.levels,
-            bits: stack.bits,
+        let levels = self.levels - 1;
+        let bits = change_state(self.bits, levels, old, ENTERED);
+        if levels == 0 {
+            return Place {
+                cursor: Cursor {
+                    slot: U,
+                    levels,
+                    bits,
+                },
+                state: ENTERED,
+            };
+        }
+        Place {
+            cursor: Cursor {
+                slot: parent_of(nodes, self.slot),
+                levels,
+                bits,
+            },
+            state: state_at(bits, levels - 1),
+        }
+    }
+
+    // From state 00: goes left, or marks 01.
+    pub(crate) fn left_or_mark(self, nodes: &[u64], goes: bool) -> Place
+        requires { ⌜ Has (now nodes) (self .slot) × Levelled self × (0 ≡ top (stackOf self)) × (goes ≡ true → self .levels < 32) ⌝ }
+        ensures { λ r. ⌜ r ≡ cond goes (at (down (now (nodes .entry)) true self)) (at (mark wasLeft self)) ⌝ }
+    {
+        if goes {
+            self.down(nodes, ENTERED, true)
+        } else {
+            self.mark(ENTERED, WAS_LEFT)
+        }
+    }
+
+    // From state 10: goes right, or up.
+    pub(crate) fn right_or_up(self, nodes: &[u64], goes: bool) -> Place
+        requires { ⌜ Has (now nodes) (self .slot) × Levelled self × (1 ≡ top (stackOf self)) × (goes ≡ true → self .levels < 32) ⌝ }
+        ensures { λ r. ⌜ r ≡ cond goes (at (down (now (nodes .entry)) false self))
+            (at (upTo (par (now (nodes .entry)) (self .slot)) self)) ⌝ }
+    {
+        if goes {
+            self.down(nodes, RETURNED, false)
+        } else {
+            self.up(nodes, RETURNED)
         }
     }
 
     // Whether the walk goes down on a side: the stack has room for one more level, and the rules
     // say so.
-    fn goes_down(self, nodes: &[u64], count: u64, query: Query, left_side: bool) -> bool
+    fn goes_down(self, nodes: &[u64], count: u64, limits: Limits, left_side: bool) -> bool
         requires { ⌜ Holds (now nodes) count × (self .slot < count) ⌝ }
-        ensures { λ r. ⌜ r ≡ deeper (rules (now (nodes .entry)) count query) «left_side» self ⌝ }
+        ensures { λ r. ⌜ r ≡ deeper (overlap (now (nodes .entry)) count (spanOf limits)) «left_side» self ⌝ }
     {
-        (self.levels < 32) & goes(nodes, count, query, self.slot, left_side)
+        (self.levels < 32) & goes_overlap(nodes, count, limits, self.slot, left_side)
+    }
+}
+
+impl Place {
+    // Makes one move of an overlap lookup.
+    pub fn walk(self, nodes: &[u64], count: u64, limits: Limits) -> Place
+        requires { ⌜ Holds (now nodes) count × (self .cursor .slot < count) × Levelled (self .cursor) × (self .state ≡ top (stackOf (self .cursor))) ⌝ }
+        ensures { λ r. ⌜ r ≡ at (move (now (nodes .entry)) (overlap (now (nodes .entry)) count (spanOf limits)) (self .cursor)) ⌝ }
+    {
+        let cursor = self.cursor;
+        if self.state == ENTERED {
+            let goes = cursor.goes_down(nodes, count, limits, true);
+            return cursor.left_or_mark(nodes, goes);
+        }
+        if self.state == WAS_LEFT {
+            return cursor.mark(WAS_LEFT, RETURNED);
+        }
+        if self.state == RETURNED {
+            let goes = cursor.goes_down(nodes, count, limits, false);
+            return cursor.right_or_up(nodes, goes);
+        }
+        cursor.up(nodes, self.state)
     }
 
-    // From state 00: goes left, or marks 01.
-    fn left_or_mark(self, nodes: &[u64], count: u64, query: Query) -> Cursor
-        requires { ⌜ Holds (now nodes) count × Live count self ⌝ }
-        ensures { λ r. ⌜ r ≡ cond (deeper (rules (now (nodes .entry)) count query) true self)
-            (down (now (nodes .entry)) true self) (mark wasLeft self) ⌝ }
+    // Whether a live node is on top in a state.
+    pub(crate) fn is_in(self, count: u64, state: u64) -> bool
+        requires { ⌜ Known count self ⌝ }
+        ensures { λ r. ⌜ r ≡ ltb (self .cursor .slot) count && eqb (top (stackOf (self .cursor))) state ⌝ }
     {
-        if self.goes_down(nodes, count, query, true) {
-            self.down(nodes, true)
+        if self.state == state {
+            self.cursor.slot < count
         } else {
-            self.mark(WAS_LEFT)
+            false
         }
-    }
-
-    // From state 10: goes right, or up.
-    fn right_or_up(self, nodes: &[u64], count: u64, query: Query) -> Cursor
-        requires { ⌜ Holds (now nodes) count × Live count self ⌝ }
-        ensures { λ r. ⌜ r ≡ cond (deeper (rules (now (nodes .entry)) count query) false self)
-            (down (now (nodes .entry)) false self) (upTo (par (now (nodes .entry)) (self .slot)) self) ⌝ }
-    {
-        if self.goes_down(nodes, count, query, false) {
-            self.down(nodes, false)
-        } else {
-            self.up(nodes)
-        }
-    }
-
-    // Makes one move.
-    pub fn walk(self, nodes: &[u64], count: u64, query: Query) -> Cursor
-        requires { ⌜ Holds (now nodes) count × Live count self ⌝ }
-        ensures { λ r. ⌜ r ≡ move (now (nodes .entry)) (rules (now (nodes .entry)) count query) self ⌝ }
-    {
-        let state = self.state();
-        if state == ENTERED {
-            return self.left_or_mark(nodes, count, query);
-        }
-        if state == WAS_LEFT {
-            return self.mark(RETURNED);
-        }
-        if state == RETURNED {
-            return self.right_or_up(nodes, count, query);
-        }
-        self.up(nodes)
-    }
-
-    // Whether a live node, one with a slot below the count, is on top in state 00.
-    fn is_entered(self, count: u64) -> bool
-        requires { ⌜ Placed count self ⌝ }
-        ensures { λ r. ⌜ r ≡ enters count self ⌝ }
-    {
-        if count <= self.slot {
-            return false;
-        }
-        self.state() == ENTERED
     }
 
     // Returns 1 if this move entered a node, else 0.
     pub fn counted(self, count: u64) -> u64
-        requires { ⌜ Placed count self ⌝ }
-        ensures { λ r. ⌜ (r ≡ counts count self) × (r ≤ 1) ⌝ }
+        requires { ⌜ Known count self ⌝ }
+        ensures { λ r. ⌜ (r ≡ counts count (self .cursor)) × (r ≤ 1) ⌝ }
     {
-        if self.is_entered(count) { 1 } else { 0 }
+        if self.is_in(count, ENTERED) { 1 } else { 0 }
     }
 
-    // Whether a live node is on top in state 10, and the query looks for its entry.
-    pub fn is_hit(self, nodes: &[u64], count: u64, query: Query) -> bool
-        requires { ⌜ Holds (now nodes) count × Placed count self ⌝ }
-        ensures { λ r. ⌜ r ≡ hits count (rules (now (nodes .entry)) count query) self ⌝ }
+    // Whether a live node is on top in state 10, and its entry is looked for.
+    pub fn is_hit(self, nodes: &[u64], count: u64, limits: Limits) -> bool
+        requires { ⌜ Holds (now nodes) count × Known count self ⌝ }
+        ensures { λ r. ⌜ r ≡ hits count (overlap (now (nodes .entry)) count (spanOf limits)) (self .cursor) ⌝ }
     {
-        if count <= self.slot {
-            return false;
+        if self.is_in(count, RETURNED) {
+            is_within(nodes, limits, self.cursor.slot)
+        } else {
+            false
         }
-        (self.state() == RETURNED) & matches(nodes, count, query, self.slot)
     }
 }

@@ -86,6 +86,11 @@ put-low x j v zero h l i = absurd (omega arith)
 put-low x zero v (suc m) h l i = rw put-first (omega (arith, four m))
 put-low x (suc j) v (suc m) h l i = rw put-next (omega (arith, four m, put-low (x / 4) j v m (omega (arith, four m)) (omega arith) i))
 
+-- and those below 4 ^ (m + 1) come below 4 ^ m, where level m is cleared
+pub cleared-low : (x m : ℕ) → x < 4 ^ suc m → putState x m 0 < 4 ^ m
+cleared-low x zero h = rw put-first (omega arith)
+cleared-low x (suc m) h = rw put-next (omega (arith, four m, cleared-low (x / 4) m (omega (arith, four m))))
+
 twice : (j : ℕ) → 2 * suc j ≡ suc (suc (2 * j))
 twice j = omega arith
 

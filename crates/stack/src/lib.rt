@@ -57,15 +57,23 @@ fn level_weight(level: u64) -> u64
     in_byte << (8 * (level / 4))
 }
 
-// Returns the bits with another state at a level: subtracts the old state at the level's weight,
-// and adds the new one.
+// Returns the bits with another state at a level, whose state is `old`: subtracts the old state at
+// the level's weight, and adds the new one.
+pub fn change_state(bits: u64, level: u64, old: u64, state: u64) -> u64
+    requires { ⌜ (level < 32) × (old ≡ stateAt bits level) × (state < 4) ⌝ }
+    ensures { λ r. ⌜ r ≡ putState bits level state ⌝ }
+{
+    let w = level_weight(level);
+    let rest = bits - old * w;
+    rest + state * w
+}
+
+// Returns the bits with another state at a level.
 pub fn put_state(bits: u64, level: u64, state: u64) -> u64
     requires { ⌜ (level < 32) × (state < 4) ⌝ }
     ensures { λ r. ⌜ r ≡ putState bits level state ⌝ }
 {
-    let w = level_weight(level);
-    let rest = bits - state_at(bits, level) * w;
-    rest + state * w
+    change_state(bits, level, state_at(bits, level), state)
 }
 
 impl ActionStack {

@@ -1,4 +1,3 @@
-use Rattle.stack.proofs.Laws.{state-below, weighed-fits, taken-in, written, written-fits}
 use borrow.Author.Needs.{needs}
 use Rattle.stack.proofs.put_state.Statement.{statement}
 use Rattle.stack.proofs.put_state.Tie as tie
@@ -9,8 +8,4 @@ put-state-spec =
     (tie.spec
     (λ c κs. search needs)
     (λ c κs. search needs)
-    (λ c. search (weighed-fits, state-below))
-    (λ c. search taken-in)
-    (λ c. search weighed-fits)
-    (λ c. search written-fits)
-    (λ c. search written))
+    (λ c. search needs))

@@ -1,50 +1,17 @@
-use mathlib.Core.Path.{_≡_, refl}
-use Prim.Native.Nat.{_-_, _≤_}
-use lib.ListN.{length, take, drop, length-set}
-use Rattle.iter.specs.Drains.{drain}
-use Rattle.iter.specs.Queries.{rules}
-use Rattle.iter.specs.Places.{Placed}
-use Rattle.iter.proofs.Moves.{step-placed}
-use Rattle.iter.proofs.Totals.{drain-total}
-use Rattle.iter.proofs.Fills.{before, drain-begin, drain-fits, stop-summary, stop-filled, drain-on, drop-on, full-summary, full-filled}
+use Rattle.iter.proofs.Plain.{Small, drain-same, filled-same}
 use native.Mathlib.Omega.{arith}
 use borrow.Author.Needs.{needs}
 use Rattle.iter.proofs.Cursor.drain.Statement.{statement}
 use Rattle.iter.proofs.Cursor.drain.Tie as tie
 
-abbrev Inv-loop : tie.InvT-loop
-Inv-loop nodes count query limit out₀ cursor₀ hits₀ entered₀ out cursor hits entered = (drain nodes count (rules nodes count query) limit cursor₀ ≡ before (take hits out) entered (drain nodes count (rules nodes count query) (limit - hits) cursor))
-    × Placed count cursor × (hits ≤ limit) × (drop hits out ≡ drop hits out₀) × (length out ≡ length out₀)
-
-abbrev μ-loop : tie.MeasureT-loop
-μ-loop nodes count query limit out₀ cursor₀ hits₀ entered₀ out cursor hits entered = limit - hits
-
 pub drain-spec : {M : Type 1} → statement M
 drain-spec =
     tie.close
     (tie.spec
-    Inv-loop
-    μ-loop
-    (λ c. (search drain-begin, search needs, omega arith, refl, refl))
-    (λ c κs. (omega arith, omega arith, search needs))
-    (λ c κs. tt)
-    (λ c. search (drain-fits, drain-total))
+    (λ c κs. search needs)
+    (λ c κs. search needs)
     (λ c. search needs)
-    (λ c. search needs)
-    (λ c κs. tt)
-    (λ c. search needs)
-    (λ c. (search stop-summary, search stop-filled))
-    (λ c. search needs)
-    (λ c. omega arith)
-    (λ c. omega arith)
-    (λ c. omega arith)
-    (λ c. (
-      drain-on _ _ _ _ _ _ _ _ _ (c .before .before .before .before .before .before .loop .inv .0) _ (omega arith)
-          (c .before .before .before .before .step .ensures .0) (c .before .before .before .before .step .ensures .1) _ (c .before .before .before .entered .ensures) _ _ (c .before .step2 .given .1) (omega arith),
-      search step-placed,
-      omega arith,
-      search drop-on,
-      simp length-set (omega arith),
-    ))
-    (λ c. search needs)
-    (λ c. (search full-summary, search full-filled)))
+    (λ c.
+    let known = c .before .before .before .before .before .before in
+    let small : Small (known .before .args .nodes .now) = λ i. omega (arith, known .shared-slice-known .given i) in
+    (search (drain-same (known .before .args .nodes .now) small), search (filled-same (known .before .args .nodes .now) small))))

@@ -9,4 +9,4 @@ goes-down-spec =
     tie.close
     (tie.spec
     (λ c κs. search needs)
-    (λ c. rw (← c .goes .ensures)))
+    (λ c. rw (← c .goes-overlap .ensures)))

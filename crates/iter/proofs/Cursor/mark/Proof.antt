@@ -1,13 +1,15 @@
-use Rattle.iter.specs.Walk.{mark}
+use Rattle.stack.specs.States.{top}
+use Rattle.iter.proofs.Moves.{mark-at}
+use native.Mathlib.Omega.{arith}
 use borrow.Author.Needs.{needs}
 use Rattle.iter.proofs.Cursor.mark.Statement.{statement}
 use Rattle.iter.proofs.Cursor.mark.Tie as tie
 
 pub mark-spec : {M : Type 1} → statement M
-unfolding mark
+unfolding top
 mark-spec =
     tie.close
     (tie.spec
-    (λ c κs. search needs)
-    (λ c κs. search needs)
-    (λ c. rw (← c .before .stack .ensures .0, ← c .mark .ensures)))
+    (λ c. search needs)
+    (λ c κs. (omega arith, search needs, omega arith))
+    (λ c. search mark-at))

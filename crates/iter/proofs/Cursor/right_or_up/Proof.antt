@@ -1,5 +1,4 @@
-use Rattle.iter.proofs.Moves.{deeper-room}
-use Rattle.words.proofs.Tests.{picked, passed}
+use Rattle.iter.proofs.Laws.{room}
 use native.Mathlib.Omega.{arith}
 use borrow.Author.Needs.{needs}
 use Rattle.iter.proofs.Cursor.right_or_up.Statement.{statement}
@@ -9,8 +8,7 @@ pub right-or-up-spec : {M : Type 1} → statement M
 right-or-up-spec =
     tie.close
     (tie.spec
+    (λ c κs. (omega arith, omega arith, search room, search needs, search needs))
     (λ c κs. search needs)
-    (λ c κs. (omega arith, omega arith, search deeper-room))
-    (λ c κs. search needs)
-    (λ c. search picked)
-    (λ c. search passed))
+    (λ c. rw (c .before .if1 .taken) (c .down .ensures))
+    (λ c. rw (c .before .if1 .left) (c .up .ensures)))

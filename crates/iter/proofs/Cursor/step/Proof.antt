@@ -1,13 +1,19 @@
-use Rattle.iter.specs.Walk.{step}
+use Rattle.iter.proofs.Laws.{placed-as}
+use Rattle.iter.proofs.Moves.{step-within, step-equal}
+use native.Mathlib.Omega.{arith}
 use borrow.Author.Needs.{needs}
 use Rattle.iter.proofs.Cursor.step.Statement.{statement}
 use Rattle.iter.proofs.Cursor.step.Tie as tie
 
 pub step-spec : {M : Type 1} → statement M
-unfolding step
 step-spec =
     tie.close
     (tie.spec
     (λ c κs. search needs)
     (λ c κs. search needs)
-    (λ c. (rw (← c .before .counted .ensures .0) (c .move-to-next .ensures .0), c .move-to-next .ensures .1)))
+    (λ c. search needs)
+    (λ c κs. (omega arith, omega arith, search placed-as, search needs, omega arith))
+    (λ c. search needs)
+    (λ c κs. (omega arith, omega arith, search placed-as, search needs, omega arith))
+    (λ c. (search step-within, search needs))
+    (λ c. (search step-equal, search needs)))

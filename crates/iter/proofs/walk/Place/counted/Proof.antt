@@ -1,10 +1,12 @@
+use Rattle.iter.specs.Walk.{enters}
 use Rattle.words.proofs.Tests.{picked, passed}
 use native.Mathlib.Omega.{arith}
 use borrow.Author.Needs.{needs}
-use Rattle.iter.proofs.Cursor.counted.Statement.{statement}
-use Rattle.iter.proofs.Cursor.counted.Tie as tie
+use Rattle.iter.proofs.walk.Place.counted.Statement.{statement}
+use Rattle.iter.proofs.walk.Place.counted.Tie as tie
 
 pub counted-spec : {M : Type 1} → statement M
+unfolding enters
 counted-spec =
     tie.close
     (tie.spec
