@@ -180,7 +180,8 @@ fn tickets() {
     let (mut nodes, mut colours) = ([0; 32], [0; 1]);
     let list = [[5, 9, 1], [6, 9, 2], [7, 9, 3]];
     let mut store = Store::build(&mut nodes, &mut colours, &list).unwrap();
-    let changes: [fn(&mut Store) -> Result<u64, Refusal>; 3] = [
+    type Change = fn(&mut Store) -> Result<u64, Refusal>;
+    let changes: [Change; 3] = [
         |store| store.insert(8..9, 4),
         |store| store.remove(0).map(|removed| removed.value),
         |store| store.rebuild(&[[1, 2, 7], [3, 4, 8]]).map(|()| 0),
