@@ -19,6 +19,7 @@ pub enum Call {
     Bits(bits::Call),
     Stack(stacks::Call),
     Last,
+    Ticket,
 }
 
 // The names, in the order of `call_at`. A name ends in a space if numbers follow it.
@@ -27,7 +28,7 @@ pub enum Call {
 fn place_of(name: &[u8]) -> usize {
     given::which(
         name,
-        b"store ;bytes ;commit;check;build ;remove ;insert ;fresh o ;step o ;drain o ;fresh e ;step e ;drain e ;bget ;bset ;bpush ;bpop ;bswap ;bfrom ;spush ;spop ;sleft ;smatch ;sright ;scanleft ;scanmatch ;scanright ;sempty ;last;plain o ;plain e ;",
+        b"store ;bytes ;commit;check;build ;remove ;insert ;fresh o ;step o ;drain o ;fresh e ;step e ;drain e ;bget ;bset ;bpush ;bpop ;bswap ;bfrom ;spush ;spop ;sleft ;smatch ;sright ;scanleft ;scanmatch ;scanright ;sempty ;last;plain o ;plain e ;version ;ticket ;read ;",
     )
 }
 
@@ -64,6 +65,9 @@ fn call_at(place: usize) -> Call {
         28 => Call::Last,
         29 => Call::Lookup(lookups::Call::Plain, Kind::Overlap),
         30 => Call::Lookup(lookups::Call::Plain, Kind::Exact),
+        31 => Call::Setting(settings::Call::Version),
+        32 => Call::Ticket,
+        33 => Call::Map(map::Call::Read),
         _ => Call::Unknown,
     }
 }
@@ -77,6 +81,7 @@ fn fits(call: Call, numbers: &[u64]) -> bool {
         Call::Bits(c) => bits::fits(c, numbers),
         Call::Stack(_) => stacks::fits(numbers),
         Call::Last => numbers.len() == 0,
+        Call::Ticket => numbers.len() == 1,
         _ => false,
     }
 }
