@@ -242,7 +242,7 @@ impl Map {
     ///
     /// # fn main() -> Result<(), Refusal> {
     /// let (mut nodes, mut colours, mut out) = ([0; 3 * 8], [0; 1], [7; 2]);
-    /// let map = Map::build(&mut nodes, &mut colours, &[10, 20, 1, 10, 30, 2, 25, 40, 3])?;
+    /// let map = Map::new().build(&mut nodes, &mut colours, &[10, 20, 1, 10, 30, 2, 25, 40, 3])?;
     /// let found = map.find_all(&nodes, &colours, Query::at(27), &mut out)?;
     /// assert_eq!((found.hits, out), (2, [1, 2]));
     /// let found = map.find_all(&nodes, &colours, Query::overlap(..), &mut out)?;
