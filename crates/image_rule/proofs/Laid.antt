@@ -10,7 +10,7 @@ use borrow.Author.Tests.{leb-true}
 use Rattle.bitvec.specs.Calls.{bytesFor}
 use Rattle.audit.proofs.Tests.{both, same, itself}
 use Rattle.little.specs.Numbers.{number}
-use Rattle.image_rule.specs.Layout.{linksAt, coloursAt, imageLength, countIn, spareClear, laidOut}
+use Rattle.image_rule.specs.Layout.{linksAt, coloursAt, imageLength, Bodies, countIn, spareClear, laidOut}
 
 pub record Laid (I : List ℕ) (n : ℕ) : Type 0 where
   pub long : 44 ≤ length I
@@ -50,3 +50,8 @@ laid I e =
       offset-3 = t .0 .1;
       size-3 = t .1;
     }
+
+-- so it has the bodies of its slots, if it does not have too many
+pub laid-bodies : (I : List ℕ) → laidOut I ≡ true → countIn I ≤ 65535 → Bodies I (countIn I)
+unfolding bytesFor
+laid-bodies I e h = (h, omega (arith, laid I e .whole))

@@ -3,7 +3,7 @@
 -- Letters: n count, I image (its bytes)
 use mathlib.Core.Bool.{Bool, true, cond, _&&_}
 use mathlib.Core.List.{List}
-use Prim.Native.Nat.{ℕ, _+_, _-_, _*_, _%_, _^_}
+use Prim.Native.Nat.{ℕ, _+_, _-_, _*_, _%_, _^_, _≤_}
 use lib.ListN.{length, getD}
 use lib.Dec.{eqb, ltb, leb}
 use Rattle.bitvec.specs.Calls.{bytesFor}
@@ -19,6 +19,10 @@ coloursAt n = 44 + n * 36
 
 abbrev pub imageLength : (count : ℕ) → ℕ
 imageLength n = coloursAt n + bytesFor n
+
+-- the image I has the bodies of n slots, and n is at most 65,535
+abbrev pub Bodies : (image : List ℕ) (count : ℕ) → Type 0
+Bodies I n = (n ≤ 65535) × (coloursAt n * 8 + n ≤ length I * 8)
 
 abbrev pub countIn : (image : List ℕ) → ℕ
 countIn I = number 4 I 0
