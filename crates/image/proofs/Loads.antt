@@ -6,7 +6,6 @@ use Prim.Native.Nat.{ℕ, zero, suc, _+_, _-_, _<_, _≤_}
 use native.Mathlib.Omega.{arith}
 use native.Mathlib.Numerals.{add-one}
 use Rattle.words.specs.Nodes.{kid, altered, fix, putNode}
-use Rattle.words.specs.declared.interval.Interval.{Interval}
 use Rattle.words.specs.declared.node.Entry.{Entry}
 use Rattle.bitvec.specs.Bits.{setBit}
 use Rattle.tree_edit.proofs.Links.{on-slot, on-none}

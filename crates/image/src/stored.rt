@@ -7,7 +7,6 @@ use words::interval::Interval;
 use words::node::Entry;
 ghost use mathlib.Core.Path.{_≡_};
 ghost use Prim.Native.Nat.{_<_};
-ghost use lib.ListN.{length};
 ghost use Rattle.image_rule.specs.Layout.{Bodies};
 ghost use Rattle.image_rule.specs.Stored.{intervalIn, entryIn, linkIn, redIn, nodeIn};
 

@@ -1,4 +1,5 @@
--- Store A's image and the empty map's, computed. They are read back, and damages of them are found.
+-- Store A's image and the empty map's, computed. They are read back, damages of them are found, and
+-- addresses are looked up in the bytes.
 use mathlib.Core.Path.{_≡_, refl}
 use mathlib.Core.Bool.{true, false}
 use mathlib.Core.List.{List, [], _∷_, _++_}
@@ -11,11 +12,12 @@ use Rattle.bitvec.specs.Calls.{bytesFor}
 use Rattle.audit.specs.Survey.{pass}
 use Rattle.audit.proofs.Examples.{store-A}
 use Rattle.little.specs.Numbers.{number, digits}
+use Rattle.image_rule.specs.declared.Seen.{Seen}
 use Rattle.image_rule.specs.Judge.{wholeAt, worked}
 use Rattle.image_rule.specs.Layout.{countIn, rootIn, laidOut}
-use Rattle.image_rule.specs.Stored.{isGood, unpacked, painted, loadedWords, loadedColours}
-use Rattle.image_rule.specs.Written.{header, pieces, shades, imageOf}
+use Rattle.image_rule.specs.Stored.{entryIn, childIn, isGood, unpacked, painted, loadedWords, loadedColours}
 use Rattle.image_rule.specs.Sought.{sought}
+use Rattle.image_rule.specs.Written.{header, pieces, shades, imageOf}
 
 -- the 225 bytes of store A
 unfoldable pub image-A : List ℕ
@@ -56,8 +58,12 @@ unfoldable pub image-0 : List ℕ
 image-0 =
     0 ∷ 0 ∷ 0 ∷ 0 ∷ 255 ∷ 255 ∷ 255 ∷ 255 ∷ 1 ∷ 0 ∷ 0 ∷ 0 ∷ 44 ∷ 0 ∷ 0 ∷ 0 ∷ 0 ∷ 0 ∷ 0 ∷ 0 ∷ 2 ∷ 0 ∷ 0 ∷ 0 ∷ 44 ∷ 0 ∷ 0 ∷ 0 ∷ 0 ∷ 0 ∷ 0 ∷ 0 ∷ 3 ∷ 0 ∷ 0 ∷ 0 ∷ 44 ∷ 0 ∷ 0 ∷ 0 ∷ 0 ∷ 0 ∷ 0 ∷ 0 ∷ []
 
+-- what is found of an address in store A's image, with the value of hit k
+abbrev seen : ℕ → ℕ → Seen
+seen a k = sought (entryIn image-A) (childIn image-A 5) 5 a k 33 2 (record { hits = 0; value = 0 })
+
 computing : Unit {0}
-unfolding imageOf header pieces shades digits number bytesFor store-A image-A image-0 laidOut wholeAt pass bitAt bit word worked unpacked painted loadedWords loadedColours put putBit putEntry putHull putNode joined hullOf fix onLink setBit
+unfolding sought imageOf header pieces shades digits number bytesFor store-A image-A image-0 laidOut wholeAt pass bitAt bit word worked unpacked painted loadedWords loadedColours put putBit putEntry putHull putNode joined hullOf fix onLink setBit
 computing = record {}
 
 -- Written, read and judged. Each damage of the layout is in one number of the table, in the length
@@ -89,6 +95,11 @@ pub record Told : Type 0 where
   pub parent : isGood (set image-A 172 2) ≡ false
   pub cycle : isGood (set image-A 200 4) ≡ false
   pub value : isGood (set image-A 108 9) ≡ true
+  pub ten : seen 10 1 ≡ record { hits = 2; value = 2 }
+  pub twenty : seen 20 0 ≡ record { hits = 1; value = 2 }
+  pub forty-five : seen 45 0 ≡ record { hits = 2; value = 4 }
+  pub no-third : seen 10 2 ≡ record { hits = 2; value = 0 }
+  pub sixty : seen 60 0 ≡ record { hits = 0; value = 0 }
 
 pub told : Told
 unfolding computing
@@ -119,4 +130,9 @@ told = record {
   parent = refl;
   cycle = refl;
   value = refl;
+  ten = refl;
+  twenty = refl;
+  forty-five = refl;
+  no-third = refl;
+  sixty = refl;
 }

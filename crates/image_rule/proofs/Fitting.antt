@@ -1,5 +1,4 @@
 -- A store that passes fits an image: its links are U or slots, and its words have 64 bits.
-use mathlib.Core.Path.{_≡_}
 use mathlib.Core.Bool.{Bool, true, false}
 use mathlib.Core.List.{List}
 use Prim.Native.Nat.{ℕ, _<_, _≤_}

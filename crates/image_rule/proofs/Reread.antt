@@ -1,6 +1,6 @@
 -- What is read of the bytes of a map: its count and root, its entries, links and colours. And they
 -- are laid out.
-use mathlib.Core.Path.{_≡_, refl, sym, ap, _∙_}
+use mathlib.Core.Path.{_≡_, refl, ap, _∙_}
 use mathlib.Core.Bool.{Bool, true, false, cond}
 use mathlib.Core.List.{List, [], _∷_, _++_}
 use Prim.Native.Nat.{ℕ, zero, suc, _+_, _-_, _*_, _/_, _%_, _^_, _<_, _≤_}
@@ -171,7 +171,8 @@ module _ (W C : List ℕ) (n r : ℕ) (room : HoldsBits C n) where
     unfolding bytesFor
     head-small =
         let few : n ≤ 65535 = fit .few in
-        (omega arith, (fit .root, (omega arith, (omega arith, (omega arith, (omega arith, (omega arith, (omega arith, (omega arith, (omega arith, (omega arith, tt)))))))))))
+        let root : r < 4294967296 = fit .root in
+        (omega arith, (omega arith, (omega arith, (omega arith, (omega arith, (omega arith, (omega arith, (omega arith, (omega arith, (omega arith, (omega arith, tt)))))))))))
 
     heads : (k : ℕ) → k < 11 → number 4 I (k * 4) ≡ getD (heading n r) k 0
     unfolding imageOf header

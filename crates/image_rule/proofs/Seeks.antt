@@ -1,13 +1,13 @@
 -- The search over a tree is a fold over its slots; what the fold finds.
-use mathlib.Core.Path.{_≡_, refl, sym, ap, _∙_}
+use mathlib.Core.Path.{_≡_, refl, sym, _∙_}
 use mathlib.Core.Bool.{Bool, true, false, cond}
 use mathlib.Core.List.{List, [], _∷_, _++_}
 use Prim.Native.Nat.{ℕ, zero, suc, _+_, _-_, _<_, _≤_}
 use native.Mathlib.Omega.{arith}
 use lib.ListN.{length, getD}
 use lib.Dec.{eqb}
-use borrow.Author.Tests.{eq-eqb, ne-eqb, eqb-true, eqb-false}
-use Rattle.words.specs.Ix.{U, onLink}
+use borrow.Author.Tests.{ne-eqb, eqb-true, eqb-false}
+use Rattle.words.specs.Ix.{onLink}
 use Rattle.words.specs.Lists.{filter}
 use Rattle.words.specs.Nodes.{kid, entry}
 use Rattle.words.specs.declared.node.Entry.{Entry}

@@ -3,7 +3,7 @@ use mathlib.Core.Path.{_≡_, refl, sym, ap, _∙_}
 use mathlib.Core.Logic.{_≢_}
 use mathlib.Core.Bool.{Bool, true, false, cond}
 use mathlib.Core.List.{List}
-use Prim.Native.Nat.{ℕ, zero, suc, _+_, _*_, _<_, _≤_}
+use Prim.Native.Nat.{ℕ, zero, suc, _<_, _≤_}
 use native.Mathlib.Omega.{arith}
 use lib.ListN.{length}
 use lib.Dec.{eqb}
@@ -20,7 +20,7 @@ use Rattle.bitvec.proofs.Bytes.{length-setBit, bitAt-same, bitAt-other}
 use Rattle.audit.specs.Survey.{nodeAt, isWhole, wholeOf}
 use Rattle.image_rule.specs.Judge.{bare, wholeAt, worked}
 use Rattle.image_rule.specs.Stored.{intervalIn, entryIn, linkIn, childIn, redIn, nodeIn, unpacked, painted, loadedWords, loadedColours}
-use Rattle.image_rule.proofs.Worked.{length-worked, word-worked}
+use Rattle.image_rule.proofs.Worked.{length-worked, word-worked, worked-rest}
 use Rattle.image_rule.proofs.Glances.{glance-bare}
 use Rattle.image_rule.proofs.Judged.{judged}
 
@@ -88,14 +88,14 @@ module _ (I : List ℕ) (n : ℕ) where
   pub length-painted : (m : ℕ) (C : List ℕ) → length (painted I n m C) ≡ length C
   unfolding painted
   length-painted zero C = refl
-  length-painted (suc m) C = length-setBit (painted I n m C) m (redIn I n m) ∙ length-painted m C
+  length-painted (suc m) C = length-setBit _ m _ ∙ length-painted m C
 
   -- bits from m up stay
   pub painted-rest : (m : ℕ) (C : List ℕ) (i : ℕ) → m ≤ i → bitAt (painted I n m C) i ≡ bitAt C i
   unfolding painted
   painted-rest zero C i h = refl
   painted-rest (suc m) C i h =
-      bitAt-other (painted I n m C) m (redIn I n m) i (λ e. omega arith) ∙ painted-rest m C i (omega arith)
+      bitAt-other _ m _ i (λ e. omega arith) ∙ painted-rest m C i (omega arith)
 
   -- bits below m are the image's
   pub painted-bits : (m : ℕ) (C : List ℕ) (i : ℕ) → HoldsBits C m → i < m → bitAt (painted I n m C) i ≡ redIn I n i
@@ -114,11 +114,31 @@ module _ (I : List ℕ) (n r : ℕ) (W : List ℕ) where
   unfolding loadedWords
   length-loadedWords = length-worked n 33 (unpacked I n n W) r ∙ length-unpacked I n n W
 
+  -- words of slots from the count up stay
+  pub loaded-rest : (g : Field) (a : ℕ) → n ≤ a → word (loadedWords I n r W) g a ≡ word W g a
+  unfolding loadedWords
+  loaded-rest g a u = worked-rest n 33 (unpacked I n n W) r g a u ∙ unpacked-rest I n n W g a u
+
+  -- those of slots below it are the image's, but for the hulls
   pub loaded-holds : (s : ℕ) → Holds W n → s < n → FromImage I n (loadedWords I n r W) s
   unfolding loadedWords
   loaded-holds s room q =
       from-same I n (unpacked I n n W) (worked n 33 (unpacked I n n W) r) s (λ g u. word-worked n 33 (unpacked I n n W) r g s u)
       (unpacked-holds I n n W s room q)
+
+module _ (I : List ℕ) (n : ℕ) (C : List ℕ) where
+  pub length-loadedColours : length (loadedColours I n C) ≡ length C
+  unfolding loadedColours
+  length-loadedColours = length-painted I n n C
+
+  -- bits from the count up stay, and those below it are the image's
+  pub colours-rest : (i : ℕ) → n ≤ i → bitAt (loadedColours I n C) i ≡ bitAt C i
+  unfolding loadedColours
+  colours-rest i u = painted-rest I n n C i u
+
+  pub colours-read : (i : ℕ) → HoldsBits C n → i < n → bitAt (loadedColours I n C) i ≡ redIn I n i
+  unfolding loadedColours
+  colours-read i room q = painted-bits I n n C i room q
 
 -- the judge of the bytes says yes exactly if what reading would leave in any memory with room passes
 -- the check

@@ -1,9 +1,9 @@
 -- The hulls that are worked out below a link are right, and nothing else is written. In a tree each
 -- slot is entered once.
-use mathlib.Core.Path.{_≡_, refl, sym, _∙_}
-use mathlib.Core.Bool.{Bool, true, false}
+use mathlib.Core.Path.{_≡_, refl, _∙_}
+use mathlib.Core.Bool.{true, false}
 use mathlib.Core.List.{List}
-use Prim.Native.Nat.{ℕ, zero, suc, _+_, _*_, _<_, _≤_}
+use Prim.Native.Nat.{ℕ, zero, suc, _+_, _*_, _≤_}
 use native.Mathlib.Omega.{arith}
 use lib.ListN.{length}
 use Rattle.words.specs.Ix.{U, onLink}
@@ -27,8 +27,7 @@ module _ (n : ℕ) where
   length-worked zero W k = refl
   length-worked (suc h) W k =
       by-link n k (λ X. length X ≡ length W) _ W
-      (λ q. length-fix n (worked n h (worked n h W (kid W true k)) (kid W false k)) k
-      ∙ length-worked h (worked n h W (kid W true k)) (kid W false k) ∙ length-worked h W (kid W true k))
+      (λ q. length-fix n _ k ∙ length-worked h _ _ ∙ length-worked h W _)
       (λ q. refl)
 
   pub word-worked : (h : ℕ) (W : List ℕ) (k : ℕ) (g : Field) (a : ℕ) → inHull g ≡ false → word (worked n h W k) g a ≡ word W g a
@@ -36,8 +35,16 @@ module _ (n : ℕ) where
   word-worked zero W k g a i = refl
   word-worked (suc h) W k g a i =
       by-link n k (λ X. word X g a ≡ word W g a) _ W
-      (λ q. word-fix n (worked n h (worked n h W (kid W true k)) (kid W false k)) k g a i
-      ∙ word-worked h (worked n h W (kid W true k)) (kid W false k) g a i ∙ word-worked h W (kid W true k) g a i)
+      (λ q. word-fix n _ k g a i ∙ word-worked h _ _ g a i ∙ word-worked h W _ g a i)
+      (λ q. refl)
+
+  -- slots from n up stay
+  pub worked-rest : (h : ℕ) (W : List ℕ) (k : ℕ) (g : Field) (a : ℕ) → n ≤ a → word (worked n h W k) g a ≡ word W g a
+  unfolding worked
+  worked-rest zero W k g a u = refl
+  worked-rest (suc h) W k g a u =
+      by-link n k (λ X. word X g a ≡ word W g a) _ W
+      (λ q. word-fix-slot n _ k g a (λ e. omega arith) ∙ worked-rest h _ _ g a u ∙ worked-rest h W _ g a u)
       (λ q. refl)
 
   pub same-worked : (h : ℕ) (W : List ℕ) (k a : ℕ) → Same W (worked n h W k) a
@@ -67,7 +74,7 @@ module _ (n : ℕ) (small : n ≤ 65535) where
       let hlY : Hulls Y l = hulls-same X Y l (λ a o g q. fr a (omega (arith, one a)) g) hl in
       let all : Hulls (fix n Y s) (node l s r) =
       fix-bin Y n small (rw (length-worked n h X (kid W false s), length-worked n h W (kid W true s)) room) p k true l s r (z .0) (z .1) shY hlY hr in
-      let e : onLink n k (λ s. fix n (worked n h (worked n h W (kid W true s)) (kid W false s)) s) W ≡ fix n Y s =
+      let e : worked n (suc h) W k ≡ fix n Y s =
       rw (sh .here) (on-slot n s (sh .live) (λ s. fix n (worked n h (worked n h W (kid W true s)) (kid W false s)) s) W) in
       rw e (all, λ a o g. word-fix-slot n Y s g a (hit-zero a s (omega arith)) ∙ fr a (omega arith) g ∙ fl a (omega arith) g)
 

@@ -1,10 +1,10 @@
 -- Numbers in bytes: what is written is read, and what is read is written. Each law over every width.
-use mathlib.Core.Path.{_≡_, refl, sym, ap, _∙_}
-use mathlib.Core.List.{List, [], _∷_, _++_, append-nil}
+use mathlib.Core.Path.{_≡_, refl, ap, _∙_}
+use mathlib.Core.List.{List, [], _∷_, _++_}
 use Prim.Native.Nat.{ℕ, zero, suc, _+_, _-_, _*_, _/_, _%_, _^_, _<_, _≤_}
 use native.Mathlib.Omega.{arith}
-use native.Mathlib.Nat.{pow-suc, div-div-eq-div-mul, mul-comm, mul-assoc, add-suc, suc-add}
-use lib.ListN.{length, getD, take, drop, set, length-set, length-append, List·getD-append}
+use native.Mathlib.Nat.{pow-suc, div-div-eq-div-mul, mul-comm, mul-assoc}
+use lib.ListN.{length, getD, take, drop, set, List·getD-append}
 use lib.Seq.{sets, drop-cons, getD-append-add}
 use Rattle.little.specs.Numbers.{number, digits, Bytes}
 
