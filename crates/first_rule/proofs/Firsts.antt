@@ -10,8 +10,8 @@ use lib.Dec.{ltb}
 use lib.ListN.{length, take}
 use borrow.Author.Tests.{lt-ltb, le-ltb, ltb-false, lt-leb, le-leb}
 use Rattle.words.specs.Ix.{U, onLink}
-use Rattle.words.specs.Nodes.{start, stop, hi, kid}
-use Rattle.words.specs.Intervals.{passed, admits}
+use Rattle.words.specs.Nodes.{start, stop, hi, kid, interval}
+use Rattle.words.specs.Intervals.{passed, admits, intersects}
 use Rattle.words.specs.Lists.{filter}
 use Rattle.words.specs.declared.interval.Bound.{Bound}
 use Rattle.words.specs.declared.interval.Bound.the-variants.{Included, Excluded, Unbounded}
@@ -152,6 +152,26 @@ first-take d zero l h = absurd (omega arith)
 first-take d (suc limit) [] h = refl
 first-take d (suc limit) (a ∷ l) h = refl
 
+-- the first that a test picks passes it; and if it names none of the list, the test picks none
+first-is : (p : ℕ → Bool) (l : List ℕ) → firstOr U (filter p l) < U → p (firstOr U (filter p l)) ≡ true
+first-is p [] h = absurd (omega arith)
+first-is p (a ∷ l) h = go (p a) refl h (first-is p l)
+  where
+    go : (t : Bool) → p a ≡ t → firstOr U (cond t (a ∷ filter p l) (filter p l)) < U
+        → (firstOr U (filter p l) < U → p (firstOr U (filter p l)) ≡ true) → p (firstOr U (cond t (a ∷ filter p l) (filter p l))) ≡ true
+    go true e q rec = e
+    go false e q rec = rec q
+
+none-is : (p : ℕ → Bool) (n : ℕ) (l : List ℕ) → ((a : ℕ) → 0 < times a l → a < n) → n ≤ firstOr U (filter p l)
+    → (a : ℕ) → 0 < times a l → p a ≡ false
+none-is p n [] live h a o = absurd (omega arith)
+none-is p n (b ∷ l) live h a o = go (p b) refl h (none-is p n l (λ c i. live c (omega arith)))
+  where
+    go : (t : Bool) → p b ≡ t → n ≤ firstOr U (cond t (b ∷ filter p l) (filter p l))
+        → (n ≤ firstOr U (filter p l) → (c : ℕ) → 0 < times c l → p c ≡ false) → p a ≡ false
+    go true e q rec = absurd (omega (arith, live b (omega (arith, hit-same b))))
+    go false e q rec = hit-cases a b (λ i. rw i e) (λ z. rec q a (omega (arith, o)))
+
 module _ (W C : List ℕ) (n r : ℕ) (small : n ≤ 65535) (P : Passes W C n r) (q : Span) where
   -- the first entry in tree order that intersects the range, U if there is none
   pub first-in : firstIn q W n r ≡ firstOr U (filter (meets W q) (slots (P .tree)))
@@ -164,6 +184,17 @@ module _ (W C : List ℕ) (n r : ℕ) (small : n ≤ 65535) (P : Passes W C n r)
 
   pub first-drain : (limit : ℕ) → 0 < limit → firstIn q W n r ≡ firstOr U (drain W n (overlap W n q) limit (fresh r) .slots)
   first-drain limit h = rw (overlap-first W C n r q small P limit, first-take U limit (filter (meets W q) (slots (P .tree))) h) first-in
+
+  -- if it names a slot, that entry intersects the range; if it names none, no entry does
+  pub first-some : firstIn q W n r < n → intersects q (interval W (firstIn q W n r)) ≡ true
+  unfolding meets
+  first-some h = rw first-in (first-is (meets W q) (slots (P .tree)) (omega (arith, first-in)))
+
+  pub first-none : n ≤ firstIn q W n r → (a : ℕ) → a < n → intersects q (interval W a) ≡ false
+  unfolding meets
+  first-none h a i =
+      none-is (meets W q) n (slots (P .tree)) (λ b o. slot-live W C n r P b (rw times-slots at o)) (rw first-in at h) a
+      (omega (arith, times-slots a (P .tree), P .once a i))
 
   -- the search visits at most as many nodes as the tree is high
   pub first-low : length (firstNodes q W n r) ≤ height (P .tree)

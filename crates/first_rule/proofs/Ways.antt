@@ -11,7 +11,13 @@ use borrow.Author.Tests.{lt-ltb, le-ltb}
 use Rattle.words.specs.Ix.{U}
 use Rattle.words.specs.Nodes.{kid}
 use Rattle.tree.specs.Tree.{Tree, leaf, node, height, Shape}
+use Rattle.iter.specs.Lists.{when, firstOr}
 use Rattle.first_rule.specs.Way.{WayDown, wayEnd, wayNodes}
+
+-- U, listed or not
+either : (t : Bool) → firstOr U (when t (U ∷ [])) ≡ U
+either true = refl
+either false = refl
 
 module _ (D : WayDown) (W : List ℕ) (n : ℕ) where
   -- it visits at most as many nodes as the tree is high
@@ -28,6 +34,22 @@ module _ (D : WayDown) (W : List ℕ) (n : ℕ) where
       go true b i j = omega arith
       go false true i j = omega arith
       go false false i j = omega arith
+
+  -- it ends at a slot below the count, or at U
+  pub end-first : (f k : ℕ) → firstOr U (when (ltb (wayEnd D W n f k) n) (wayEnd D W n f k ∷ [])) ≡ wayEnd D W n f k
+  unfolding wayEnd
+  end-first zero k = either (ltb U n)
+  end-first (suc f) k = go (ltb k n) (D .ends k) refl (end-first f (kid W (D .left k) k))
+    where
+      go : (i j : Bool) → ltb k n ≡ i
+          → firstOr U (when (ltb (wayEnd D W n f (kid W (D .left k) k)) n) (wayEnd D W n f (kid W (D .left k) k) ∷ []))
+          ≡ wayEnd D W n f (kid W (D .left k) k)
+          → firstOr U (when (ltb (cond i (cond j k (wayEnd D W n f (kid W (D .left k) k))) U) n)
+          (cond i (cond j k (wayEnd D W n f (kid W (D .left k) k))) U ∷ []))
+          ≡ cond i (cond j k (wayEnd D W n f (kid W (D .left k) k))) U
+      go true true e x = rw e refl
+      go true false e x = x
+      go false j e x = either (ltb U n)
 
   -- Of the way from the link k, with f nodes left to visit: it visits none; it leads to no slot; it
   -- ends at the slot k; it goes on to the child w.
