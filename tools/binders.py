@@ -112,6 +112,7 @@ MEANINGS = {
         a:2 old slot; b byte; b:2 new slot""",
     'examples/Stores': 't store; s slot; e entry; S triples; k link; q range; h height',
     'examples/Table': 'a start; b end; v value; k count; s slot',
+    'disjoint_core': 'a address',
     'disjoint_rule': """
         W words; n count; s slot; m slots to test; r:Bool rest of the test; r root; x interval;
         a:Interval interval; b:Interval next interval; l:[Interval] intervals; l slots; a slot; b other slot""",
