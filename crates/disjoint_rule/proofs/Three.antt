@@ -7,12 +7,13 @@ use Prim.Native.Nat.{ℕ}
 use Rattle.words.specs.Ix.{U, onLink}
 use Rattle.words.specs.Nodes.{word}
 use Rattle.words.specs.declared.interval.Interval.{Interval}
+use Rattle.iter.specs.Overlap.{meets}
 use Rattle.first_rule.specs.Way.{wayEnd, wayNodes}
 use Rattle.first_rule.specs.First.{past, firstPast, firstMet, firstIn}
 use Rattle.first_rule.proofs.Three.{three}
 use Rattle.disjoint_rule.specs.Disjoint.{rangeOf}
 use Rattle.disjoint_rule.specs.Apart.{apartLeft, apartRight, apartAt, apartBelow}
-use Rattle.disjoint_rule.specs.Point.{point, pointNodes}
+use Rattle.disjoint_rule.specs.Point.{only, point, pointNodes}
 
 -- [10, 20), [10, 30), [25, 40), [40, 50) and [45, 60); slot 2 is the root, 0 is left of 1 and 3
 -- left of 4
@@ -30,7 +31,7 @@ met a b = firstIn (rangeOf (record { start = a; end = b })) three 3 1
 
 -- to unfold this name is to unfold all that its line names
 rules : Unit {0}
-unfolding onLink word past wayEnd wayNodes firstPast firstMet firstIn apartLeft apartRight apartAt apartBelow point pointNodes
+unfolding onLink word past wayEnd wayNodes firstPast firstMet firstIn apartLeft apartRight apartAt apartBelow point pointNodes meets
 rules = record {}
 
 -- an entry may end where the next one starts; store A is not disjoint
@@ -56,6 +57,11 @@ pub three-outside : (at 12 ≡ U) × (at 18446744073709551615 ≡ U)
 unfolding rules
 three-outside = (refl, refl)
 
+-- as the general lookup has it: the entry of slot 1 holds the address 5, and that of slot 0 does not
+pub three-holds : (meets three (only 5) 1 ≡ true) × (meets three (only 5) 0 ≡ false)
+unfolding rules
+three-holds = (refl, refl)
+
 -- the found node is entered too
 pub three-entered : (pointNodes three 3 1 5 ≡ 1 ∷ []) × (pointNodes three 3 1 4 ≡ 1 ∷ 0 ∷ []) × (pointNodes three 3 1 12 ≡ 1 ∷ 2 ∷ [])
 unfolding rules
@@ -65,3 +71,8 @@ three-entered = (refl, refl, refl)
 pub three-met : (met 0 12 ≡ 0) × (met 4 6 ≡ 0) × (met 5 9 ≡ 1) × (met 8 20 ≡ 1) × (met 12 20 ≡ U)
 unfolding rules
 three-met = (refl, refl, refl, refl, refl)
+
+-- so at the other side: a new one may end where the first entry of A starts
+pub a-met : (firstIn (rangeOf (record { start = 5; end = 10 })) A 5 2 ≡ U) × (firstIn (rangeOf (record { start = 5; end = 11 })) A 5 2 ≡ 0)
+unfolding rules
+a-met = (refl, refl)

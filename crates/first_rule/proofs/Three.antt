@@ -26,10 +26,14 @@ unfolding onLink word past wayEnd wayNodes firstPast firstMet firstIn firstNodes
 first = record {}
 
 -- in each entry, and in all of them
-pub three-found : (found (Included 0) (Excluded 1) ≡ 0) × (found (Included 5) (Included 5) ≡ 1) × (found (Included 11) Unbounded ≡ 2)
-    × (found Unbounded Unbounded ≡ 0)
+pub three-found : (found (Included 5) (Included 5) ≡ 1) × (found (Included 11) Unbounded ≡ 2) × (found Unbounded Unbounded ≡ 0)
 unfolding first
-three-found = (refl, refl, refl, refl)
+three-found = (refl, refl, refl)
+
+-- a range that ends inside the entry that it starts in
+pub three-inside : found (Included 0) (Excluded 1) ≡ 0
+unfolding first
+three-inside = refl
 
 -- an end is not in its entry: the next entry is the first, if the upper bound admits its start
 pub three-touched : (found (Included 5) (Excluded 10) ≡ 1) × (found (Included 9) (Excluded 10) ≡ 2) × (found (Excluded 5) (Excluded 5) ≡ U)
