@@ -15,7 +15,6 @@ use Rattle.first_rule.specs.Way.{wayEnd, wayNodes}
 use Rattle.first_rule.proofs.Ways.{end-spent, end-gone, end-here, end-on, nodes-spent, nodes-gone, nodes-here, nodes-on}
 use Rattle.disjoint_rule.specs.Apart.{apartLeft, apartRight, apartAt, apartBelow}
 use Rattle.disjoint_rule.specs.Point.{pointWay, point, pointNodes}
-use Rattle.disjoint_core.specs.declared.point.Spot.{Spot}
 use Rattle.disjoint_core.specs.Answers.{spot}
 
 -- the test of a slot with its two links: what was read behind a link, and what of the slot

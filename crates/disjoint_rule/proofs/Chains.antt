@@ -1,6 +1,6 @@
 -- A chain of intervals: each ends at or before the start of the next. On a store that passes the
 -- check no two entries intersect exactly if they are a chain in tree order.
-use mathlib.Core.Path.{_≡_, refl, sym, ap, _∙_}
+use mathlib.Core.Path.{_≡_, refl, sym, _∙_}
 use mathlib.Core.Logic.{_≢_}
 use mathlib.Core.Bool.{Bool, true, false, _&&_, true≢false}
 use mathlib.Core.List.{List, [], _∷_, _++_, map, map-append}
@@ -18,14 +18,15 @@ use Rattle.tree.proofs.Slots.{hit-same, hit-ne, hit-cases, times-append, times-
 use Rattle.tree.proofs.Checked.{slot-live, slot-once}
 use Rattle.tree_rm_rule.proofs.Rows.{split}
 use Rattle.iter.proofs.Bools.{and-false}
-use Rattle.disjoint_rule.specs.Disjoint.{Disjoint, Clear, Chain, ChainAt}
+use Rattle.disjoint_rule.specs.Disjoint.{Disjoint, Chain, ChainAt}
 
-pub chain-front : (xs ys : List Interval) → Chain (xs ++ ys) → Chain xs
+-- the first part of a chain, and the second
+chain-front : (xs ys : List Interval) → Chain (xs ++ ys) → Chain xs
 chain-front [] ys h = tt
 chain-front (a ∷ []) ys h = (tt, tt)
 chain-front (a ∷ b ∷ xs) ys h = (h .0, chain-front (b ∷ xs) ys (h .1))
 
-pub chain-back : (xs ys : List Interval) → Chain (xs ++ ys) → Chain ys
+chain-back : (xs ys : List Interval) → Chain (xs ++ ys) → Chain ys
 chain-back [] ys h = h
 chain-back (a ∷ xs) ys h = chain-back xs ys (h .1)
 
@@ -36,6 +37,7 @@ chain-drop (a ∷ []) i [] p h = (tt, tt)
 chain-drop (a ∷ []) i (b ∷ B) p h = (omega (arith, h .0, h .1 .0), h .1 .1)
 chain-drop (a ∷ c ∷ A) i B p h = (h .0, chain-drop (c ∷ A) i B p (h .1))
 
+-- of the intervals of slots
 module _ (W : List ℕ) where
   pub chain-left : (xs ys : List ℕ) → ChainAt W (xs ++ ys) → ChainAt W xs
   chain-left xs ys h = chain-front (map (interval W) xs) (map (interval W) ys) (rw map-append at h)
@@ -51,11 +53,12 @@ module _ (W : List ℕ) where
   chain-join (a ∷ []) x B h i f g = (f a (omega (arith, hit-same a)), chain-join [] x B tt i (λ c o. absurd (omega arith)) g)
   chain-join (a ∷ c ∷ A) x B h i f g = (h .0, chain-join (c ∷ A) x B (h .1) i (λ d o. f d (omega arith)) g)
 
+  -- all of a list are proper
   abbrev pub Proper : List ℕ → Type 0
   Proper l = (a : ℕ) → 0 < times a l → start W a < stop W a
 
   -- what comes after the first starts at or past its end
-  pub ahead : (c : ℕ) (l : List ℕ) → ChainAt W (c ∷ l) → Proper l → (b : ℕ) → 0 < times b l → stop W c ≤ start W b
+  ahead : (c : ℕ) (l : List ℕ) → ChainAt W (c ∷ l) → Proper l → (b : ℕ) → 0 < times b l → stop W c ≤ start W b
   ahead c [] h f b o = absurd (omega arith)
   ahead c (d ∷ l) h f b o =
       hit-cases b d
@@ -64,7 +67,7 @@ module _ (W : List ℕ) where
       omega (arith, h .0, f d (omega (arith, hit-same d))))
 
   -- a slot of the first part ends at or before the start of one of the second
-  pub chain-at : (a b : ℕ) (xs ys : List ℕ) → ChainAt W (xs ++ ys) → Proper (xs ++ ys) → 0 < times a xs → 0 < times b ys → stop W a ≤ start W b
+  chain-at : (a b : ℕ) (xs ys : List ℕ) → ChainAt W (xs ++ ys) → Proper (xs ++ ys) → 0 < times a xs → 0 < times b ys → stop W a ≤ start W b
   chain-at a b [] ys h f o p = absurd (omega arith)
   chain-at a b (c ∷ xs) ys h f o p =
       hit-cases a c
@@ -98,12 +101,14 @@ module _ (W : List ℕ) where
       }
 
   -- two slots whose intervals follow each other do not intersect, whichever comes first
-  pub apart-before : (a b : ℕ) → stop W a ≤ start W b → (ltb (start W b) (stop W a) && ltb (start W a) (stop W b)) ≡ false
+  apart-before : (a b : ℕ) → stop W a ≤ start W b → (ltb (start W b) (stop W a) && ltb (start W a) (stop W b)) ≡ false
   apart-before a b h = rw (le-ltb (start W b) (stop W a) h) refl
 
-  pub apart-after : (a b : ℕ) → stop W b ≤ start W a → (ltb (start W b) (stop W a) && ltb (start W a) (stop W b)) ≡ false
+  apart-after : (a b : ℕ) → stop W b ≤ start W a → (ltb (start W b) (stop W a) && ltb (start W a) (stop W b)) ≡ false
   apart-after a b h = rw (le-ltb (start W a) (stop W b) h, and-false (ltb (start W b) (stop W a))) refl
 
+  -- A slot that does not intersect the interval x ends at or before its start if it starts before
+  -- the end of x, and starts at or past its end if it ends past the start of x.
   pub before-apart : (x : Interval) (a : ℕ) → start W a < x .end → (ltb (x .start) (stop W a) && ltb (start W a) (x .end)) ≡ false → stop W a ≤ x .start
   before-apart x a i e = go (ltb (x .start) (stop W a)) refl (rw (lt-ltb (start W a) (x .end) i) at e)
     where
@@ -114,7 +119,7 @@ module _ (W : List ℕ) where
   pub after-apart : (x : Interval) (a : ℕ) → x .start < stop W a → (ltb (x .start) (stop W a) && ltb (start W a) (x .end)) ≡ false → x .end ≤ start W a
   after-apart x a i e = ltb-false (start W a) (x .end) (rw (lt-ltb (x .start) (stop W a) i) at e)
 
--- of a store that passes
+-- of a store that passes the check
 module _ (W C : List ℕ) (n r : ℕ) (P : Passes W C n r) where
   pub all-proper : Proper W (slots (P .tree))
   all-proper a o = P .proper a (slot-live W C n r P a (rw times-slots at o))

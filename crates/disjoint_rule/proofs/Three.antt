@@ -6,7 +6,6 @@ use mathlib.Core.List.{List, [], _∷_}
 use Prim.Native.Nat.{ℕ}
 use Rattle.words.specs.Ix.{U, onLink}
 use Rattle.words.specs.Nodes.{word}
-use Rattle.words.specs.declared.interval.Interval.{Interval}
 use Rattle.iter.specs.Overlap.{meets}
 use Rattle.first_rule.specs.Way.{wayEnd, wayNodes}
 use Rattle.first_rule.specs.First.{past, firstPast, firstMet, firstIn}

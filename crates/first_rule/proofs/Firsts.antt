@@ -1,7 +1,7 @@
 -- The search by one way down finds the first entry that intersects, on every store that passes the
 -- check. If an entry goes past the lower bound and the upper bound does not admit it, then the
 -- upper bound admits no entry after it.
-use mathlib.Core.Path.{_≡_, refl, sym, ap, _∙_}
+use mathlib.Core.Path.{_≡_, refl, sym, _∙_}
 use mathlib.Core.Bool.{Bool, true, false, cond, not, _&&_, false≢true}
 use mathlib.Core.List.{List, [], _∷_, _++_}
 use Prim.Native.Nat.{ℕ, zero, suc, _<_, _≤_}
