@@ -33,6 +33,7 @@ fn starts_right(nodes: &[u64], count: u64, slot: u64) -> bool
     end_of(nodes, slot) <= hull_start_of(nodes, right)
 }
 
+// Both tests of a slot.
 fn is_apart(nodes: &[u64], count: u64, slot: u64) -> bool
     requires { ⌜ Holds (now nodes) count × (slot < count) ⌝ }
     ensures { λ r. ⌜ r ≡ apartAt (now (nodes .entry)) count slot ⌝ }
@@ -46,10 +47,10 @@ pub fn all_apart(nodes: &[u64], count: u64) -> bool
     requires { ⌜ Holds (now nodes) count ⌝ }
     ensures { λ r. ⌜ r ≡ apartBelow (now (nodes .entry)) count count ⌝ }
 {
-    let mut left = count;
-    while left > 0 {
-        if is_apart(nodes, count, left - 1) {
-            left -= 1;
+    let mut below = count;
+    while below > 0 {
+        if is_apart(nodes, count, below - 1) {
+            below -= 1;
         } else {
             return false;
         }

@@ -51,7 +51,7 @@ fn first_past(nodes: &[u64], count: u64, root: u64, lo: Bound) -> u64
     U
 }
 
-// Whether there is such a slot and an upper bound admits the start of its entry.
+// Whether `slot` is below the count and an upper bound admits the start of its entry.
 fn is_admitted(nodes: &[u64], count: u64, slot: u64, hi: Bound) -> bool
     requires { ⌜ Holds (now nodes) count ⌝ }
     ensures { λ r. ⌜ r ≡ (ltb slot count && admits hi (start (now (nodes .entry)) slot)) ⌝ }

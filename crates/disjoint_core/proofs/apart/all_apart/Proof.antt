@@ -7,10 +7,10 @@ use Rattle.disjoint_core.proofs.apart.all_apart.Statement.{statement}
 use Rattle.disjoint_core.proofs.apart.all_apart.Tie as tie
 
 abbrev Inv-loop : tie.InvT-loop
-Inv-loop nodes count left₀ left = (apartBelow nodes count count ≡ apartBelow nodes count left) × (left ≤ count)
+Inv-loop nodes count below₀ below = (apartBelow nodes count count ≡ apartBelow nodes count below) × (below ≤ count)
 
 abbrev μ-loop : tie.MeasureT-loop
-μ-loop nodes count left₀ left = left
+μ-loop nodes count below₀ below = below
 
 pub all-apart-spec : {M : Type 1} → statement M
 all-apart-spec =
