@@ -122,6 +122,15 @@ MEANINGS = {
         a:2 old slot; b byte; b:2 new slot""",
     'examples/Stores': 't store; s slot; e entry; S triples; k link; q range; h height',
     'examples/Table': 'a start; b end; v value; k count; s slot',
+    'disjoint_core': 'a address',
+    'disjoint_rule': """
+        W words; n count; s slot; m slots to test; r:Bool rest of the test; r root; x interval;
+        a:Interval interval; b:Interval next interval; l:[Interval] intervals; l slots; a slot; b other slot""",
+    'disjoint_rule/Apart': 'a slot behind the link',
+    'disjoint_rule/Point': 'a address; s slot that was found',
+    'first_rule': """
+        D way down; W words; n count; k link; d slot further down; l nodes further down; s slot;
+        p passes (the test of an end); m:ℕ→Bool admits (the test of a start); a slot behind the link; q range; r root""",
     'iset': """
         S:[ℕ] triples; s slot; e entry; x interval; q:Query query; q:Span range; q range; c cursor;
         k number of a refusal; y refusal; a answer; g answer of the code; t tree; p test of a slot;

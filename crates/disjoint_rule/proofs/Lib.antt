@@ -1,0 +1,6 @@
+pub mod Chains
+pub mod Apart
+pub mod Points
+pub mod Overlaps
+pub mod Kept
+pub mod Three

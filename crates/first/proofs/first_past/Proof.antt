@@ -1,0 +1,33 @@
+use mathlib.Core.Path.{_≡_, refl}
+use native.Mathlib.Omega.{arith}
+use borrow.Author.Needs.{needs}
+use Rattle.words.specs.Intervals.{passed}
+use Rattle.first_rule.specs.First.{firstPast}
+use Rattle.first.proofs.Laws.{past-spent, past-out, past-here, past-on}
+use Rattle.first.proofs.first_past.Statement.{statement}
+use Rattle.first.proofs.first_past.Tie as tie
+
+abbrev Inv-loop : tie.InvT-loop
+Inv-loop nodes count root lo at₀ height₀ at height = firstPast (passed lo) nodes count height₀ at₀ ≡ firstPast (passed lo) nodes count height at
+
+abbrev μ-loop : tie.MeasureT-loop
+μ-loop nodes count root lo at₀ height₀ at height = height
+
+pub first-past-spec : {M : Type 1} → statement M
+first-past-spec =
+    tie.close
+    (tie.spec
+    Inv-loop
+    μ-loop
+    (λ c. refl)
+    (λ c. search past-out)
+    (λ c κs. omega arith)
+    (λ c κs. search needs)
+    (λ c κs. omega arith)
+    (λ c κs. search needs)
+    (λ c. search past-here)
+    (λ c κs. omega arith)
+    (λ c. omega arith)
+    (λ c. omega arith)
+    (λ c. search past-on)
+    (λ c. search past-spent))
