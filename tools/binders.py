@@ -84,11 +84,21 @@ MEANINGS = {
     'tree/Order': 'a interval; b next interval; l:[Interval] intervals; l slots',
     'tree/Tree': 's slot; a other slot; l:[ℕ] slots; d default slot; p parent; k link',
     'tree/Zipper': 'b side (true: left); a slot; c way up; t tree; p parent; k link; r root',
-    'audit/Calls': 'p parent; k link; l:ℕ left calls; r:ℕ right calls',
+    'audit/Calls': 'N nodes (by slot); p parent; k link; l:ℕ left calls; r:ℕ right calls',
     'audit/Survey': """
         s slot; b ok (right so far); d interval of the parent; x node; p parent; k link;
+        N nodes (by slot); M judged (makes the node that is judged);
         l:Found left subtree; r:Found right subtree; l:Interval left hull; r:Interval right hull;
         a found; r root""",
+    'little/Numbers': 'w width (count of bytes); s bytes; i place of a byte; v number',
+    'image_rule': """
+        I image (its bytes); n count; r root; s slot; j place of the link; b side (true: left);
+        h hull; x node; l:Found left subtree; r:Found right subtree; N nodes (by slot); p parent;
+        d:Interval interval of the parent; k link; W words; C colours""",
+    'image_rule/Written': 'w width of a number; v number; l numbers; f piece of a slot; m count of slots',
+    'image_rule/Sought': """
+        a address; e entry; k index of the hit asked for; x seen so far; E entries (by slot);
+        L children (by side and slot); n count; s slot; l slots""",
     'builder/Build': """
         S triples; a start of the span; b end of the span; f levels left for the span;
         d interval to extend; e entry; h hull; p parent; w words of the span; m number;

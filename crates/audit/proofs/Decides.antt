@@ -18,7 +18,7 @@ use Rattle.tree.proofs.Sizes.{full}
 use Rattle.tree.proofs.Once.{Aparts, at-most}
 use Rattle.tree.proofs.Checked.{slot-live, slot-once, tree-size, tree-low}
 use Rattle.audit.specs.declared.Found.{Found}
-use Rattle.audit.specs.Survey.{nodeAt, noNodes, suits, fits, combined, enters, survey, isWhole, wholeOf}
+use Rattle.audit.specs.Survey.{nodeAt, noNodes, suits, fits, combined, enters, pass, survey, isWhole, wholeOf}
 use Rattle.audit.proofs.Tests.{Tells, both, itself, same, not-so, entering}
 use Rattle.audit.proofs.Fits.{Well, foundOf, well-node, well-left, well-right, node-suits, found-node}
 
@@ -54,7 +54,7 @@ record Stands (W C : List ℕ) (n p : ℕ) (d : Interval) (k : ℕ) (a : Found) 
 leaf-well : (W C : List ℕ) → Well W C leaf
 leaf-well W C = record { proper = λ s o. absurd (omega arith); rising = tt; hulls = tt; redBlack = tt }
 
-cond-ok : (b : Bool) (x y : Found) → y .ok ≡ false → cond b x y .ok ≡ true → b ≡ true
+pub cond-ok : (b : Bool) (x y : Found) → y .ok ≡ false → cond b x y .ok ≡ true → b ≡ true
 cond-ok true x y f e = refl
 cond-ok false x y f e = absurd (false≢true (sym f ∙ e))
 
@@ -63,14 +63,14 @@ module _ (W C : List ℕ) (n : ℕ) where
   stands-node : (p : ℕ) (d : Interval) (k : ℕ) (a b : Found)
       → (a .ok ≡ true → Stands W C n k (interval W k) (kid W true k) a)
       → (b .ok ≡ true → Stands W C n k (interval W k) (kid W false k) b)
-      → enters W C n p k ≡ true → combined (nodeAt W C k) a b .ok ≡ true → Stands W C n p d k (combined (nodeAt W C k) a b)
+      → enters (nodeAt W C) n p k ≡ true → combined (nodeAt W C k) a b .ok ≡ true → Stands W C n p d k (combined (nodeAt W C k) a b)
   stands-node p d k a b f g i e =
       let q = both (both (itself (a .ok)) (itself (b .ok))) (itself (suits (nodeAt W C k) a b)) .holds (cond-ok (fits (nodeAt W C k) a b) _ _ refl e) in
       let x : Stands W C n k (interval W k) (kid W true k) a = f (q .0 .0) in
       let y : Stands W C n k (interval W k) (kid W false k) b = g (q .0 .1) in
       let s : suits (nodeAt W C k) (foundOf W C (interval W k) (x .tree)) (foundOf W C (interval W k) (y .tree)) ≡ true =
       sym (ap₂ (suits (nodeAt W C k)) (x .found) (y .found)) ∙ q .1 in
-      let (live, (up, twins)) = entering W C n p k .holds i in
+      let (live, (up, twins)) = entering (nodeAt W C) n p k .holds i in
       record {
         tree = node (x .tree) k (y .tree);
         shape = record { here = refl; live = live; up = up; left = x .shape; right = y .shape };
@@ -80,15 +80,15 @@ module _ (W C : List ℕ) (n : ℕ) where
       }
 
   survey-sound : (h p : ℕ) (d : Interval) (k : ℕ) → survey W C n h p d k .ok ≡ true → Stands W C n p d k (survey W C n h p d k)
-  unfolding survey
+  unfolding pass
   survey-sound zero p d k e = absurd (false≢true e)
   survey-sound (suc h) p d k e =
       go (survey W C n h k (interval W k) (kid W true k)) (survey W C n h k (interval W k) (kid W false k))
       (survey-sound h k (interval W k) (kid W true k)) (survey-sound h k (interval W k) (kid W false k))
-      (eqb k U) (enters W C n p k) refl refl e
+      (eqb k U) (enters (nodeAt W C) n p k) refl refl e
     where
       go : (a b : Found) → (a .ok ≡ true → Stands W C n k (interval W k) (kid W true k) a)
-          → (b .ok ≡ true → Stands W C n k (interval W k) (kid W false k) b) → (u v : Bool) → eqb k U ≡ u → enters W C n p k ≡ v
+          → (b .ok ≡ true → Stands W C n k (interval W k) (kid W false k) b) → (u v : Bool) → eqb k U ≡ u → enters (nodeAt W C) n p k ≡ v
           → cond u (noNodes true d) (cond v (combined (nodeAt W C k) a b) (noNodes false d)) .ok ≡ true
           → Stands W C n p d k (cond u (noNodes true d) (cond v (combined (nodeAt W C k) a b) (noNodes false d)))
       go a b f g true v i j e = record { tree = leaf; shape = eqb-true k U i; aparts = tt; well = leaf-well W C; found = refl }
@@ -98,7 +98,7 @@ module _ (W C : List ℕ) (n : ℕ) where
   -- and the other way round
   survey-finds : n ≤ 65535 → (h p : ℕ) (d : Interval) (k : ℕ) (t : Tree) → Shape W n p k t → Aparts W t → Well W C t
       → height t < h → survey W C n h p d k ≡ foundOf W C d t
-  unfolding survey
+  unfolding pass
   survey-finds m zero p d k t g a w q = absurd (omega arith)
   survey-finds m (suc h) p d k leaf g a w q = rw (eq-eqb k U g)
   survey-finds m (suc h) p d k (node l s r) g a w q =
@@ -107,7 +107,7 @@ module _ (W C : List ℕ) (n : ℕ) where
       let y : survey W C n h s (interval W s) (kid W false s) ≡ foundOf W C (interval W s) r =
       survey-finds m h s (interval W s) (kid W false s) r (g .right) (a .2) (well-right W C l s r w) (omega arith) in
       let u : eqb s U ≡ false = ne-eqb s U (omega (arith, g .live)) in
-      let v : enters W C n p s ≡ true = entering W C n p s .says (g .live, (g .up, a .0)) in
+      let v : enters (nodeAt W C) n p s ≡ true = entering (nodeAt W C) n p s .says (g .live, (g .up, a .0)) in
       rw (g .here, u, v) (ap₂ (combined (nodeAt W C s)) x y ∙ found-node W C l s r d (node-suits W C l s r w))
 
 module _ (W C : List ℕ) (n r : ℕ) (small : n ≤ 65535) where

@@ -9,7 +9,7 @@ use Rattle.words.specs.Ix.{U}
 use Rattle.words.specs.Nodes.{word}
 use Rattle.bitvec.specs.Bits.{bit, bitAt}
 use Rattle.tree.specs.Passes.{Passes}
-use Rattle.audit.specs.Survey.{survey, wholeOf}
+use Rattle.audit.specs.Survey.{pass, wholeOf}
 use Rattle.audit.proofs.Decides.{audit-sound}
 
 -- "[10,20) 1, [10,30) 2, [25,40) 3, [40,50) 4, [45,60) 5: root 2; 2 has 1 and 4; 1 has left 0; 4
@@ -46,7 +46,7 @@ pub record Told : Type 0 where
   pub order : wholeOf (set (set store-A 9 19) 12 20) (9 ∷ []) 5 2 ≡ false
 
 pub told : Told
-unfolding wholeOf survey word bitAt bit store-A store-B
+unfolding wholeOf pass word bitAt bit store-A store-B
 told = record {
   store-a = refl;
   store-b = refl;

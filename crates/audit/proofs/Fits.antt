@@ -30,7 +30,7 @@ pub record Well (W C : List ℕ) (t : Tree) : Type 0 where
 
 module _ (W C : List ℕ) where
   -- the hull of the root; d where there is none
-  abbrev rootHull : Interval → Tree → Interval
+  abbrev pub rootHull : Interval → Tree → Interval
   rootHull d leaf = d
   rootHull d (node l s r) = hull W s
 
@@ -48,7 +48,7 @@ module _ (W C : List ℕ) where
       }
 
   -- the two parts of a node's hull
-  hull-is : (s : ℕ) (l r : Tree)
+  pub hull-is : (s : ℕ) (l r : Tree)
       → (min (min (start W s) (rootHull (interval W s) l .start)) (rootHull (interval W s) r .start) ≡ lowest W l (lowest W r (start W s)))
       × (max (max (stop W s) (rootHull (interval W s) l .end)) (rootHull (interval W s) r .end) ≡ highest W l (highest W r (stop W s)))
   hull-is s leaf leaf = omega arith

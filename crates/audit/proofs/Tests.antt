@@ -1,16 +1,15 @@
 -- What the rule's tests tell, each said once for both directions.
 use mathlib.Core.Path.{_≡_, refl}
 use mathlib.Core.Bool.{Bool, true, false, not, _&&_, _||_, false≢true}
-use mathlib.Core.List.{List}
 use Prim.Native.Nat.{ℕ, _<_, _≤_}
 use native.Mathlib.Omega.{arith}
 use lib.Dec.{eqb, ltb, leb}
 use borrow.Author.Tests.{eq-eqb, eqb-true, ltb-true, ltb-false, lt-ltb, leb-true, le-leb, not-true}
 use Rattle.words.specs.Ix.{U}
 use Rattle.words.specs.Intervals.{le}
-use Rattle.words.specs.Nodes.{kid, par}
 use Rattle.words.specs.declared.interval.Interval.{Interval}
 use Rattle.tree.specs.Order.{NotAfter}
+use Rattle.audit.specs.declared.Node.{Node}
 use Rattle.audit.specs.Survey.{enters}
 
 -- a test says yes exactly if P holds
@@ -78,6 +77,6 @@ noRedRed a b c = record { holds = go a b c; says = back a }
     back false f = refl
 
 -- a slot is entered
-module _ (W C : List ℕ) (n p k : ℕ) where
-  pub entering : Tells (enters W C n p k) ((k < n) × ((par W k ≡ p) × (kid W true k ≡ kid W false k → kid W true k ≡ U)))
-  entering = both (less k n) (both (same (par W k) p) (twins (kid W true k) (kid W false k)))
+module _ (N : ℕ → Node) (n p k : ℕ) where
+  pub entering : Tells (enters N n p k) ((k < n) × ((N k .parent ≡ p) × (N k .left ≡ N k .right → N k .left ≡ U)))
+  entering = both (less k n) (both (same (N k .parent) p) (twins (N k .left) (N k .right)))

@@ -1,8 +1,8 @@
 -- The check's rule: what one pass over the links finds, from the leaves up. proofs/Decides shows
 -- that it says yes exactly to the stores that pass.
 -- Letters: W words, C colours, n count, s slot, b ok (right so far), d interval of the parent,
---   x node, p parent, k link, l left hull or left subtree, r right hull or right subtree or root,
---   a found
+--   x node, p parent, k link, N nodes (by slot), M judged (makes the node that is judged), l left
+--   hull or left subtree, r right hull or right subtree or root, a found
 use mathlib.Core.Bool.{Bool, true, false, cond, not, _&&_, _||_}
 use mathlib.Core.List.{List}
 use Prim.Native.Nat.{ℕ, zero, suc, _+_}
@@ -73,24 +73,33 @@ combined x l r =
     })
     (noNodes false (x .interval))
 
--- the link k below p leads to a slot that knows its parent and has no children, and the height
--- allows for the two ways past it
-abbrev pub childless : (words : List ℕ) (count height parent link : ℕ) → Bool
-childless W n height p k = ltb k n && (eqb (par W k) p && eqb (kid W true k) U && eqb (kid W false k) U && not (eqb k U) && ltb 1 height)
+-- the link k below p leads to a slot with these links that names its parent and has no children,
+-- and the height allows for the two ways past it
+abbrev pub childless : (left right up count height parent link : ℕ) → Bool
+childless left right up n height p k = ltb k n && (eqb up p && eqb left U && eqb right U && not (eqb k U) && ltb 1 height)
 
 -- the slot k, below p, is entered
-abbrev pub enters : (words colours : List ℕ) (count parent link : ℕ) → Bool
-enters W C n p k = ltb k n && tied (nodeAt W C k) p
+abbrev pub enters : (nodes : ℕ → Node) (count parent link : ℕ) → Bool
+enters N n p k = ltb k n && tied (N k) p
 
--- the subtree at the link k, below the slot p whose interval is d, with fewer than `height` nodes
--- on its ways down
-unfoldable pub survey : (words colours : List ℕ) (count height parent : ℕ) (interval : Interval)
+-- One pass over the subtree at the link k, below the slot p whose interval is d, with fewer than
+-- `height` nodes on its ways down. N reads a slot's node. M makes the node that is judged, of the
+-- one that was read and of what was found of its subtrees.
+unfoldable pub pass : (judged : Node → Found → Found → Node) (nodes : ℕ → Node)
+    (count height parent : ℕ) (interval : Interval) (link : ℕ) → Found
+pass M N n zero p d k = noNodes false d
+pass M N n (suc height) p d k =
+    let l : Found = pass M N n height k (N k .interval) (N k .left) in
+    let r : Found = pass M N n height k (N k .interval) (N k .right) in
+    cond (eqb k U) (noNodes true d) (cond (enters N n p k) (combined (M (N k) l r) l r) (noNodes false d))
+
+-- the check of a store: every node is judged as it was read
+abbrev pub asRead : (node : Node) (left right : Found) → Node
+asRead x l r = x
+
+abbrev pub survey : (words colours : List ℕ) (count height parent : ℕ) (interval : Interval)
     (link : ℕ) → Found
-survey W C n zero p d k = noNodes false d
-survey W C n (suc height) p d k =
-    let l : Found = survey W C n height k (interval W k) (kid W true k) in
-    let r : Found = survey W C n height k (interval W k) (kid W false k) in
-    cond (eqb k U) (noNodes true d) (cond (enters W C n p k) (combined (nodeAt W C k) l r) (noNodes false d))
+survey W C n height p d k = pass asRead (nodeAt W C) n height p d k
 
 -- what is found below the root, in a store of n entries
 abbrev pub isWhole : (count : ℕ) (found : Found) → Bool

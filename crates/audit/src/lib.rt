@@ -19,7 +19,7 @@ ghost use mathlib.Core.Bool.{true, false};
 ghost use Prim.Native.Nat.{_+_, _≤_, _<_};
 ghost use Rattle.tree.specs.RedBlack.{blackOf};
 ghost use Rattle.audit.specs.Survey.{nodeAt, noNodes, tied, ordered, hulled, coloured, fits, combined, childless, survey, wholeOf};
-ghost use Rattle.words.specs.Nodes.{Has, HasBit, Holds, HoldsBits};
+ghost use Rattle.words.specs.Nodes.{Has, HasBit, Holds, HoldsBits, kid, par};
 
 // What the check reads of a slot.
 pub struct Node {
@@ -67,7 +67,7 @@ fn node_at(nodes: &[u64], colours: &[u8], slot: u64) -> Node
 // interval, its last one and its hull. That interval is in order with itself and extends no hull,
 // so the node above needs no case for a missing child. A subtree that fails has the same record,
 // with `ok` false.
-fn no_nodes(ok: bool, above: Interval) -> Found
+pub fn no_nodes(ok: bool, above: Interval) -> Found
     ensures { λ r. ⌜ r ≡ noNodes ok above ⌝ }
 {
     Found {
@@ -82,7 +82,7 @@ fn no_nodes(ok: bool, above: Interval) -> Found
 }
 
 // Whether a slot names its parent, and its two child links differ unless both are U.
-fn is_tied(x: Node, parent: u64) -> bool
+pub fn is_tied(x: Node, parent: u64) -> bool
     ensures { λ r. ⌜ r ≡ tied x parent ⌝ }
 {
     (x.parent == parent) & ((x.left != x.right) | (x.left == U))
@@ -130,7 +130,7 @@ fn shade(red: bool) -> u64
 }
 
 // Returns what is found of a node, given what was found of its subtrees.
-fn combine(x: Node, l: Found, r: Found) -> Found
+pub fn combine(x: Node, l: Found, r: Found) -> Found
     requires { ⌜ (l .size + r .size + 1 < 18446744073709551616) × (l .blacks + 1 < 18446744073709551616) ⌝ }
     ensures { λ a. ⌜ a ≡ combined x l r ⌝ }
 {
@@ -156,7 +156,7 @@ fn combine(x: Node, l: Found, r: Found) -> Found
 // The height must also allow for the two undefined links below that slot.
 fn is_leaf(nodes: &[u64], count: u64, link: u64, parent: u64, height: u64) -> bool
     requires { ⌜ Holds (now nodes) count ⌝ }
-    ensures { λ r. ⌜ r ≡ childless (now (nodes .entry)) count height parent link ⌝ }
+    ensures { λ r. ⌜ r ≡ childless (kid (now (nodes .entry)) true link) (kid (now (nodes .entry)) false link) (par (now (nodes .entry)) link) count height parent link ⌝ }
 {
     if link < count {
         let left = child_of(nodes, link, true);

@@ -3,7 +3,7 @@ use mathlib.Core.Path.{refl}
 use Rattle.words.specs.Ix.{onLink}
 use Rattle.words.specs.Nodes.{word, put, putEntry, putHull, swap, joined, hullOf, altered, fix, putNode}
 use Rattle.bitvec.specs.Bits.{bit, put as putBit, bitAt, setBit}
-use Rattle.audit.specs.Survey.{survey, wholeOf}
+use Rattle.audit.specs.Survey.{pass, wholeOf}
 use Rattle.builder.specs.Input.{startOf, endOf, valueOf, every, properAt, inOrder, allProper, sorted as sortedList}
 use Rattle.builder.specs.Build.{spanHull, spanWords, painted, log, levels, buildWords, buildColours, buildRoot}
 use Rattle.tree_edit.specs.Links.{adopt, setChild, redirected, removeChild, redirect, replaced, rootAfter, fixUp, leftmost}
@@ -47,7 +47,7 @@ unfolding onLink word put putEntry putHull swap joined hullOf fix putNode bit pu
 reading = record {}
 
 checking : Unit {0}
-unfolding survey wholeOf countNumber checkRule
+unfolding pass wholeOf countNumber checkRule
 checking = record {}
 
 building : Unit {0}

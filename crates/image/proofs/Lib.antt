@@ -1,0 +1,4 @@
+pub mod Layouts
+pub mod Judges
+pub mod Loads
+pub mod Writes

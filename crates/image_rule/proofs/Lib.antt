@@ -1,0 +1,13 @@
+pub mod Worked
+pub mod Glances
+pub mod Judged
+pub mod Stores
+pub mod Parts
+pub mod Laid
+pub mod Rewritten
+pub mod Reread
+pub mod Unique
+pub mod Fitting
+pub mod Roundtrip
+pub mod Seeks
+pub mod Examples

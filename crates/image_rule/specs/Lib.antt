@@ -1,0 +1,5 @@
+pub mod Judge
+pub mod Layout
+pub mod Stored
+pub mod Written
+pub mod Sought
