@@ -136,9 +136,9 @@ static uint64_t remove_theirs(void) {
     return sum;
 }
 static uint64_t remove_ours(void) {
-    uint64_t sum = 0, answer[10] = {0, n, root};
+    uint64_t sum = 0, answer[ISET_REMOVE_ANSWER] = {0, n, root};
     for (size_t k = 0; k < n; k++) {
-        iset_open_remove(answer[1], answer[2], spare, 8 * n, spare_bytes, colour_bytes, slots[k], answer, 10);
+        iset_open_remove(answer[1], answer[2], (uint32_t)answer[10], spare, 8 * n, spare_bytes, colour_bytes, slots[k], answer, ISET_REMOVE_ANSWER);
         sum = 3 * sum + answer[0];
     }
     return sum;
@@ -175,10 +175,10 @@ static uint64_t insert_theirs(void) {
     return 0;
 }
 static uint64_t insert_ours(void) {
-    uint64_t answer[4] = {0, ISET_U};
+    uint64_t answer[ISET_INSERT_ANSWER] = {0, ISET_U};
     for (size_t k = 0; k < n; k++) {
         const uint64_t *entry = mixed + 3 * k;
-        iset_open_insert(answer[0], answer[1], spare, 8 * n, spare_bytes, colour_bytes, entry[0], entry[1], entry[2], answer, 4);
+        iset_open_insert(answer[0], answer[1], (uint32_t)answer[4], spare, 8 * n, spare_bytes, colour_bytes, entry[0], entry[1], entry[2], answer, ISET_INSERT_ANSWER);
     }
     grown_root = answer[1];
     return 0;
@@ -354,8 +354,8 @@ static uint64_t build_theirs(void) {
     return 0;
 }
 static uint64_t build_ours(void) {
-    uint64_t answer[2] = {0};
-    iset_build(spare, 8 * n, spare_bytes, colour_bytes, list, 3 * n, answer, 2);
+    uint64_t answer[ISET_BUILD_ANSWER] = {0};
+    iset_build(0, spare, 8 * n, spare_bytes, colour_bytes, list, 3 * n, answer, ISET_BUILD_ANSWER);
     built_root = answer[1];
     return 0;
 }

@@ -1,5 +1,5 @@
 /* A small host: it builds a map, looks up a range, removes an entry, carries the slots that it kept
- * over the removal, and inserts an entry. To build and run it on x86-64:
+ * over the removal, inserts an entry, and reads through a ticket. To build and run it on x86-64:
  *
  *     ./archive
  *     gcc -std=c99 -I include examples/host.c target/staticlib/libiset.a -o host && ./host
@@ -17,6 +17,7 @@
 static uint64_t nodes[ISET_NODES_LEN(ENTRIES)];
 static uint8_t colours[ISET_COLOURS_LEN(ENTRIES)];
 static uint64_t count, root = ISET_U;
+static uint32_t version;
 
 #define MEMORY nodes, ISET_NODES_LEN(ENTRIES), colours, ISET_COLOURS_LEN(ENTRIES)
 
@@ -29,10 +30,12 @@ static int went_well(uint64_t no) {
 static int build(void) {
     static const uint64_t list[] = {10, 20, 1, 10, 30, 2, 25, 40, 3, 40, 50, 4, 45, 60, 5};
     uint64_t answer[ISET_BUILD_ANSWER];
-    if (!went_well(iset_build(MEMORY, list, sizeof list / sizeof *list, answer, ISET_BUILD_ANSWER)))
+    if (!went_well(iset_build(version, MEMORY, list, sizeof list / sizeof *list, answer,
+            ISET_BUILD_ANSWER)))
         return 0;
     count = answer[ISET_BUILT_COUNT];
     root = answer[ISET_BUILT_ROOT];
+    version = (uint32_t)answer[ISET_BUILT_VERSION];
     printf("built %" PRIu64 " entries\n", count);
     return 1;
 }
@@ -64,9 +67,11 @@ static int look_up(uint64_t start, uint64_t end) {
  * entry. */
 static int remove_slot(uint64_t slot, uint64_t *kept, size_t kept_len) {
     uint64_t answer[ISET_REMOVE_ANSWER];
-    if (!went_well(iset_remove(count, root, MEMORY, slot, answer, ISET_REMOVE_ANSWER))) return 0;
+    if (!went_well(iset_remove(count, root, version, MEMORY, slot, answer, ISET_REMOVE_ANSWER)))
+        return 0;
     count = answer[ISET_REMOVED_COUNT];
     root = answer[ISET_REMOVED_ROOT];
+    version = (uint32_t)answer[ISET_REMOVED_VERSION];
     printf("removed value %" PRIu64 " from slot %" PRIu64 "\n", answer[ISET_REMOVED_VALUE], slot);
     for (size_t i = 0; i < kept_len; i++) {
         uint64_t after = iset_slot_after(answer, slot, kept[i]);
@@ -80,19 +85,33 @@ static int remove_slot(uint64_t slot, uint64_t *kept, size_t kept_len) {
 static int insert(uint64_t start, uint64_t end, uint64_t value) {
     uint64_t answer[ISET_INSERT_ANSWER];
     if (!went_well(
-            iset_insert(count, root, MEMORY, start, end, value, answer, ISET_INSERT_ANSWER)))
+            iset_insert(count, root, version, MEMORY, start, end, value, answer,
+                ISET_INSERT_ANSWER)))
         return 0;
     count = answer[ISET_INSERTED_COUNT];
     root = answer[ISET_INSERTED_ROOT];
+    version = (uint32_t)answer[ISET_INSERTED_VERSION];
     printf("inserted value %" PRIu64 " in slot %" PRIu64 "\n", value, answer[ISET_INSERTED_SLOT]);
+    return 1;
+}
+
+/* Reads the entry of a slot, if the map is still as it was at version `taken`. */
+static int read_slot(uint64_t slot, uint32_t taken) {
+    uint64_t answer[ISET_READ_ANSWER];
+    if (!went_well(
+            iset_read(count, root, version, MEMORY, slot, taken, answer, ISET_READ_ANSWER)))
+        return 0;
+    printf("read value %" PRIu64 " in slot %" PRIu64 "\n", answer[ISET_READ_VALUE], slot);
     return 1;
 }
 
 int main(void) {
     uint64_t kept[] = {0, 1, 2, 4};
-    if (!build() || !look_up(20, 45) || !remove_slot(1, kept, 4) || !insert(30, 35, 6) ||
-        !look_up(20, 45))
-        return 1;
+    if (!build() || !look_up(20, 45)) return 1;
+    /* A ticket for slot 1: it can be read until the next change. */
+    uint32_t taken = version;
+    if (!read_slot(1, taken) || !remove_slot(1, kept, 4) || read_slot(1, taken)) return 1;
+    if (!insert(30, 35, 6) || !look_up(20, 45)) return 1;
     /* There is no slot 9: the call is refused, and changes nothing. */
     return remove_slot(9, kept, 4) ? 1 : 0;
 }

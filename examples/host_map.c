@@ -53,6 +53,13 @@ static int remove_slot(
     return 1;
 }
 
+static int read_ticket(iset_map map, iset_memory memory, iset_ticket ticket) {
+    iset_entry entry;
+    if (!went_well(iset_map_open_read(map, memory, ticket, &entry))) return 0;
+    printf("read value %" PRIu64 " in slot %" PRIu64 "\n", entry.value, ticket.slot);
+    return 1;
+}
+
 int main(void) {
     static const iset_entry list[] = {
         {10, 20, 1}, {10, 30, 2}, {25, 40, 3}, {40, 50, 4}, {45, 60, 5}};
@@ -67,7 +74,11 @@ int main(void) {
 
     if (!went_well(iset_map_build(&map, memory, list, sizeof list / sizeof *list))) return 1;
     printf("built %" PRIu64 " entries\n", map.count);
-    if (!look_up(map, memory, 20, 45) || !remove_slot(&map, memory, 1, kept, 4)) return 1;
+    if (!look_up(map, memory, 20, 45)) return 1;
+    /* A ticket for slot 1: it can be read until the next change. */
+    iset_ticket ticket = iset_map_ticket(map, 1);
+    if (!read_ticket(map, memory, ticket) || !remove_slot(&map, memory, 1, kept, 4)) return 1;
+    if (read_ticket(map, memory, ticket)) return 1;
     if (!went_well(iset_map_open_insert(&map, memory, entry, &inserted))) return 1;
     printf("inserted value %" PRIu64 " in slot %" PRIu64 "\n", entry.value, inserted.slot);
     if (!look_up(map, memory, 20, 45)) return 1;

@@ -10,13 +10,13 @@
  * `./archive` proves the library and writes libiset.a. include/iset_map.h has the same calls with
  * structs instead of single numbers.
  *
- * A map is its count and its root, two numbers that are passed by value. Each change answers the
- * new ones. The entries are in two lent arrays:
+ * A map is its count, its root and its version, three numbers that are passed by value. Each change
+ * answers the new ones. The entries are in two lent arrays:
  *   nodes     eight words a slot, see enum iset_word
  *   colours   one bit a slot: bit i is bit i % 8 of byte i / 8, and 1 is red
  * A map holds at most the least of nodes_len / 8, colours_len * 8 and 65535 entries, in slots 0 to
  * count - 1. An entry's range begins at its start and ends before its end. The map of no entries
- * has count 0 and root ISET_U.
+ * has count 0, root ISET_U and version 0.
  *
  * Each call returns ISET_OK or a refusal, see enum iset_refusal. Treat every number but ISET_OK as
  * a refusal, also one that this header does not list: later versions of the library add some.
@@ -35,7 +35,14 @@
  * A slot stays valid until the next removal. The removal lists the entries that moved: update the
  * slots you kept with iset_slot_after, or look them up again. An insertion moves no entry: every
  * slot stays valid. A cursor that is used after a removal or an insertion is tested against the new
- * store. */
+ * store.
+ *
+ * The version goes up by one at each build, removal and insertion that is not refused; after
+ * 4294967295 comes 0. A slot together with the version that the map has then is a ticket.
+ * iset_read reads the entry of a ticket's slot, and refuses the ticket as stale if the map has
+ * changed since: at least once and fewer than 4,294,967,296 times. After exactly that many changes
+ * the ticket can pass. This holds if each change is made to the newest map, and none to an older
+ * copy. docs/MANUAL.md has examples. */
 #ifndef ISET_H
 #define ISET_H
 
@@ -44,9 +51,9 @@
 
 /* The version of the library that this header belongs to. */
 #define ISET_VERSION_MAJOR 0
-#define ISET_VERSION_MINOR 4
+#define ISET_VERSION_MINOR 5
 #define ISET_VERSION_PATCH 0
-#define ISET_VERSION "0.4.0"
+#define ISET_VERSION "0.5.0"
 
 /* No slot: the root of the map of no entries, a link that leads nowhere, the slot of an ended
  * cursor, an unused move. */
@@ -88,7 +95,8 @@ enum iset_refusal {
     ISET_SHORT_OUTPUT = 9,    /* the drain's limit is above the output's length, or a plain lookup's
                                  output is shorter than the count */
     ISET_BAD_BIT = 10,        /* of bit vectors and stacks; none of these calls returns it */
-    /* Later refusals of the map are numbered from 11. These two belong to the calls from C: */
+    ISET_STALE = 11,          /* the map has changed since the ticket was taken */
+    /* Later refusals of the map are numbered from 12. These two belong to the calls from C: */
     ISET_SHORT_ANSWER = 101,  /* `answer` has fewer places than the answer has numbers */
     ISET_BAD_BOUND = 102      /* a bound's kind is not 0, 1 or 2 */
 };
@@ -98,9 +106,10 @@ enum iset_bound_kind { ISET_INCLUDED = 0, ISET_EXCLUDED = 1, ISET_UNBOUNDED = 2 
 
 /* How many numbers an answer has. */
 enum iset_answer {
-    ISET_BUILD_ANSWER = 2,
-    ISET_REMOVE_ANSWER = 10,
-    ISET_INSERT_ANSWER = 4,
+    ISET_BUILD_ANSWER = 3,
+    ISET_REMOVE_ANSWER = 11,
+    ISET_INSERT_ANSWER = 5,
+    ISET_READ_ANSWER = 3,
     ISET_FRESH_ANSWER = 3,
     ISET_STEP_ANSWER = 5,
     ISET_DRAIN_ANSWER = 5,
@@ -109,20 +118,23 @@ enum iset_answer {
 };
 
 /* The places of each answer. */
-enum iset_build_place { ISET_BUILT_COUNT = 0, ISET_BUILT_ROOT = 1 };
+enum iset_build_place { ISET_BUILT_COUNT = 0, ISET_BUILT_ROOT = 1, ISET_BUILT_VERSION = 2 };
 enum iset_remove_place {
     ISET_REMOVED_VALUE = 0,
     ISET_REMOVED_COUNT = 1,
     ISET_REMOVED_ROOT = 2,
     ISET_REMOVED_MOVES = 3, /* old slot, new slot, three times: places 3 to 8 */
-    ISET_REMOVED_REACH = 9
+    ISET_REMOVED_REACH = 9,
+    ISET_REMOVED_VERSION = 10
 };
 enum iset_insert_place {
     ISET_INSERTED_COUNT = 0,
     ISET_INSERTED_ROOT = 1,
     ISET_INSERTED_SLOT = 2,
-    ISET_INSERTED_REACH = 3
+    ISET_INSERTED_REACH = 3,
+    ISET_INSERTED_VERSION = 4
 };
+enum iset_read_place { ISET_READ_START = 0, ISET_READ_END = 1, ISET_READ_VALUE = 2 };
 enum iset_fresh_place { ISET_FRESH_SLOT = 0, ISET_FRESH_LEVELS = 1, ISET_FRESH_BITS = 2 };
 enum iset_step_place {
     ISET_STEP_HIT = 0,
@@ -159,6 +171,7 @@ static inline const char *iset_refusal_name(uint64_t no) {
     case ISET_BAD_LIST: return "the list's length is not a multiple of 3";
     case ISET_SHORT_OUTPUT: return "the output is too short";
     case ISET_BAD_BIT: return "no such bit";
+    case ISET_STALE: return "the map has changed since the ticket was taken";
     case ISET_SHORT_ANSWER: return "the answer is too short";
     case ISET_BAD_BOUND: return "a bound's kind is not 0, 1 or 2";
     default: return "unknown refusal";
@@ -171,20 +184,23 @@ uint64_t iset_check(uint64_t count, uint64_t root, const uint64_t *nodes, size_t
     const uint8_t *colours, size_t colours_len);
 
 /* Builds the map of a sorted list of triples start, end, value. Entry k goes to slot k. Slots and
- * colour bits past the entries are unchanged.
- * Answer: count, root.
+ * colour bits past the entries are unchanged. `version` is that of the map that the new one takes
+ * the place of, and 0 if there was none.
+ * Answer: count, root, version.
  * Refusals: SHORT_ANSWER, BAD_LIST, NO_ROOM, BAD_INTERVAL, NOT_SORTED. */
-uint64_t iset_build(uint64_t *nodes, size_t nodes_len, uint8_t *colours, size_t colours_len,
-    const uint64_t *list, size_t list_len, uint64_t *answer, size_t answer_len);
+uint64_t iset_build(uint32_t version, uint64_t *nodes, size_t nodes_len, uint8_t *colours,
+    size_t colours_len, const uint64_t *list, size_t list_len, uint64_t *answer,
+    size_t answer_len);
 
 /* Removes the entry of a slot. Up to three other entries change slot. Afterwards the slot that is
  * the new count is empty: its left, right and parent words are ISET_U, its other words 0.
  * Answer: the removed value, count, root; then three moves, each an old slot and a new slot, by
  * rising old slot, an unused one ISET_U twice; then the reach: how many of the hulls that the
- * removal worked out changed, at either end.
+ * removal worked out changed, at either end; then the version.
  * Refusals: SHORT_ANSWER, NO_ROOM, BROKEN, NO_SUCH. */
-uint64_t iset_remove(uint64_t count, uint64_t root, uint64_t *nodes, size_t nodes_len,
-    uint8_t *colours, size_t colours_len, uint64_t slot, uint64_t *answer, size_t answer_len);
+uint64_t iset_remove(uint64_t count, uint64_t root, uint32_t version, uint64_t *nodes,
+    size_t nodes_len, uint8_t *colours, size_t colours_len, uint64_t slot, uint64_t *answer,
+    size_t answer_len);
 
 /* Returns the slot that an entry has after a removal, if it had slot `kept` before; ISET_U if it is
  * the removed entry. `answer` has the ISET_REMOVE_ANSWER numbers of that removal, which was not
@@ -195,11 +211,19 @@ uint64_t iset_slot_after(const uint64_t *answer, uint64_t removed, uint64_t kept
 /* Adds one entry, in slot count. No other entry changes slot. The new entry comes after the entries
  * that are equal to it, and these stay.
  * Answer: count, root, the new entry's slot, which is the count before; then the reach: how many of
- * the hulls that the insertion worked out changed.
+ * the hulls that the insertion worked out changed; then the version.
  * Refusals: SHORT_ANSWER, NO_ROOM if the arrays hold no more entries than the count, BROKEN,
  * BAD_INTERVAL. */
-uint64_t iset_insert(uint64_t count, uint64_t root, uint64_t *nodes, size_t nodes_len,
-    uint8_t *colours, size_t colours_len, uint64_t start, uint64_t end, uint64_t value,
+uint64_t iset_insert(uint64_t count, uint64_t root, uint32_t version, uint64_t *nodes,
+    size_t nodes_len, uint8_t *colours, size_t colours_len, uint64_t start, uint64_t end,
+    uint64_t value, uint64_t *answer, size_t answer_len);
+
+/* Reads the entry of a slot through a ticket: the slot, and the version that the map had when the
+ * ticket was taken.
+ * Answer: start, end, value.
+ * Refusals: SHORT_ANSWER, NO_ROOM, BROKEN, STALE if `taken` is not the map's version, NO_SUCH. */
+uint64_t iset_read(uint64_t count, uint64_t root, uint32_t version, const uint64_t *nodes,
+    size_t nodes_len, const uint8_t *colours, size_t colours_len, uint64_t slot, uint32_t taken,
     uint64_t *answer, size_t answer_len);
 
 /* Gives the cursor at which a lookup of the entries that intersect a range begins. The map is

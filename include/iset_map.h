@@ -23,10 +23,17 @@
 extern "C" {
 #endif
 
-/* A map: its number of entries, and the slot of its root. */
+/* A map: its number of entries, the slot of its root, and how often it was changed, modulo 2^32. */
 typedef struct iset_map {
     uint64_t count, root;
+    uint32_t version;
 } iset_map;
+
+/* A slot with the version that the map had when the ticket was taken. */
+typedef struct iset_ticket {
+    uint64_t slot;
+    uint32_t version;
+} iset_ticket;
 
 /* The two lent arrays. Only builds, removals and insertions write them. */
 typedef struct iset_memory {
@@ -98,7 +105,7 @@ typedef struct iset_tally {
 
 /* The map of no entries. */
 static inline iset_map iset_map_none(void) {
-    iset_map map = {0, ISET_U};
+    iset_map map = {0, ISET_U, 0};
     return map;
 }
 
@@ -159,18 +166,28 @@ static inline uint64_t iset_map_get(
     return ISET_OK;
 }
 
-/* What the wrappers share. First the arguments of a call. */
+/* A ticket for a slot. The slot is tested when the ticket is used. */
+static inline iset_ticket iset_map_ticket(iset_map map, uint64_t slot) {
+    iset_ticket ticket = {slot, map.version};
+    return ticket;
+}
+
+/* What the wrappers share. First the arguments of a call, without and with the version. */
 #define ISET_LENT_(map, memory) \
     (map).count, (map).root, (memory).nodes, (memory).nodes_len, (memory).colours, \
         (memory).colours_len
+#define ISET_DATED_(map, memory) \
+    (map).count, (map).root, (map).version, (memory).nodes, (memory).nodes_len, \
+        (memory).colours, (memory).colours_len
 #define ISET_RANGE_(range) (range).lo.kind, (range).lo.at, (range).hi.kind, (range).hi.at
 #define ISET_CURSOR_(cursor) (cursor).slot, (cursor).levels, (cursor).bits
 
 /* Then the empty answers. A refused call leaves them. */
 #define ISET_NOT_REMOVED_(map) \
-    { 0, (map).count, (map).root, ISET_U, ISET_U, ISET_U, ISET_U, ISET_U, ISET_U, 0 }
+    { 0, (map).count, (map).root, ISET_U, ISET_U, ISET_U, ISET_U, ISET_U, ISET_U, 0, \
+        (map).version }
 #define ISET_NOT_INSERTED_(map) \
-    { (map).count, (map).root, ISET_U, 0 }
+    { (map).count, (map).root, ISET_U, 0, (map).version }
 #define ISET_ENDED_ \
     { ISET_U, 0, 0 }
 #define ISET_NO_STEP_ \
@@ -180,9 +197,14 @@ static inline uint64_t iset_map_get(
 
 /* Then the structs of the answers. */
 
-static inline iset_map iset_map_(uint64_t count, uint64_t root) {
-    iset_map map = {count, root};
+static inline iset_map iset_map_(uint64_t count, uint64_t root, uint64_t version) {
+    iset_map map = {count, root, (uint32_t)version};
     return map;
+}
+
+static inline iset_entry iset_entry_(const uint64_t *answer) {
+    iset_entry entry = {answer[ISET_READ_START], answer[ISET_READ_END], answer[ISET_READ_VALUE]};
+    return entry;
 }
 
 static inline iset_cursor iset_cursor_(const uint64_t *numbers) {
@@ -226,21 +248,25 @@ static inline uint64_t iset_map_check(iset_map map, iset_memory memory) {
     return iset_check(ISET_LENT_(map, memory));
 }
 
-/* `list` has `entries` entries, sorted by start, then end. BAD_LIST is never returned. */
+/* `list` has `entries` entries, sorted by start, then end. BAD_LIST is never returned. `map` is the
+ * map that the new one takes the place of: its version is read. Begin with iset_map_none. */
 static inline uint64_t iset_map_build(iset_map *map, iset_memory memory, const iset_entry *list,
     size_t entries) {
-    uint64_t answer[ISET_BUILD_ANSWER] = {0, ISET_U};
-    uint64_t no = iset_build(memory.nodes, memory.nodes_len, memory.colours, memory.colours_len,
-        (const uint64_t *)list, entries * 3, answer, ISET_BUILD_ANSWER);
-    if (no == ISET_OK) *map = iset_map_(answer[ISET_BUILT_COUNT], answer[ISET_BUILT_ROOT]);
+    uint64_t answer[ISET_BUILD_ANSWER] = {0, ISET_U, 0};
+    uint64_t no = iset_build(map->version, memory.nodes, memory.nodes_len, memory.colours,
+        memory.colours_len, (const uint64_t *)list, entries * 3, answer, ISET_BUILD_ANSWER);
+    if (no == ISET_OK)
+        *map = iset_map_(
+            answer[ISET_BUILT_COUNT], answer[ISET_BUILT_ROOT], answer[ISET_BUILT_VERSION]);
     return no;
 }
 
 static inline uint64_t iset_map_remove(iset_map *map, iset_memory memory, uint64_t slot,
     iset_removed *removed) {
     uint64_t answer[ISET_REMOVE_ANSWER] = ISET_NOT_REMOVED_(*map);
-    uint64_t no = iset_remove(ISET_LENT_(*map, memory), slot, answer, ISET_REMOVE_ANSWER);
-    *map = iset_map_(answer[ISET_REMOVED_COUNT], answer[ISET_REMOVED_ROOT]);
+    uint64_t no = iset_remove(ISET_DATED_(*map, memory), slot, answer, ISET_REMOVE_ANSWER);
+    *map = iset_map_(
+        answer[ISET_REMOVED_COUNT], answer[ISET_REMOVED_ROOT], answer[ISET_REMOVED_VERSION]);
     *removed = iset_removed_(no == ISET_OK ? slot : ISET_U, answer);
     return no;
 }
@@ -250,17 +276,28 @@ static inline uint64_t iset_map_remove(iset_map *map, iset_memory memory, uint64
 static inline uint64_t iset_map_slot_after(const iset_removed *removed, uint64_t kept) {
     const iset_move *moved = removed->moved;
     const uint64_t answer[ISET_REMOVE_ANSWER] = {0, 0, 0, moved[0].old_slot, moved[0].new_slot,
-        moved[1].old_slot, moved[1].new_slot, moved[2].old_slot, moved[2].new_slot, 0};
+        moved[1].old_slot, moved[1].new_slot, moved[2].old_slot, moved[2].new_slot, 0, 0};
     return iset_slot_after(answer, removed->slot, kept);
 }
 
 static inline uint64_t iset_map_insert(iset_map *map, iset_memory memory, iset_entry entry,
     iset_inserted *inserted) {
     uint64_t answer[ISET_INSERT_ANSWER] = ISET_NOT_INSERTED_(*map);
-    uint64_t no = iset_insert(ISET_LENT_(*map, memory), entry.start, entry.end, entry.value, answer,
+    uint64_t no = iset_insert(ISET_DATED_(*map, memory), entry.start, entry.end, entry.value, answer,
         ISET_INSERT_ANSWER);
-    *map = iset_map_(answer[ISET_INSERTED_COUNT], answer[ISET_INSERTED_ROOT]);
+    *map = iset_map_(
+        answer[ISET_INSERTED_COUNT], answer[ISET_INSERTED_ROOT], answer[ISET_INSERTED_VERSION]);
     *inserted = iset_inserted_(answer);
+    return no;
+}
+
+/* Reads the entry of a ticket: see iset_read. */
+static inline uint64_t iset_map_read(iset_map map, iset_memory memory, iset_ticket ticket,
+    iset_entry *entry) {
+    uint64_t answer[ISET_READ_ANSWER] = {0, 0, 0};
+    uint64_t no = iset_read(ISET_DATED_(map, memory), ticket.slot, ticket.version, answer,
+        ISET_READ_ANSWER);
+    *entry = iset_entry_(answer);
     return no;
 }
 
@@ -364,8 +401,9 @@ static inline uint64_t iset_map_at(iset_map map, iset_memory memory, uint64_t ad
 static inline uint64_t iset_map_open_remove(iset_map *map, iset_memory memory, uint64_t slot,
     iset_removed *removed) {
     uint64_t answer[ISET_REMOVE_ANSWER] = ISET_NOT_REMOVED_(*map);
-    uint64_t no = iset_open_remove(ISET_LENT_(*map, memory), slot, answer, ISET_REMOVE_ANSWER);
-    *map = iset_map_(answer[ISET_REMOVED_COUNT], answer[ISET_REMOVED_ROOT]);
+    uint64_t no = iset_open_remove(ISET_DATED_(*map, memory), slot, answer, ISET_REMOVE_ANSWER);
+    *map = iset_map_(
+        answer[ISET_REMOVED_COUNT], answer[ISET_REMOVED_ROOT], answer[ISET_REMOVED_VERSION]);
     *removed = iset_removed_(no == ISET_OK ? slot : ISET_U, answer);
     return no;
 }
@@ -373,10 +411,20 @@ static inline uint64_t iset_map_open_remove(iset_map *map, iset_memory memory, u
 static inline uint64_t iset_map_open_insert(iset_map *map, iset_memory memory, iset_entry entry,
     iset_inserted *inserted) {
     uint64_t answer[ISET_INSERT_ANSWER] = ISET_NOT_INSERTED_(*map);
-    uint64_t no = iset_open_insert(ISET_LENT_(*map, memory), entry.start, entry.end, entry.value,
+    uint64_t no = iset_open_insert(ISET_DATED_(*map, memory), entry.start, entry.end, entry.value,
         answer, ISET_INSERT_ANSWER);
-    *map = iset_map_(answer[ISET_INSERTED_COUNT], answer[ISET_INSERTED_ROOT]);
+    *map = iset_map_(
+        answer[ISET_INSERTED_COUNT], answer[ISET_INSERTED_ROOT], answer[ISET_INSERTED_VERSION]);
     *inserted = iset_inserted_(answer);
+    return no;
+}
+
+static inline uint64_t iset_map_open_read(iset_map map, iset_memory memory, iset_ticket ticket,
+    iset_entry *entry) {
+    uint64_t answer[ISET_READ_ANSWER] = {0, 0, 0};
+    uint64_t no = iset_open_read(ISET_DATED_(map, memory), ticket.slot, ticket.version, answer,
+        ISET_READ_ANSWER);
+    *entry = iset_entry_(answer);
     return no;
 }
 
@@ -469,6 +517,7 @@ static inline uint64_t iset_map_open_at(iset_map map, iset_memory memory, uint64
 }
 
 #undef ISET_LENT_
+#undef ISET_DATED_
 #undef ISET_RANGE_
 #undef ISET_CURSOR_
 #undef ISET_NOT_REMOVED_

@@ -2,7 +2,8 @@
  *
  * These calls may be used if three things hold. The store passed iset_check once, or iset_build
  * made it, or it is the map of no entries. Since then nobody has written its two arrays but these
- * calls and those of iset.h. The count and the root passed in are those of the last answer.
+ * calls and those of iset.h. The count and the root passed in are those of the last answer, and so
+ * is the version.
  *
  * Then each call returns, answers and leaves exactly what the call of iset.h does that has its name
  * without `open_`, and the store still passes the check. Otherwise answers may be wrong and a call
@@ -28,12 +29,18 @@ extern "C" {
 #endif
 
 /* Refusals: SHORT_ANSWER, NO_ROOM, NO_SUCH. */
-uint64_t iset_open_remove(uint64_t count, uint64_t root, uint64_t *nodes, size_t nodes_len,
-    uint8_t *colours, size_t colours_len, uint64_t slot, uint64_t *answer, size_t answer_len);
+uint64_t iset_open_remove(uint64_t count, uint64_t root, uint32_t version, uint64_t *nodes,
+    size_t nodes_len, uint8_t *colours, size_t colours_len, uint64_t slot, uint64_t *answer,
+    size_t answer_len);
 
 /* Refusals: SHORT_ANSWER, NO_ROOM, BAD_INTERVAL. */
-uint64_t iset_open_insert(uint64_t count, uint64_t root, uint64_t *nodes, size_t nodes_len,
-    uint8_t *colours, size_t colours_len, uint64_t start, uint64_t end, uint64_t value,
+uint64_t iset_open_insert(uint64_t count, uint64_t root, uint32_t version, uint64_t *nodes,
+    size_t nodes_len, uint8_t *colours, size_t colours_len, uint64_t start, uint64_t end,
+    uint64_t value, uint64_t *answer, size_t answer_len);
+
+/* Refusals: SHORT_ANSWER, NO_ROOM, STALE, NO_SUCH. */
+uint64_t iset_open_read(uint64_t count, uint64_t root, uint32_t version, const uint64_t *nodes,
+    size_t nodes_len, const uint8_t *colours, size_t colours_len, uint64_t slot, uint32_t taken,
     uint64_t *answer, size_t answer_len);
 
 /* iset_fresh checks nothing, so it serves both. */

@@ -23,6 +23,7 @@ static void done(u64 refusal) {
     exit(1);
 }
 #define STORE count, root, words, 8 * n, bytes, colour_bytes
+#define CHANGED count, root, 0, words, 8 * n, bytes, colour_bytes
 
 // A lookup by ranges: DRAIN does one range, and tells the nodes that it entered.
 typedef u64 (*lookup)(const own::range &q, u64 &entered);
@@ -77,7 +78,7 @@ static u64 fast(const own::range &q, u64 &entered) {
 struct ours : by_ranges<pruned> {
     static u64 build(size_t) {
         u64 answer[ISET_BUILD_ANSWER];
-        done(iset_build(words, 8 * n, bytes, colour_bytes, &entries[0].start, 3 * n, answer, ISET_BUILD_ANSWER));
+        done(iset_build(0, words, 8 * n, bytes, colour_bytes, &entries[0].start, 3 * n, answer, ISET_BUILD_ANSWER));
         count = answer[ISET_BUILT_COUNT], root = answer[ISET_BUILT_ROOT];
         return 0;
     }
@@ -91,13 +92,13 @@ struct ours : by_ranges<pruned> {
     static u64 find(const item &x) { return words[8 * slot_of(x) + 2]; }
     static u64 remove(const item &x) {
         u64 answer[ISET_REMOVE_ANSWER];
-        done(iset_open_remove(STORE, slot_of(x), answer, ISET_REMOVE_ANSWER));
+        done(iset_open_remove(CHANGED, slot_of(x), answer, ISET_REMOVE_ANSWER));
         count = answer[ISET_REMOVED_COUNT], root = answer[ISET_REMOVED_ROOT];
         return answer[ISET_REMOVED_VALUE];
     }
     static void insert(const item &x) {
         u64 answer[ISET_INSERT_ANSWER];
-        done(iset_open_insert(STORE, x.start, x.end, x.value, answer, ISET_INSERT_ANSWER));
+        done(iset_open_insert(CHANGED, x.start, x.end, x.value, answer, ISET_INSERT_ANSWER));
         count = answer[ISET_INSERTED_COUNT], root = answer[ISET_INSERTED_ROOT];
     }
 };

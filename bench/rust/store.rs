@@ -6,7 +6,7 @@ use iset_proved::{Map, Store};
 /// Null where the store is refused.
 #[no_mangle]
 pub unsafe extern "C" fn store_open(count: u64, root: u64, w: *mut u64, wn: usize, b: *mut u8, bn: usize) -> *mut Store<'static> {
-    match Store::open(Map { count, root }, from_raw_parts_mut(w, wn), from_raw_parts_mut(b, bn)) {
+    match Store::open(Map { count, root, version: 1 }, from_raw_parts_mut(w, wn), from_raw_parts_mut(b, bn)) {
         Ok(store) => Box::into_raw(Box::new(store)),
         Err(_) => core::ptr::null_mut(),
     }

@@ -22,6 +22,7 @@ struct lent {
     uint8_t colours[BYTES];
     size_t words, bytes, items, places, room;
     uint64_t count, root;
+    uint32_t version;
 };
 
 static struct lent now, before;
@@ -72,11 +73,12 @@ static void build_in(const char *name, const uint64_t *list, size_t items, size_
     memcpy(now.list, list, items * sizeof *list);
     now.items = items;
     begin(room);
-    uint64_t no = iset_build(now.nodes, now.words, now.colours, now.bytes, now.list, items, now.answer, room);
+    uint64_t no = iset_build(now.version, now.nodes, now.words, now.colours, now.bytes, now.list, items, now.answer, room);
     line(name, no, ISET_BUILD_ANSWER, 0, 1);
     if (no == 0) {
         now.count = now.answer[0];
         now.root = now.answer[1];
+        now.version = (uint32_t)now.answer[2];
         printf(" colours %d", now.colours[0]);
     }
     printf("\n");
@@ -88,11 +90,12 @@ static void build(const char *name, const uint64_t *list, size_t items) {
 
 static void remove_in(const char *name, uint64_t slot, size_t room) {
     begin(room);
-    uint64_t no = iset_remove(now.count, now.root, now.nodes, now.words, now.colours, now.bytes, slot, now.answer, room);
+    uint64_t no = iset_remove(now.count, now.root, now.version, now.nodes, now.words, now.colours, now.bytes, slot, now.answer, room);
     line(name, no, ISET_REMOVE_ANSWER, 0, 1);
     if (no == 0) {
         now.count = now.answer[1];
         now.root = now.answer[2];
+        now.version = (uint32_t)now.answer[10];
         printf(" colours %d", now.colours[0]);
     }
     printf("\n");
@@ -105,11 +108,12 @@ static void remove_slot(const char *name, uint64_t slot) {
 // An insertion moves no old entry, and leaves the slots past the new one.
 static void insert_in(const char *name, uint64_t start, uint64_t end, uint64_t value, size_t room) {
     begin(room);
-    uint64_t no = iset_insert(now.count, now.root, now.nodes, now.words, now.colours, now.bytes, start, end, value, now.answer, room);
+    uint64_t no = iset_insert(now.count, now.root, now.version, now.nodes, now.words, now.colours, now.bytes, start, end, value, now.answer, room);
     line(name, no, ISET_INSERT_ANSWER, 0, 1);
     if (no == 0) {
         now.count = now.answer[0];
         now.root = now.answer[1];
+        now.version = (uint32_t)now.answer[4];
         printf(" colours %d", now.colours[0]);
         for (size_t i = 0; i < before.count; i++)
             if (differ(now.nodes, before.nodes, i * 8, i * 8 + 3)) printf(" ENTRY MOVED");
@@ -120,6 +124,18 @@ static void insert_in(const char *name, uint64_t start, uint64_t end, uint64_t v
 
 static void insert(const char *name, uint64_t start, uint64_t end, uint64_t value) {
     insert_in(name, start, end, value, ISET_INSERT_ANSWER);
+}
+
+// Reading through a ticket.
+static void read_in(const char *name, uint64_t slot, uint32_t taken, size_t room) {
+    begin(room);
+    uint64_t no = iset_read(now.count, now.root, now.version, now.nodes, now.words, now.colours, now.bytes, slot, taken, now.answer, room);
+    line(name, no, ISET_READ_ANSWER, 0, 0);
+    printf("\n");
+}
+
+static void read_slot(const char *name, uint64_t slot, uint32_t taken) {
+    read_in(name, slot, taken, ISET_READ_ANSWER);
 }
 
 // A query: exact, by start and end; or a range, by two bounds. A cursor. A limit.
@@ -225,7 +241,8 @@ static void store_a(void) {
     now.root = 2;
     memcpy(now.list, LIST_A, sizeof LIST_A);
     begin(ISET_BUILD_ANSWER);
-    if (iset_build(now.nodes, 40, now.colours, 1, now.list, 15, now.answer, ISET_BUILD_ANSWER) != 0) abort();
+    if (iset_build(0, now.nodes, 40, now.colours, 1, now.list, 15, now.answer, ISET_BUILD_ANSWER) != 0) abort();
+    now.version = 1;
 }
 
 static void links(const char *name, uint64_t slot) {
@@ -293,6 +310,24 @@ static void refused_insertions(void) {
     insert_in("a short answer", 30, 35, 6, ISET_INSERT_ANSWER - 1);
     insert_in("and an empty interval", 30, 30, 6, ISET_INSERT_ANSWER - 1), insert_in("no answer", 30, 35, 6, 0);
     ordered();
+}
+
+static void tickets(void) {
+    uint64_t here = UINT64_C(1) << 32;
+    store_a();
+    for (uint64_t slot = 0; slot < 5; slot++) read_slot("A read", slot, 1);
+    read_slot("distance 1", 2, 0), read_slot("distance 2^32 - 1", 2, 2), read_slot("slot 5", 5, 1), read_slot("slot 5, stale", 5, 0);
+    read_slot("slot U", ISET_U, 1), read_slot("slot 2^32 + 2", here + 2, 1), read_slot("slot 2^64 - 1", UINT64_MAX, 1);
+    read_in("a short answer", 2, 1, ISET_READ_ANSWER - 1), read_in("a short answer, stale", 2, 0, ISET_READ_ANSWER - 1), read_in("no answer", 2, 1, 0);
+    remove_slot("A remove 9", 9), read_slot("after a refusal", 2, 1);
+    remove_slot("A remove 1", 1), read_slot("after a removal", 2, 1), read_slot("anew", 2, 2), read_slot("slot 4", 4, 2), read_slot("slot 4, stale", 4, 1);
+    insert("insert", 12, 13, 6), read_slot("after an insertion", 2, 2), read_slot("anew", 4, 3);
+    build("build", LIST_B, 9), read_slot("after a build", 2, 3), read_slot("anew", 2, 4);
+    store_a(), now.version = UINT32_MAX, remove_slot("at the top, remove 4", 4), read_slot("round", 2, UINT32_MAX), read_slot("anew", 2, 0);
+    store_a(), now.root = 1, read_slot("root 1", 2, 1), read_slot("root 1, stale", 2, 0), now.count = 6, read_slot("count 6, stale", 2, 0);
+    lend(40, 1), read_slot("no entries", 0, 0), read_slot("no entries, stale", 0, 1);
+    store_a(), remove_slot("one copy, remove 1", 1), read_slot("its slot 0", 0, 2);
+    store_a(), remove_slot("another, remove 2", 2), read_slot("its slot 0", 0, 2);
 }
 
 static void looked_up(void) {
@@ -363,10 +398,10 @@ static void bad_stores(void) {
     begin(ISET_BUILD_ANSWER);
     printf("NULL check: %" PRIu64, iset_check(0, ISET_U, NULL, 0, NULL, 0));
     printf(", with an entry: %" PRIu64, iset_check(1, 0, NULL, 0, NULL, 0));
-    uint64_t no = iset_build(NULL, 0, NULL, 0, NULL, 0, now.answer, ISET_BUILD_ANSWER);
+    uint64_t no = iset_build(0, NULL, 0, NULL, 0, NULL, 0, now.answer, ISET_BUILD_ANSWER);
     printf(", build: %" PRIu64 " %" PRIu64 " %" PRIu64, no, now.answer[0], now.answer[1]);
-    printf(", insert: %" PRIu64, iset_insert(0, ISET_U, NULL, 0, NULL, 0, 1, 2, 3, now.answer, ISET_INSERT_ANSWER));
-    printf(", with no answer: %" PRIu64, iset_insert(0, ISET_U, NULL, 0, NULL, 0, 1, 2, 3, NULL, 0));
+    printf(", insert: %" PRIu64, iset_insert(0, ISET_U, 0, NULL, 0, NULL, 0, 1, 2, 3, now.answer, ISET_INSERT_ANSWER));
+    printf(", with no answer: %" PRIu64, iset_insert(0, ISET_U, 0, NULL, 0, NULL, 0, 1, 2, 3, NULL, 0));
     printf(", answer: %" PRIu64 "\n", iset_fresh(0, ISET_U, NULL, 0));
 }
 
@@ -407,7 +442,7 @@ static void short_answers(void) {
     store_a();
     limit = 0;
     fresh("fresh", all);
-    build_in("build", LIST_A, 15, 1), build_in("of 4 numbers", LIST_A, 4, 0);
+    build_in("build", LIST_A, 15, ISET_BUILD_ANSWER - 1), build_in("of 4 numbers", LIST_A, 4, 0);
     remove_in("remove", 0, ISET_REMOVE_ANSWER - 1), remove_in("of no slot", 5, ISET_REMOVE_ANSWER - 1);
     fresh_in("fresh", all, 2), fresh_in("exact", exact(10, 20), 2);
     step_in("step", all, 4), step_in("of a kind 3", range(3, 0, 0, 0), 4), step_in("exact", exact(10, 20), 4);
@@ -422,13 +457,13 @@ static void most(void) {
     uint8_t *colours = calloc(n / 8, 1);
     if (!nodes || !list || !colours) abort();
     for (size_t i = 0; i < n; i++) list[i * 3] = i * 2, list[i * 3 + 1] = i * 2 + 1, list[i * 3 + 2] = i;
-    printf("65536 entries: %" PRIu64, iset_build(nodes, n * 8, colours, n / 8, list, n * 3, answer, ISET_REMOVE_ANSWER));
-    uint64_t no = iset_build(nodes, n * 8, colours, n / 8, list, n * 3 - 3, answer, ISET_REMOVE_ANSWER);
+    printf("65536 entries: %" PRIu64, iset_build(0, nodes, n * 8, colours, n / 8, list, n * 3, answer, ISET_REMOVE_ANSWER));
+    uint64_t no = iset_build(0, nodes, n * 8, colours, n / 8, list, n * 3 - 3, answer, ISET_REMOVE_ANSWER);
     printf(", 65535: %" PRIu64 " %" PRIu64 " %" PRIu64, no, answer[0], answer[1]);
     printf(", check: %" PRIu64, iset_check(answer[0], answer[1], nodes, n * 8, colours, n / 8));
-    printf(", insert: %" PRIu64, iset_insert(answer[0], answer[1], nodes, n * 8, colours, n / 8, 1, 2, 3, answer, ISET_REMOVE_ANSWER));
-    printf(", remove: %" PRIu64, iset_remove(answer[0], answer[1], nodes, n * 8, colours, n / 8, 7, answer, ISET_REMOVE_ANSWER));
-    no = iset_insert(answer[1], answer[2], nodes, n * 8, colours, n / 8, 1, 2, 3, answer, ISET_REMOVE_ANSWER);
+    printf(", insert: %" PRIu64, iset_insert(answer[0], answer[1], 1, nodes, n * 8, colours, n / 8, 1, 2, 3, answer, ISET_REMOVE_ANSWER));
+    printf(", remove: %" PRIu64, iset_remove(answer[0], answer[1], 1, nodes, n * 8, colours, n / 8, 7, answer, ISET_REMOVE_ANSWER));
+    no = iset_insert(answer[1], answer[2], 2, nodes, n * 8, colours, n / 8, 1, 2, 3, answer, ISET_REMOVE_ANSWER);
     printf(", insert: %" PRIu64 " %" PRIu64 " %" PRIu64 " %" PRIu64, no, answer[0], answer[1], answer[2]);
     printf(", check: %" PRIu64 "\n", iset_check(answer[0], answer[1], nodes, n * 8, colours, n / 8));
     free(nodes);
@@ -440,6 +475,7 @@ int main(void) {
     built_and_removed();
     inserted();
     refused_insertions();
+    tickets();
     looked_up();
     looked_up_plainly();
     found_all();

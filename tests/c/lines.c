@@ -13,6 +13,7 @@
 
 // the store of the last line `store`, and the copy that a request works on
 static uint64_t nodes[WORDS], copy[WORDS], out[PLACES], count, root;
+static uint32_t version;
 static uint8_t colours[BYTES], colours_copy[BYTES];
 static size_t words, bytes;
 
@@ -23,7 +24,7 @@ static uint64_t number(void) {
 }
 
 static void store(void) {
-    count = number(), root = number();
+    version = (uint32_t)number(), count = number(), root = number();
     words = number();
     for (size_t i = 0; i < words; i++) nodes[i] = number();
     bytes = number();
@@ -54,17 +55,23 @@ static void put_changes(void) {
     printf("\n");
 }
 
-// An answer is what a refused call prints before the call writes it. The number of changed hulls,
-// at its end, is in no line.
+// An answer is what a refused call prints before the call writes it. The number of changed hulls and
+// the version, at its end, are in no line.
 static void remove_slot(void) {
     uint64_t a[ISET_REMOVE_ANSWER] = {0, count, root, ISET_U, ISET_U, ISET_U, ISET_U, ISET_U, ISET_U}, slot = number();
-    put(iset_open_remove(count, root, copy, words, colours_copy, bytes, slot, a, ISET_REMOVE_ANSWER), a, 9);
+    put(iset_open_remove(count, root, version, copy, words, colours_copy, bytes, slot, a, ISET_REMOVE_ANSWER), a, 9);
     put_changes();
 }
 
 static void insert(void) {
     uint64_t a[ISET_INSERT_ANSWER] = {count, root, ISET_U}, start = number(), end = number(), value = number();
-    put(iset_open_insert(count, root, copy, words, colours_copy, bytes, start, end, value, a, ISET_INSERT_ANSWER), a, 3);
+    put(iset_open_insert(count, root, version, copy, words, colours_copy, bytes, start, end, value, a, ISET_INSERT_ANSWER), a, 3);
+    put_changes();
+}
+
+static void read_slot(void) {
+    uint64_t a[ISET_READ_ANSWER] = {0, 0, 0}, slot = number(), taken = number();
+    put(iset_open_read(count, root, version, copy, words, colours_copy, bytes, slot, (uint32_t)taken, a, ISET_READ_ANSWER), a, 3);
     put_changes();
 }
 
@@ -134,6 +141,7 @@ int main(void) {
         if (strcmp(name, "store") == 0) store();
         else if (strcmp(name, "remove") == 0) remove_slot();
         else if (strcmp(name, "insert") == 0) insert();
+        else if (strcmp(name, "read") == 0) read_slot();
         else if (strcmp(name, "fresh") == 0) fresh();
         else if (strcmp(name, "step") == 0) step();
         else if (strcmp(name, "drain") == 0) drain();

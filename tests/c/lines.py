@@ -1,7 +1,7 @@
 #!/usr/bin/env python3
 """lines.py REQUESTS ANSWERS: takes the recorded lines of the programs drive and test_vectors that
 the opened calls take, if the store passes the check. It writes them, each after a line `store`, to
-REQUESTS, and the recorded answers to ANSWERS."""
+REQUESTS, and the recorded answers to ANSWERS. A line `store` has the version in front."""
 import pathlib
 import sys
 
@@ -10,11 +10,11 @@ sys.path.insert(0, str(TOP / 'tests'))
 import drive  # noqa: E402
 import model  # noqa: E402
 
-TAKEN = 'remove', 'insert', 'fresh e', 'step', 'drain', 'plain', 'find'
+TAKEN = 'remove', 'insert', 'fresh e', 'step', 'drain', 'plain', 'find', 'read'
 
 
 def store_line(store):
-    parts = [store.count, store.root, len(store.words), *store.words, len(store.colours), *store.colours]
+    parts = [store.version, store.count, store.root, len(store.words), *store.words, len(store.colours), *store.colours]
     return ' '.join(map(str, ['store', *parts]))
 
 

@@ -38,6 +38,9 @@ static unsigned long calls, refusals;
 #define LENT \
     MAP(RAW).count, MAP(RAW).root, MEMORY(RAW).nodes, MEMORY(RAW).nodes_len, MEMORY(RAW).colours, \
         MEMORY(RAW).colours_len
+#define DATED \
+    MAP(RAW).count, MAP(RAW).root, MAP(RAW).version, MEMORY(RAW).nodes, MEMORY(RAW).nodes_len, \
+        MEMORY(RAW).colours, MEMORY(RAW).colours_len
 #define ANSWER replies[RAW].numbers
 
 static void fail(const char *what) {
@@ -76,37 +79,38 @@ static void carried(uint64_t removed, const iset_removed *answer) {
 }
 
 static void remove_one(void) {
-    uint64_t slot = any(MAP(RAW).count + 2), none[] = {0, 0, 0, U, U, U, U, U, U, 0};
-    none[1] = MAP(RAW).count, none[2] = MAP(RAW).root;
+    uint64_t slot = any(MAP(RAW).count + 2), none[] = {0, 0, 0, U, U, U, U, U, U, 0, 0};
+    none[1] = MAP(RAW).count, none[2] = MAP(RAW).root, none[10] = MAP(RAW).version;
     empty(ISET_REMOVE_ANSWER, none);
-    replies[RAW].no = iset_remove(LENT, slot, ANSWER, ISET_REMOVE_ANSWER);
+    replies[RAW].no = iset_remove(DATED, slot, ANSWER, ISET_REMOVE_ANSWER);
     for (int k = PUBLIC; k < COPIES; k++) {
         iset_removed r;
         uint64_t no = k == PUBLIC ? iset_map_remove(&MAP(k), MEMORY(k), slot, &r)
                                   : iset_map_open_remove(&MAP(k), MEMORY(k), slot, &r);
         uint64_t numbers[] = {r.value, MAP(k).count, MAP(k).root, r.moved[0].old_slot,
             r.moved[0].new_slot, r.moved[1].old_slot, r.moved[1].new_slot, r.moved[2].old_slot,
-            r.moved[2].new_slot, r.reach};
+            r.moved[2].new_slot, r.reach, MAP(k).version};
         put(&replies[k], no, ISET_REMOVE_ANSWER, numbers);
         if (r.slot != (no == ISET_OK ? slot : U)) fail("the slot that was removed");
         if (no == ISET_OK) carried(slot, &r);
     }
     equal("remove");
     MAP(RAW).count = ANSWER[1], MAP(RAW).root = ANSWER[2];
+    MAP(RAW).version = (uint32_t)ANSWER[10];
 }
 
 static void insert(void) {
-    uint64_t start = any(100), end = start + any(12), value = any(1000), none[] = {0, 0, U, 0};
+    uint64_t start = any(100), end = start + any(12), value = any(1000), none[] = {0, 0, U, 0, 0};
     iset_entry entry = {start, end, value};
-    none[0] = MAP(RAW).count, none[1] = MAP(RAW).root;
+    none[0] = MAP(RAW).count, none[1] = MAP(RAW).root, none[4] = MAP(RAW).version;
     empty(ISET_INSERT_ANSWER, none);
-    replies[RAW].no = iset_insert(LENT, start, end, value, ANSWER, ISET_INSERT_ANSWER);
+    replies[RAW].no = iset_insert(DATED, start, end, value, ANSWER, ISET_INSERT_ANSWER);
     for (int k = PUBLIC; k < COPIES; k++) {
         iset_inserted r;
         iset_entry read;
         uint64_t no = k == PUBLIC ? iset_map_insert(&MAP(k), MEMORY(k), entry, &r)
                                   : iset_map_open_insert(&MAP(k), MEMORY(k), entry, &r);
-        uint64_t numbers[] = {MAP(k).count, MAP(k).root, r.slot, r.reach};
+        uint64_t numbers[] = {MAP(k).count, MAP(k).root, r.slot, r.reach, MAP(k).version};
         put(&replies[k], no, ISET_INSERT_ANSWER, numbers);
         if (no != ISET_OK) continue;
         if (iset_map_get(MAP(k), MEMORY(k), r.slot, &read) != ISET_OK || read.start != start ||
@@ -115,6 +119,24 @@ static void insert(void) {
     }
     equal("insert");
     MAP(RAW).count = ANSWER[0], MAP(RAW).root = ANSWER[1];
+    MAP(RAW).version = (uint32_t)ANSWER[4];
+}
+
+/* A ticket of this map or of the one before it, mostly for a slot that is there. */
+static void read_one(void) {
+    static const uint64_t none[] = {0, 0, 0};
+    iset_ticket ticket = iset_map_ticket(MAP(PUBLIC), any(MAP(RAW).count + 2));
+    ticket.version -= (uint32_t)(any(3) == 0);
+    empty(ISET_READ_ANSWER, none);
+    replies[RAW].no = iset_read(DATED, ticket.slot, ticket.version, ANSWER, ISET_READ_ANSWER);
+    for (int k = PUBLIC; k < COPIES; k++) {
+        iset_entry e;
+        uint64_t no = k == PUBLIC ? iset_map_read(MAP(k), MEMORY(k), ticket, &e)
+                                  : iset_map_open_read(MAP(k), MEMORY(k), ticket, &e);
+        uint64_t numbers[] = {e.start, e.end, e.value};
+        put(&replies[k], no, ISET_READ_ANSWER, numbers);
+    }
+    equal("read");
 }
 
 static iset_bound any_bound(uint64_t at) {
@@ -274,22 +296,26 @@ static void exacts(void) {
 /* A list by chance, sorted or not, and what is refused leaves the map. */
 static void build(void) {
     iset_entry list[5];
-    uint64_t start = 0, entries = any(6), answer[ISET_BUILD_ANSWER] = {0, U};
+    uint64_t start = 0, entries = any(6), answer[ISET_BUILD_ANSWER] = {0, U, 0};
+    uint32_t version = (uint32_t)any(2) * UINT32_MAX;
+    answer[2] = version;
     for (uint64_t i = 0; i < entries; i++) {
         start = any(8) ? start + 1 + any(9) : 0;
         list[i].start = start, list[i].end = start + any(12), list[i].value = i;
     }
     empty(ISET_BUILD_ANSWER, answer);
-    replies[RAW].no = iset_build(MEMORY(RAW).nodes, MEMORY(RAW).nodes_len, MEMORY(RAW).colours,
-        MEMORY(RAW).colours_len, &list->start, entries * 3, ANSWER, ISET_BUILD_ANSWER);
+    replies[RAW].no = iset_build(version, MEMORY(RAW).nodes, MEMORY(RAW).nodes_len,
+        MEMORY(RAW).colours, MEMORY(RAW).colours_len, &list->start, entries * 3, ANSWER, ISET_BUILD_ANSWER);
     for (int k = PUBLIC; k < COPIES; k++) {
         MAP(k) = iset_map_none();
+        MAP(k).version = version;
         uint64_t no = iset_map_build(&MAP(k), MEMORY(k), list, entries);
-        uint64_t numbers[] = {MAP(k).count, MAP(k).root};
+        uint64_t numbers[] = {MAP(k).count, MAP(k).root, MAP(k).version};
         put(&replies[k], no, ISET_BUILD_ANSWER, numbers);
     }
     equal("build");
     MAP(RAW).count = ANSWER[0], MAP(RAW).root = ANSWER[1];
+    MAP(RAW).version = (uint32_t)ANSWER[2];
 }
 
 static void start(void) {
@@ -331,6 +357,7 @@ static void faces(void) {
     tell(iset_map_find_all_exact(MAP(1), MEMORY(1), 3, 4, OUT(1), SLOTS, &t));
     tell(iset_map_at(MAP(1), MEMORY(1), 3, OUT(1), SLOTS, &t));
     tell(iset_map_fresh_exact(MAP(1), MEMORY(1), 3, 4, &e));
+    tell(iset_map_read(MAP(1), MEMORY(1), iset_map_ticket(MAP(1), 0), &entry));
     tell(iset_map_insert(&MAP(1), MEMORY(1), entry, &inserted));
     tell(iset_map_remove(&MAP(1), MEMORY(1), 0, &removed));
     printf(", opened:");
@@ -344,6 +371,7 @@ static void faces(void) {
     tell(iset_map_open_fresh_exact(MAP(2), MEMORY(2), 3, 4, &e));
     tell(iset_map_open_step_exact(MAP(2), MEMORY(2), 3, 4, e, &s));
     tell(iset_map_open_drain_exact(MAP(2), MEMORY(2), 3, 4, e, 0, OUT(2), SLOTS, &d));
+    tell(iset_map_open_read(MAP(2), MEMORY(2), iset_map_ticket(MAP(2), 0), &entry));
     tell(iset_map_open_insert(&MAP(2), MEMORY(2), entry, &inserted));
     tell(iset_map_open_remove(&MAP(2), MEMORY(2), 0, &removed));
     printf("\n");
@@ -352,7 +380,7 @@ static void faces(void) {
 static void read_refused(void) {
     iset_entry entry;
     iset_memory memory = MEMORY(RAW);
-    iset_map map = {SLOTS, 0};
+    iset_map map = {SLOTS, 0, 0};
     memory.nodes_len = ISET_NODES_LEN(SLOTS) - 1;
     printf("get: %" PRIu64, iset_map_get(map, memory, SLOTS - 2, &entry));
     printf(" %" PRIu64, iset_map_get(map, memory, SLOTS - 1, &entry));
@@ -369,6 +397,7 @@ int main(void) {
             overlaps();
             exacts();
             at();
+            read_one();
         }
         for (int k = 0; k < COPIES; k++)
             if (iset_map_check(MAP(k), MEMORY(k)) != ISET_OK) fail("check");
@@ -376,7 +405,7 @@ int main(void) {
     printf("maps: %lu calls as their wrappers, %lu of them refused\n", calls, refusals);
     faces();
     read_refused();
-    for (uint64_t no = 0; no < 104; no = no == 12 ? 100 : no + 1)
+    for (uint64_t no = 0; no < 104; no = no == 16 ? 100 : no + 1)
         printf("%" PRIu64 ": %s\n", no, iset_refusal_name(no));
     printf("%" PRIu64 ": %s\n", UINT64_MAX, iset_refusal_name(UINT64_MAX));
     for (int n = 0; n < 20; n += 1 + 6 * (n % 2))

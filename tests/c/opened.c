@@ -78,6 +78,7 @@ static void equal(const char *what) {
 #define PUBLIC public_reply.answer
 
 static uint64_t count, root;
+static uint32_t version;
 static int compared;
 
 // No place of the output was written from this one on.
@@ -99,10 +100,26 @@ static void as_drained(uint64_t places, int no, const struct reply *found) {
 // a slot, mostly one that is there
 static uint64_t near_slot(void) { return any(8) == 0 ? any(3) == 0 ? ISET_U : count + any(2) : any(count + 1); }
 
+// A change raises the version by one. The version before is that of a ticket that is stale now.
+static void changed(uint64_t now) {
+    if (now != (uint32_t)(version + 1)) fail("the version after a change");
+    version = (uint32_t)now;
+}
+
+// A ticket of this version, of the one before or of any other, mostly for a slot that is there.
+static void read_one(void) {
+    uint64_t slot = near_slot();
+    uint32_t taken = any(3) ? version : any(2) ? version - 1 : (uint32_t)chance;
+    BOTH("read", iset_read(count, root, version, FIRST, slot, taken, PUBLIC, 3), iset_open_read(count, root, version, SECOND, slot, taken, OPENED, 3));
+    if (!compared || opened_reply.no != 0) return;
+    if (taken != version || slot >= count || memcmp(second.nodes + 8 * slot, OPENED, 24) != 0) fail("the entry read");
+}
+
 static void insert(void) {
     uint64_t start = any(600), end = start + any(60), value = any(1000);
-    BOTH("insert", iset_insert(count, root, FIRST, start, end, value, PUBLIC, 4), iset_open_insert(count, root, SECOND, start, end, value, OPENED, 4));
-    if (opened_reply.no == 0) count = OPENED[0], root = OPENED[1];
+    BOTH("insert", iset_insert(count, root, version, FIRST, start, end, value, PUBLIC, 5),
+        iset_open_insert(count, root, version, SECOND, start, end, value, OPENED, 5));
+    if (opened_reply.no == 0) count = OPENED[0], root = OPENED[1], changed(OPENED[4]);
 }
 
 // the entries that were in the store before are where iset_slot_after says
@@ -118,9 +135,9 @@ static void carry(uint64_t removed, uint64_t old_count) {
 static void remove_one(void) {
     uint64_t slot = near_slot(), old_count = count;
     kept = second;
-    BOTH("remove", iset_remove(count, root, FIRST, slot, PUBLIC, 10), iset_open_remove(count, root, SECOND, slot, OPENED, 10));
+    BOTH("remove", iset_remove(count, root, version, FIRST, slot, PUBLIC, 11), iset_open_remove(count, root, version, SECOND, slot, OPENED, 11));
     if (opened_reply.no != 0) return;
-    count = OPENED[1], root = OPENED[2];
+    count = OPENED[1], root = OPENED[2], changed(OPENED[10]);
     if (compared) carry(slot, old_count);
 }
 
@@ -180,14 +197,17 @@ static void exacts(void) {
 static void look_up(void) {
     overlaps();
     exacts();
+    read_one();
 }
 
 // An answer that is a place too short, in calls that would be refused for another reason too, and
 // in calls that would not.
 static void short_answers(void) {
     uint64_t slot = near_slot();
-    BOTH("short insert", iset_insert(count, root, FIRST, 3, slot, 1, PUBLIC, 3), iset_open_insert(count, root, SECOND, 3, slot, 1, OPENED, 3));
-    BOTH("short remove", iset_remove(count, root, FIRST, slot, PUBLIC, 9), iset_open_remove(count, root, SECOND, slot, OPENED, 9));
+    BOTH("short insert", iset_insert(count, root, version, FIRST, 3, slot, 1, PUBLIC, 4),
+        iset_open_insert(count, root, version, SECOND, 3, slot, 1, OPENED, 4));
+    BOTH("short remove", iset_remove(count, root, version, FIRST, slot, PUBLIC, 10), iset_open_remove(count, root, version, SECOND, slot, OPENED, 10));
+    BOTH("short read", iset_read(count, root, version, FIRST, slot, version, PUBLIC, 2), iset_open_read(count, root, version, SECOND, slot, version, OPENED, 2));
     BOTH("short fresh", iset_fresh_exact(count, root, FIRST, 3, slot, PUBLIC, 2), iset_open_fresh_exact(count, root, SECOND, 3, slot, OPENED, 2));
     BOTH("short step", iset_step(count, root, FIRST, slot, 0, 2, 0, root, 1, 0, PUBLIC, 4),
         iset_open_step(count, root, SECOND, slot, 0, 2, 0, root, 1, 0, OPENED, 4));
@@ -205,7 +225,7 @@ static void start(void) {
     uint64_t slots = 1 + any(MOST - 1);
     words = 8 * slots + any(8);
     bytes = slots / 8 + 1;
-    count = 0, root = ISET_U;
+    count = 0, root = ISET_U, version = any(3) ? 0 : (uint32_t)-20;
     for (size_t i = 0; i < words; i++) second.nodes[i] = any(2) ? any(slots + 2) : chance;
     for (size_t i = 0; i < bytes; i++) second.colours[i] = (uint8_t)any(256);
     guard(&second);

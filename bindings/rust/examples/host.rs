@@ -1,13 +1,13 @@
 // A small host: it builds a map, looks up a range, removes an entry, carries the slots that it kept
-// over the removal, and inserts an entry. To build and run it on x86-64, at the top of the
-// repository:
+// over the removal, inserts an entry, and reads through a ticket. To build and run it on x86-64, at
+// the top of the repository:
 //
 //     ./archive
 //     ISET_LIB_DIR=$PWD/target/staticlib \
 //         cargo run --manifest-path bindings/rust/Cargo.toml --example host
 //
 // It prints the lines of examples/host.expected, as examples/host.c does.
-use iset_proved::{Query, Refusal, Store};
+use iset_proved::{Query, Refusal, Store, Ticket};
 
 const ENTRIES: usize = 8;
 
@@ -42,6 +42,13 @@ fn remove(store: &mut Store, slot: u64, kept: &mut [Option<u64>]) -> Result<(), 
     Ok(())
 }
 
+/// Reads the entry of a ticket, if the store has not changed since.
+fn read(store: &Store, ticket: Ticket) -> Result<(), Refusal> {
+    let entry = store.read_ticket(ticket)?;
+    println!("read value {} in slot {}", entry.value, entry.slot);
+    Ok(())
+}
+
 fn main() -> Result<(), Refusal> {
     let (mut nodes, mut colours) = ([0; ENTRIES * iset_proved::NODE_WORDS], [0; ENTRIES / 8]);
     let list = [
@@ -55,7 +62,13 @@ fn main() -> Result<(), Refusal> {
     println!("built {} entries", store.len());
     look_up(&store, 20, 45)?;
     let mut kept = [0, 1, 2, 4].map(Some);
+    // A ticket for slot 1: it can be read until the next change.
+    let ticket = store.ticket(1);
+    read(&store, ticket)?;
     remove(&mut store, 1, &mut kept)?;
+    if let Err(why) = read(&store, ticket) {
+        println!("refused: {why}");
+    }
     println!("inserted value 6 in slot {}", store.insert(30..35, 6)?);
     look_up(&store, 20, 45)?;
     // There is no slot 9: the call is refused, and changes nothing.

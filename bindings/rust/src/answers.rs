@@ -30,7 +30,7 @@ impl Removed {
     /// use iset_proved::{Map, Removed, U};
     ///
     /// let removed = Removed {
-    ///     map: Map { count: 4, root: 2 },
+    ///     map: Map { count: 4, root: 2, version: 2 },
     ///     slot: 1,
     ///     value: 2,
     ///     pairs: [(0, 1), (4, 0), (U, U)],

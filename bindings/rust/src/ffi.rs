@@ -9,7 +9,7 @@
 //! # Safety
 //!
 //! For each function here the caller must ensure two things. A pointer refers to at least as many
-//! elements as the length after it says, and that of [`iset_slot_after`] to 10 numbers; an array of
+//! elements as the length after it says, and that of [`iset_slot_after`] to 11 numbers; an array of
 //! length 0 may have any pointer. An array that is passed as `*mut` overlaps no other argument, and
 //! nothing else uses it during the call. The functions take any numbers and any contents.
 #![allow(clippy::too_many_arguments)]
@@ -57,15 +57,17 @@ exports! {
         nodes: *const u64, nodes_len: usize, colours: *const u8, colours_len: usize,
     );
 
-    /// Builds the map of a sorted list of triples. The answer has 2 numbers.
+    /// Builds the map of a sorted list of triples, in the place of a map of that version. The
+    /// answer has 3 numbers.
     fn iset_build(
+        version: u32,
         nodes: *mut u64, nodes_len: usize, colours: *mut u8, colours_len: usize,
         list: *const u64, list_len: usize,
         answer: *mut u64, answer_len: usize,
     );
 
     /// Returns the slot after a removal of the entry that had slot `kept` before it. The answer has
-    /// the 10 numbers of that removal.
+    /// the 11 numbers of that removal.
     fn iset_slot_after(answer: *const u64, removed: u64, kept: u64);
 
     /// Gives the cursor at which an overlap lookup begins. The answer has 3 numbers.
@@ -73,19 +75,27 @@ exports! {
 }
 
 pairs! {
-    /// Removes the entry of a slot. The answer has 10 numbers.
+    /// Removes the entry of a slot. The answer has 11 numbers.
     Remove: fn iset_remove, iset_open_remove(
-        count: u64, root: u64,
+        count: u64, root: u64, version: u32,
         nodes: *mut u64, nodes_len: usize, colours: *mut u8, colours_len: usize,
         slot: u64,
         answer: *mut u64, answer_len: usize,
     );
 
-    /// Adds one entry. The answer has 4 numbers.
+    /// Adds one entry. The answer has 5 numbers.
     Insert: fn iset_insert, iset_open_insert(
-        count: u64, root: u64,
+        count: u64, root: u64, version: u32,
         nodes: *mut u64, nodes_len: usize, colours: *mut u8, colours_len: usize,
         start: u64, end: u64, value: u64,
+        answer: *mut u64, answer_len: usize,
+    );
+
+    /// Reads the entry of a slot, if the map still has version `taken`. The answer has 3 numbers.
+    Read: fn iset_read, iset_open_read(
+        count: u64, root: u64, version: u32,
+        nodes: *const u64, nodes_len: usize, colours: *const u8, colours_len: usize,
+        slot: u64, taken: u32,
         answer: *mut u64, answer_len: usize,
     );
 

@@ -1,12 +1,15 @@
 //! A map over the two slices that are lent to a call, and the calls.
 use core::ops::Bound;
 
-use crate::{ffi, Cursor, Drained, Inserted, Map, Query, Refusal, Removed, Step, Tally, U};
+use crate::{
+    ffi, Cursor, Drained, Entry, Inserted, Map, Query, Refusal, Removed, Step, Tally, Ticket, U,
+};
 
 /// The calls of one kind, public or opened.
 pub(crate) struct Calls {
     remove: ffi::Remove,
     insert: ffi::Insert,
+    read: ffi::Read,
     fresh_exact: ffi::FreshExact,
     step: ffi::Step,
     step_exact: ffi::StepExact,
@@ -22,6 +25,7 @@ pub(crate) struct Calls {
 pub(crate) static PUBLIC: Calls = Calls {
     remove: ffi::iset_remove,
     insert: ffi::iset_insert,
+    read: ffi::iset_read,
     fresh_exact: ffi::iset_fresh_exact,
     step: ffi::iset_step,
     step_exact: ffi::iset_step_exact,
@@ -37,6 +41,7 @@ pub(crate) static PUBLIC: Calls = Calls {
 pub(crate) static OPENED: Calls = Calls {
     remove: ffi::iset_open_remove,
     insert: ffi::iset_open_insert,
+    read: ffi::iset_open_read,
     fresh_exact: ffi::iset_open_fresh_exact,
     step: ffi::iset_open_step,
     step_exact: ffi::iset_open_step_exact,
@@ -65,12 +70,19 @@ pub(crate) struct LentMut<'a> {
 }
 
 /// Makes a call: over what is lent, by the pointers that `$ptr` gives, with the numbers, and with
-/// further slices that the call writes.
+/// further slices that the call writes. A call that is `dated` takes the map's version too.
 macro_rules! call {
+    (dated $call:expr, $lent:expr, $ptr:ident; $($number:expr),*; $($written:expr),*) => {
+        call!(@ $call, $lent, $ptr, $lent.map.version; $($number),*; $($written),*)
+    };
     ($call:expr, $lent:expr, $ptr:ident; $($number:expr),*; $($written:expr),*) => {
+        call!(@ $call, $lent, $ptr; $($number),*; $($written),*)
+    };
+    (@ $call:expr, $lent:expr, $ptr:ident $(, $version:expr)?; $($number:expr),*; $($written:expr),*) => {
         $call(
             $lent.map.count,
             $lent.map.root,
+            $($version,)?
             $lent.nodes.$ptr(),
             $lent.nodes.len(),
             $lent.colours.$ptr(),
@@ -86,6 +98,15 @@ fn told(number: u64) -> Result<(), Refusal> {
     match Refusal::from_number(number) {
         None => Ok(()),
         Some(why) => Err(why),
+    }
+}
+
+/// The map of an answer's numbers. A version has 32 bits.
+fn map(count: u64, root: u64, version: u64) -> Map {
+    Map {
+        count,
+        root,
+        version: version as u32,
     }
 }
 
@@ -109,11 +130,12 @@ impl LentMut<'_> {
     }
 
     pub fn build(&mut self, list: &[u64]) -> Result<(), Refusal> {
-        let mut answer = [0; 2];
+        let mut answer = [0; 3];
         // SAFETY: the slices and the answer are live during the call. Those that it writes are
         // borrowed by `&mut`, so they overlap nothing and nobody else uses them.
         told(unsafe {
             ffi::iset_build(
+                self.map.version,
                 self.nodes.as_mut_ptr(),
                 self.nodes.len(),
                 self.colours.as_mut_ptr(),
@@ -124,17 +146,17 @@ impl LentMut<'_> {
                 answer.len(),
             )
         })?;
-        let [count, root] = answer;
-        self.map = Map { count, root };
+        let [count, root, version] = answer;
+        self.map = map(count, root, version);
         Ok(())
     }
 
     pub fn remove(&mut self, calls: &Calls, slot: u64) -> Result<Removed, Refusal> {
-        let mut answer = [0; 10];
+        let mut answer = [0; 11];
         // SAFETY: as in `build`.
-        told(unsafe { call!(calls.remove, self, as_mut_ptr; slot; answer) })?;
-        let [value, count, root, a, a_now, b, b_now, c, c_now, reach] = answer;
-        self.map = Map { count, root };
+        told(unsafe { call!(dated calls.remove, self, as_mut_ptr; slot; answer) })?;
+        let [value, count, root, a, a_now, b, b_now, c, c_now, reach, version] = answer;
+        self.map = map(count, root, version);
         Ok(Removed {
             map: self.map,
             slot,
@@ -146,11 +168,11 @@ impl LentMut<'_> {
 
     pub fn insert(&mut self, calls: &Calls, entry: [u64; 3]) -> Result<Inserted, Refusal> {
         let [start, end, value] = entry;
-        let mut answer = [0; 4];
+        let mut answer = [0; 5];
         // SAFETY: as in `build`.
-        told(unsafe { call!(calls.insert, self, as_mut_ptr; start, end, value; answer) })?;
-        let [count, root, slot, reach] = answer;
-        self.map = Map { count, root };
+        told(unsafe { call!(dated calls.insert, self, as_mut_ptr; start, end, value; answer) })?;
+        let [count, root, slot, reach, version] = answer;
+        self.map = map(count, root, version);
         Ok(Inserted {
             map: self.map,
             slot,
@@ -163,6 +185,20 @@ impl Lent<'_> {
     pub fn check(self) -> Result<(), Refusal> {
         // SAFETY: the slices are live during the call, which only reads them.
         told(unsafe { call!(ffi::iset_check, self, as_ptr;;) })
+    }
+
+    /// The entry of a ticket.
+    pub fn read(self, calls: &Calls, ticket: Ticket) -> Result<Entry, Refusal> {
+        let (slot, taken) = (ticket.slot(), ticket.version());
+        let mut answer = [0; 3];
+        // SAFETY: as in `begin`.
+        told(unsafe { call!(dated calls.read, self, as_ptr; slot, taken; answer) })?;
+        let [start, end, value] = answer;
+        Ok(Entry {
+            slot,
+            range: start..end,
+            value,
+        })
     }
 
     /// Where a lookup begins.

@@ -10,8 +10,11 @@
 //! that nobody else can write the slices, and each call takes the time of its own work. A
 //! [`StoreRef`] is the same for reading.
 //!
-//! A [`Map`] is the count and the root alone, by value. Its calls take any numbers and any
-//! contents, and test all of them each time. That takes a time that grows with the count.
+//! A [`Map`] is the count, the root and the version alone, by value. Its calls take any numbers and
+//! any contents, and test all of them each time. That takes a time that grows with the count.
+//!
+//! A [`Ticket`] is a slot that knows the version of its map: reading through it after a change is
+//! refused.
 //!
 #![cfg_attr(iset_linked, doc = "```")]
 #![cfg_attr(not(iset_linked), doc = "```no_run")]
@@ -48,6 +51,7 @@ mod map;
 mod query;
 mod refusal;
 mod store;
+mod ticket;
 
 pub use answers::{Cursor, Drained, Inserted, Removed, Step, Tally};
 pub use hits::Hits;
@@ -55,6 +59,7 @@ pub use map::Map;
 pub use query::Query;
 pub use refusal::Refusal;
 pub use store::{Entries, Entry, Store, StoreRef};
+pub use ticket::Ticket;
 
 /// No slot: the root of the map of no entries, and a link that leads nowhere.
 pub const U: u64 = 4294967295;
@@ -86,6 +91,6 @@ const _: () = {
     shared::<StoreRef<'static>>();
     shared::<Entries<'static, 1>>();
     shared::<Hits<'static>>();
-    shared::<(Query, Entry, Refusal)>();
+    shared::<(Query, Entry, Refusal, Ticket)>();
     shared::<(Removed, Inserted, Cursor, Step, Drained, Tally)>();
 };

@@ -1,20 +1,30 @@
 //! The map by value: its calls take the memory, and each checks all of it.
 use crate::lent::{Lent, LentMut, PUBLIC};
-use crate::{Cursor, Drained, Hits, Inserted, Query, Refusal, Removed, Step, StoreRef, Tally, U};
+use crate::{
+    Cursor, Drained, Entry, Hits, Inserted, Query, Refusal, Removed, Step, StoreRef, Tally, Ticket,
+    U,
+};
 
-/// A map: how many entries it has, in slots 0 to count - 1, and the slot of its root.
+/// A map: how many entries it has, in slots 0 to count - 1, the slot of its root, and its version.
 #[derive(Clone, Copy, Debug, PartialEq, Eq)]
 pub struct Map {
     /// The number of entries.
     pub count: u64,
     /// The slot of the root, [`U`] if there are no entries.
     pub root: u64,
+    /// How often it was changed, modulo 2^32: each build, removal and insertion that is not refused
+    /// counts.
+    pub version: u32,
 }
 
 impl Map {
     /// The map of no entries.
     pub const fn new() -> Map {
-        Map { count: 0, root: U }
+        Map {
+            count: 0,
+            root: U,
+            version: 0,
+        }
     }
 
     fn over<'a>(self, nodes: &'a [u64], colours: &'a [u8]) -> Lent<'a> {
@@ -42,15 +52,36 @@ impl Map {
         self.over(nodes, colours).check()
     }
 
-    /// Builds the map of a sorted list of triples start, end, value. Entry k goes to slot k.
+    /// Builds the map of a sorted list of triples start, end, value, in the place of this map. Entry
+    /// k goes to slot k. Of this map only the version is read: the new map has the next one. So
+    /// build on the map that you have, and on [`Map::new`] only if there is none.
     ///
     /// # Errors
     ///
     /// [`Refusal::BadList`], [`Refusal::NoRoom`], [`Refusal::BadInterval`], [`Refusal::NotSorted`].
-    pub fn build(nodes: &mut [u64], colours: &mut [u8], list: &[u64]) -> Result<Map, Refusal> {
-        let mut lent = Map::new().over_mut(nodes, colours);
+    pub fn build(
+        self,
+        nodes: &mut [u64],
+        colours: &mut [u8],
+        list: &[u64],
+    ) -> Result<Map, Refusal> {
+        let mut lent = self.over_mut(nodes, colours);
         lent.build(list)?;
         Ok(lent.map)
+    }
+
+    /// A ticket for a slot. The slot is tested when the ticket is used.
+    pub const fn ticket(self, slot: u64) -> Ticket {
+        Ticket::new(slot, self.version)
+    }
+
+    /// The entry of a ticket.
+    ///
+    /// # Errors
+    ///
+    /// [`Refusal::NoRoom`], [`Refusal::Broken`], [`Refusal::Stale`], [`Refusal::NoSuch`].
+    pub fn read(self, nodes: &[u64], colours: &[u8], ticket: Ticket) -> Result<Entry, Refusal> {
+        self.over(nodes, colours).read(&PUBLIC, ticket)
     }
 
     /// Removes the entry of a slot.
@@ -179,7 +210,8 @@ impl Map {
     ///
     /// # fn main() -> Result<(), Refusal> {
     /// let (mut nodes, mut colours, mut out) = ([0; 3 * 8], [0; 1], [7; 3]);
-    /// let map = Map::build(&mut nodes, &mut colours, &[10, 20, 1, 10, 30, 2, 25, 40, 3])?;
+    /// let list = [10, 20, 1, 10, 30, 2, 25, 40, 3];
+    /// let map = Map::new().build(&mut nodes, &mut colours, &list)?;
     /// let found = map.plain(&nodes, &colours, Query::overlap(20..30), &mut out)?;
     /// assert_eq!((found.hits, found.entered, out), (2, 3, [1, 2, 7]));
     /// # Ok(())

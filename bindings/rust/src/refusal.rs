@@ -38,6 +38,8 @@ pub enum Refusal {
     ShortOutput,
     /// Of bit vectors and stacks. None of these calls returns it.
     BadBit,
+    /// The map has changed since the ticket was taken.
+    Stale,
     /// The answer slice has fewer places than the answer has numbers. This crate never passes such
     /// a slice.
     ShortAnswer,
@@ -50,7 +52,7 @@ pub enum Refusal {
 
 /// Each refusal with its number and its words, which are those of `iset_refusal_name` in
 /// include/iset.h.
-const ALL: [(Refusal, u64, &str); 12] = [
+const ALL: [(Refusal, u64, &str); 13] = [
     (Refusal::NoRoom, 1, "not enough room in the memory"),
     (Refusal::Broken, 2, "the store does not pass the check"),
     (Refusal::NoSuch, 3, "no entry in that slot"),
@@ -73,6 +75,11 @@ const ALL: [(Refusal, u64, &str); 12] = [
     ),
     (Refusal::ShortOutput, 9, "the output is too short"),
     (Refusal::BadBit, 10, "no such bit"),
+    (
+        Refusal::Stale,
+        11,
+        "the map has changed since the ticket was taken",
+    ),
     (Refusal::ShortAnswer, 101, "the answer is too short"),
     (Refusal::BadBound, 102, "a bound's kind is not 0, 1 or 2"),
 ];

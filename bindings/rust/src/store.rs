@@ -3,7 +3,7 @@ use core::iter::FusedIterator;
 use core::ops::{Range, RangeBounds};
 
 use crate::lent::{Lent, LentMut, OPENED};
-use crate::{Hits, Map, Query, Refusal, Removed, Tally, NODE_WORDS};
+use crate::{Hits, Map, Query, Refusal, Removed, Tally, Ticket, NODE_WORDS};
 
 /// How many hits an iterator fetches at a time. A call that continues tests its cursor, one link a
 /// level, and an exact one searches for its beginning again: that costs if few are fetched.
@@ -16,7 +16,7 @@ const FEW: usize = 8;
 /// An entry of a store.
 #[derive(Clone, Debug, PartialEq, Eq)]
 pub struct Entry {
-    /// Its slot, which is valid until the next removal: see [`Removed::slot_after`].
+    /// Its slot, which is valid until the next removal: see [`Removed::slot_after`] and [`Ticket`].
     pub slot: u64,
     /// The addresses that it holds.
     pub range: Range<u64>,
@@ -74,6 +74,21 @@ impl<'m> StoreRef<'m> {
             range: words[0]..words[1],
             value: words[2],
         }
+    }
+
+    /// A ticket for a slot. The slot is tested when the ticket is used.
+    #[inline]
+    pub fn ticket(self, slot: u64) -> Ticket {
+        self.lent.map.ticket(slot)
+    }
+
+    /// The entry of a ticket.
+    ///
+    /// # Errors
+    ///
+    /// [`Refusal::Stale`], [`Refusal::NoSuch`].
+    pub fn read_ticket(self, ticket: Ticket) -> Result<Entry, Refusal> {
+        self.lent.read(&OPENED, ticket)
     }
 
     /// All entries in order: by start, then end, equal ones in the order in which they were added.
@@ -209,7 +224,8 @@ impl<'m> Store<'m> {
         Ok(Store { lent })
     }
 
-    /// Builds the map of a sorted list of entries start, end, value. Entry k goes to slot k.
+    /// Builds the map of a sorted list of entries start, end, value. Entry k goes to slot k. The
+    /// map has version 1: to load a new list later, use [`Store::rebuild`].
     ///
     /// # Errors
     ///
@@ -219,15 +235,26 @@ impl<'m> Store<'m> {
         colours: &'m mut [u8],
         list: &[[u64; 3]],
     ) -> Result<Store<'m>, Refusal> {
-        // SAFETY: n arrays of three numbers are 3 n numbers, one after the other.
-        let flat = unsafe { core::slice::from_raw_parts(list.as_ptr().cast(), list.len() * 3) };
-        let map = Map::build(nodes, colours, flat)?;
         let lent = LentMut {
-            map,
+            map: Map::new(),
             nodes,
             colours,
         };
-        Ok(Store { lent })
+        let mut store = Store { lent };
+        store.rebuild(list)?;
+        Ok(store)
+    }
+
+    /// Builds the map of a sorted list in the place of this store's, with the next version: every
+    /// ticket of before is stale. If it is refused, the store is unchanged.
+    ///
+    /// # Errors
+    ///
+    /// [`Refusal::NoRoom`], [`Refusal::BadInterval`], [`Refusal::NotSorted`].
+    pub fn rebuild(&mut self, list: &[[u64; 3]]) -> Result<(), Refusal> {
+        // SAFETY: n arrays of three numbers are 3 n numbers, one after the other.
+        let flat = unsafe { core::slice::from_raw_parts(list.as_ptr().cast(), list.len() * 3) };
+        self.lent.build(flat)
     }
 
     /// The same store for reading: it can be copied and sent to other threads, and nothing writes
@@ -255,6 +282,21 @@ impl<'m> Store<'m> {
     #[inline]
     pub fn get(&self, slot: u64) -> Option<Entry> {
         self.read().get(slot)
+    }
+
+    /// A ticket for a slot: it can be read until the next change. The slot is tested then.
+    #[inline]
+    pub fn ticket(&self, slot: u64) -> Ticket {
+        self.read().ticket(slot)
+    }
+
+    /// The entry of a ticket. ([`Store::read`] is the whole store for reading.)
+    ///
+    /// # Errors
+    ///
+    /// [`Refusal::Stale`] if the store has changed since the ticket was taken, [`Refusal::NoSuch`].
+    pub fn read_ticket(&self, ticket: Ticket) -> Result<Entry, Refusal> {
+        self.read().read_ticket(ticket)
     }
 
     /// All entries in order: by start, then end, equal ones in the order in which they were added.

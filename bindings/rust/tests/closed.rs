@@ -1,5 +1,5 @@
 //! An archive of another version. It refuses every call with a number that this crate does not know:
-//! a public call with 11, an opened one with 12. No call may pass that off as an answer. The archive
+//! a public call with 77, an opened one with 78. No call may pass that off as an answer. The archive
 //! is the functions below, so the real one is not linked.
 #![cfg(not(iset_linked))]
 use std::panic::{catch_unwind, AssertUnwindSafe};
@@ -17,13 +17,13 @@ macro_rules! refusing {
 }
 
 refusing! {
-    11: iset_build iset_remove iset_insert iset_fresh_exact iset_step iset_step_exact iset_drain
+    77: iset_build iset_remove iset_insert iset_read iset_fresh_exact iset_step iset_step_exact iset_drain
     iset_drain_exact iset_plain iset_plain_exact iset_find_all iset_find_all_exact
 }
 
 refusing! {
-    12: iset_open_remove iset_open_insert iset_open_fresh_exact iset_open_step iset_open_step_exact
-    iset_open_drain iset_open_drain_exact iset_open_plain iset_open_plain_exact
+    78: iset_open_remove iset_open_insert iset_open_read iset_open_fresh_exact iset_open_step
+    iset_open_step_exact iset_open_drain iset_open_drain_exact iset_open_plain iset_open_plain_exact
     iset_open_find_all iset_open_find_all_exact
 }
 
@@ -33,13 +33,13 @@ extern "C" fn iset_check(count: u64) -> u64 {
     if count == 0 {
         0
     } else {
-        11
+        77
     }
 }
 
 /// By a public call, and by an opened one.
-const PUBLIC: Option<Refusal> = Some(Refusal::Unknown(11));
-const OPENED: Option<Refusal> = Some(Refusal::Unknown(12));
+const PUBLIC: Option<Refusal> = Some(Refusal::Unknown(77));
+const OPENED: Option<Refusal> = Some(Refusal::Unknown(78));
 const QUERIES: [Query; 2] = [
     Query::Overlap(core::ops::Bound::Unbounded, core::ops::Bound::Unbounded),
     Query::Exact { start: 1, end: 2 },
@@ -53,9 +53,14 @@ const FROM: Cursor = Cursor {
 #[test]
 fn maps() {
     let (mut nodes, mut colours, mut out) = ([0; 16], [0; 1], [0; 2]);
-    let map = Map { count: 1, root: 0 };
+    let map = Map {
+        count: 1,
+        root: 0,
+        version: 0,
+    };
     assert_eq!(map.check(&nodes, &colours).err(), PUBLIC);
-    assert_eq!(Map::build(&mut nodes, &mut colours, &[]).err(), PUBLIC);
+    assert_eq!(map.build(&mut nodes, &mut colours, &[]).err(), PUBLIC);
+    assert_eq!(map.read(&nodes, &colours, map.ticket(0)).err(), PUBLIC);
     assert_eq!(map.remove(&mut nodes, &mut colours, 0).err(), PUBLIC);
     assert_eq!(map.insert(&mut nodes, &mut colours, 1, 2, 3).err(), PUBLIC);
     assert_eq!(map.fresh_exact(&nodes, &colours, 1, 2).err(), PUBLIC);
@@ -78,15 +83,21 @@ fn maps() {
 #[test]
 fn stores() {
     let (mut nodes, mut colours, mut out) = ([0; 16], [0; 1], [0; 2]);
-    let map = Map { count: 1, root: 0 };
+    let map = Map {
+        count: 1,
+        root: 0,
+        version: 0,
+    };
     assert_eq!(StoreRef::open(map, &nodes, &colours).err(), PUBLIC);
     assert_eq!(Store::open(map, &mut nodes, &mut colours).err(), PUBLIC);
     assert_eq!(Store::build(&mut nodes, &mut colours, &[]).err(), PUBLIC);
     // a map that the check passes, with a root, so that lookups begin
-    let rooted = Map { count: 0, root: 0 };
+    let rooted = Map { count: 0, ..map };
     let mut store = Store::open(rooted, &mut nodes, &mut colours).unwrap();
     assert_eq!(store.insert(1..2, 3).err(), OPENED);
     assert_eq!(store.remove(0).err(), OPENED);
+    assert_eq!(store.rebuild(&[]).err(), PUBLIC);
+    assert_eq!(store.read_ticket(store.ticket(0)).err(), OPENED);
     assert_eq!(store.overlap(1..2).err(), OPENED);
     assert_eq!(store.exact(1..2).err(), OPENED);
     for query in QUERIES {

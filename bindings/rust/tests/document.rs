@@ -3,7 +3,7 @@
 #![cfg(iset_linked)]
 use core::ops::Bound;
 
-use iset_proved::{Cursor, Map, Query, Refusal, Step, Tally, U};
+use iset_proved::{Cursor, Entry, Map, Query, Refusal, Step, Tally, Ticket, U};
 
 const LIST_A: [u64; 15] = [10, 20, 1, 10, 30, 2, 25, 40, 3, 40, 50, 4, 45, 60, 5];
 const NONE: (u64, u64) = (U, U);
@@ -12,6 +12,14 @@ const ENDED: Cursor = Cursor {
     levels: 0,
     bits: 0,
 };
+
+fn map(count: u64, root: u64, version: u32) -> Map {
+    Map {
+        count,
+        root,
+        version,
+    }
+}
 
 struct Store {
     map: Map,
@@ -22,7 +30,7 @@ struct Store {
 impl Store {
     fn of(list: &[u64]) -> Store {
         let (mut nodes, mut colours) = ([0; 40], [0; 1]);
-        let map = Map::build(&mut nodes, &mut colours, list).unwrap();
+        let map = Map::new().build(&mut nodes, &mut colours, list).unwrap();
         Store {
             map,
             nodes,
@@ -58,7 +66,7 @@ impl Store {
 #[test]
 fn built() {
     let a = Store::of(&LIST_A);
-    assert_eq!((a.map, a.colours), (Map { count: 5, root: 2 }, [9]));
+    assert_eq!((a.map, a.colours), (map(5, 2, 1), [9]));
     assert_eq!(a.map.check(&a.nodes, &a.colours), Ok(()));
     assert_eq!(
         a.map.check(&a.nodes[..39], &a.colours),
@@ -81,7 +89,7 @@ fn refused_builds_change_nothing() {
         (&[5, 9, 1, 4, 9, 2], Refusal::NotSorted),
     ];
     for (list, why) in lists {
-        assert_eq!(Map::build(&mut nodes, &mut colours, list), Err(why));
+        assert_eq!(Map::new().build(&mut nodes, &mut colours, list), Err(why));
     }
     assert_eq!((nodes, colours), ([7; 16], [7; 1]));
 }
@@ -102,7 +110,7 @@ fn removed() {
             (removed.value, removed.pairs, a.colours, removed.reach),
             (value, pairs, [colours], reach)
         );
-        assert_eq!(removed.map, Map { count: 4, root: 2 });
+        assert_eq!(removed.map, map(4, 2, 2));
         assert_eq!(removed.map.check(&a.nodes, &a.colours), Ok(()));
     }
     let mut a = Store::of(&LIST_A);
@@ -121,7 +129,7 @@ fn removed() {
         );
         b.map = removed.map;
     }
-    assert_eq!(b.map, Map::new());
+    assert_eq!(b.map, map(0, U, 4));
 }
 
 #[test]
@@ -154,6 +162,73 @@ fn inserted() {
         assert_eq!(inserted.reach, reach);
         map = inserted.map;
     }
+}
+
+/// Reads in a store through a ticket: the entry as start, end, value.
+fn read(store: &Store, ticket: Ticket) -> Result<[u64; 3], Refusal> {
+    let entry: Entry = store.map.read(&store.nodes, &store.colours, ticket)?;
+    assert_eq!(entry.slot, ticket.slot());
+    Ok([entry.range.start, entry.range.end, entry.value])
+}
+
+#[test]
+fn tickets() {
+    let mut a = Store::of(&LIST_A);
+    for (slot, entry) in LIST_A.chunks(3).enumerate() {
+        let ticket = a.map.ticket(slot as u64);
+        assert_eq!((ticket.slot(), ticket.version()), (slot as u64, 1));
+        assert_eq!(read(&a, ticket).unwrap(), entry);
+    }
+    for slot in [5, U, (1 << 32) + 2, u64::MAX] {
+        assert_eq!(read(&a, a.map.ticket(slot)), Err(Refusal::NoSuch));
+    }
+    let (first, ticket) = (a.map, a.map.ticket(2));
+    // a refused change leaves the version
+    let refused = a.map.remove(&mut a.nodes, &mut a.colours, 9);
+    assert_eq!(refused, Err(Refusal::NoSuch));
+    assert_eq!(read(&a, ticket), Ok([25, 40, 3]));
+    // a removal, an insertion and a build raise it; stale comes before no such slot
+    a.map = a.map.remove(&mut a.nodes, &mut a.colours, 1).unwrap().map;
+    assert_eq!((read(&a, ticket), a.map.version), (Err(Refusal::Stale), 2));
+    assert_eq!(read(&a, first.ticket(4)), Err(Refusal::Stale));
+    assert_eq!(read(&a, a.map.ticket(4)), Err(Refusal::NoSuch));
+    let second = a.map.ticket(2);
+    assert_eq!(read(&a, second), Ok([25, 40, 3]));
+    a.insert([12, 13, 6]);
+    assert_eq!((read(&a, second), a.map.version), (Err(Refusal::Stale), 3));
+    let built = a.map.build(&mut a.nodes, &mut a.colours, &LIST_A[..6]);
+    a.map = built.unwrap();
+    assert_eq!(
+        (a.map, read(&a, a.map.ticket(1))),
+        (map(2, 1, 4), Ok([10, 30, 2]))
+    );
+    // the check comes first
+    a.map.root = 0;
+    assert_eq!(read(&a, ticket), Err(Refusal::Broken));
+    a.map.count = 6;
+    assert_eq!(read(&a, ticket), Err(Refusal::NoRoom));
+}
+
+/// The version runs round to 0; and only one map of several copies keeps its tickets apart.
+#[test]
+fn versions() {
+    let mut a = Store::of(&LIST_A);
+    a.map.version = u32::MAX;
+    let ticket = a.map.ticket(2);
+    assert_eq!(read(&a, ticket), Ok([25, 40, 3]));
+    a.map = a.map.remove(&mut a.nodes, &mut a.colours, 4).unwrap().map;
+    assert_eq!((a.map.version, read(&a, ticket)), (0, Err(Refusal::Stale)));
+    let (mut one, mut other) = (Store::of(&LIST_A), Store::of(&LIST_A));
+    one.map = one
+        .map
+        .remove(&mut one.nodes, &mut one.colours, 1)
+        .unwrap()
+        .map;
+    let removed = other.map.remove(&mut other.nodes, &mut other.colours, 2);
+    other.map = removed.unwrap().map;
+    let ticket = one.map.ticket(0);
+    assert_eq!(read(&one, ticket), Ok([45, 60, 5]));
+    assert_eq!(read(&other, ticket), Ok([10, 20, 1]));
 }
 
 #[test]
@@ -372,11 +447,7 @@ fn ended_hits_stay_ended() {
 /// The crate makes the first cursor itself.
 #[test]
 fn fresh_as_the_archive_has_it() {
-    for map in [
-        Map::new(),
-        Map { count: 5, root: 2 },
-        Map { count: 9, root: U },
-    ] {
+    for map in [Map::new(), map(5, 2, 1), map(9, U, u32::MAX)] {
         let mut answer = [7; 3];
         // SAFETY: the answer is an array of three places.
         let number =
@@ -393,9 +464,9 @@ fn slots_after_as_the_archive_has_them() {
         let mut a = Store::of(&LIST_A);
         let removed = a.map.remove(&mut a.nodes, &mut a.colours, slot).unwrap();
         let [(b, c), (d, e), (f, g)] = removed.pairs;
-        let answer = [0, 0, 0, b, c, d, e, f, g, 0];
+        let answer = [0, 0, 0, b, c, d, e, f, g, 0, 0];
         for kept in 0..5 {
-            // SAFETY: the answer has ten numbers.
+            // SAFETY: the answer has eleven numbers.
             let after = unsafe { iset_proved::ffi::iset_slot_after(answer.as_ptr(), slot, kept) };
             assert_eq!(removed.slot_after(kept).unwrap_or(U), after);
         }

@@ -186,6 +186,36 @@ fn opened_and_built() {
     assert_eq!(store.get(1), Some(second));
 }
 
+/// A ticket holds until the next change: a removal, an insertion or a build.
+#[test]
+fn tickets() {
+    let (mut nodes, mut colours) = ([0; 32], [0; 1]);
+    let list = [[5, 9, 1], [6, 9, 2], [7, 9, 3]];
+    let mut store = Store::build(&mut nodes, &mut colours, &list).unwrap();
+    type Change = fn(&mut Store) -> Result<u64, Refusal>;
+    let changes: [Change; 3] = [
+        |store| store.insert(8..9, 4),
+        |store| store.remove(0).map(|removed| removed.value),
+        |store| store.rebuild(&[[1, 2, 7], [3, 4, 8]]).map(|()| 0),
+    ];
+    for change in changes {
+        let ticket = store.ticket(1);
+        let entry = store.read_ticket(ticket).unwrap();
+        assert_eq!(store.get(1), Some(entry.clone()));
+        assert_eq!(store.read().read_ticket(store.read().ticket(1)), Ok(entry));
+        assert_eq!(store.remove(9), Err(Refusal::NoSuch));
+        assert_eq!(
+            store.rebuild(&[[5, 9, 1], [4, 9, 2]]),
+            Err(Refusal::NotSorted)
+        );
+        assert!(store.read_ticket(ticket).is_ok());
+        change(&mut store).unwrap();
+        assert_eq!(store.read_ticket(ticket), Err(Refusal::Stale));
+        assert_eq!(store.read_ticket(store.ticket(9)), Err(Refusal::NoSuch));
+    }
+    assert_eq!((store.len(), store.close().version), (2, 4));
+}
+
 #[test]
 fn in_pieces() {
     let list: Vec<[u64; 3]> = (0..1000).map(|k| [k / 300, 2000, k]).collect();

@@ -19,6 +19,7 @@ pub enum Call {
     Bits(bits::Call),
     Stack(stacks::Call),
     Last,
+    Ticket,
 }
 
 // The names, in the order of `call_at`. A name ends in a space if numbers follow it.
@@ -27,7 +28,7 @@ pub enum Call {
 fn place_of(name: &[u8]) -> usize {
     given::which(
         name,
-        b"store ;bytes ;commit;check;build ;remove ;insert ;fresh o ;step o ;drain o ;fresh e ;step e ;drain e ;bget ;bset ;bpush ;bpop ;bswap ;bfrom ;spush ;spop ;sleft ;smatch ;sright ;scanleft ;scanmatch ;scanright ;sempty ;last;plain o ;plain e ;find o ;find e ;",
+        b"store ;bytes ;commit;check;build ;remove ;insert ;fresh o ;step o ;drain o ;fresh e ;step e ;drain e ;bget ;bset ;bpush ;bpop ;bswap ;bfrom ;spush ;spop ;sleft ;smatch ;sright ;scanleft ;scanmatch ;scanright ;sempty ;last;plain o ;plain e ;find o ;find e ;version ;ticket ;read ;",
     )
 }
 
@@ -66,6 +67,9 @@ fn call_at(place: usize) -> Call {
         30 => Call::Lookup(lookups::Call::Plain, Kind::Exact),
         31 => Call::Lookup(lookups::Call::FindAll, Kind::Overlap),
         32 => Call::Lookup(lookups::Call::FindAll, Kind::Exact),
+        33 => Call::Setting(settings::Call::Version),
+        34 => Call::Ticket,
+        35 => Call::Map(map::Call::Read),
         _ => Call::Unknown,
     }
 }
@@ -79,6 +83,7 @@ fn fits(call: Call, numbers: &[u64]) -> bool {
         Call::Bits(c) => bits::fits(c, numbers),
         Call::Stack(_) => stacks::fits(numbers),
         Call::Last => numbers.len() == 0,
+        Call::Ticket => numbers.len() == 1,
         _ => false,
     }
 }

@@ -7,6 +7,7 @@ use crate::arena::NEW_BYTES;
 use crate::arena::WORDS;
 use crate::state::Left;
 use crate::state::State;
+use iset::Map;
 use lines::output;
 
 pub(crate) fn begin(s: State, words: &mut [u64]) {
@@ -19,8 +20,7 @@ pub(crate) fn begin(s: State, words: &mut [u64]) {
 // subtree.
 pub(crate) fn end(
     s: State,
-    count: u64,
-    root: u64,
+    map: Map,
     reach: u64,
     words: &[u64],
     out: &mut [u8],
@@ -33,8 +33,7 @@ pub(crate) fn end(
     let colours = answer::put_words(words, COLOURS, NEW_BYTES, b, out, nodes);
     s.after(
         Left::Store {
-            count,
-            root,
+            map,
             reach,
             words: w,
             colours: b,
@@ -46,8 +45,7 @@ pub(crate) fn end(
 // Prints a line: an answer's numbers, and what differs.
 pub(crate) fn line(
     s: State,
-    count: u64,
-    root: u64,
+    map: Map,
     reach: u64,
     no: u64,
     others: &[u64],
@@ -56,5 +54,5 @@ pub(crate) fn line(
     out: &mut [u8],
 ) -> State {
     let to = answer::put_numbers(no, others, n, out, s.to);
-    end(s, count, root, reach, words, out, to)
+    end(s, map, reach, words, out, to)
 }

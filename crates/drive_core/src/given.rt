@@ -19,6 +19,17 @@ pub(crate) fn size(numbers: &[u64], k: usize) -> usize
     if n < 65536 { n as usize } else { 65536 }
 }
 
+// Whether number k is a version, which has 32 bits.
+pub(crate) fn is_version(numbers: &[u64], k: usize) -> bool {
+    number(numbers, k) < 4294967296
+}
+
+// Number k as a version.
+pub(crate) fn version(numbers: &[u64], k: usize) -> u32 {
+    let n = number(numbers, k);
+    if n < 4294967296 { n as u32 } else { 0 }
+}
+
 // Whether the numbers from place k on are all bytes.
 fn are_bytes(numbers: &[u64], k: usize) -> bool {
     let mut i = k;

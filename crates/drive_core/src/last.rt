@@ -1,6 +1,5 @@
 // `last`: the version of the map that the last request left, and how many hulls changed in it. A
-// slot's hull is the least range that holds all entries of its subtree. A map has no version yet,
-// so the version is 0.
+// slot's hull is the least range that holds all entries of its subtree.
 use crate::answer;
 use crate::state::Left;
 use crate::state::State;
@@ -9,12 +8,11 @@ pub(crate) fn request(s: State, out: &mut [u8]) -> State {
     let left = s.left;
     match left {
         Left::Store {
-            count: _,
-            root: _,
+            map,
             reach,
             words: _,
             colours: _,
-        } => answer::line(s, 0, &[reach], 1, out),
+        } => answer::line(s, map.version as u64, &[reach], 1, out),
         _ => answer::what(s, out),
     }
 }

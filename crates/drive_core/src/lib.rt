@@ -13,6 +13,7 @@ mod map;
 mod settings;
 mod stacks;
 mod state;
+mod ticket;
 
 use crate::call::Call;
 use crate::input::Place;
@@ -46,6 +47,7 @@ fn answered(s: State, call: Call, numbers: &[u64], words: &mut [u64], out: &mut 
         Call::Bits(c) => bits::request(s, c, numbers, words, out),
         Call::Stack(c) => stacks::request(s, c, numbers, out),
         Call::Last => last::request(s, out),
+        Call::Ticket => ticket::request(s, numbers, out),
     }
 }
 

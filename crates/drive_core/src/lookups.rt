@@ -112,10 +112,7 @@ fn in_store(
     let b = least(s.colours, 512);
     let w = least(WORDS, words.len());
     let n = least(s.words, words.len() - w);
-    let m = Map {
-        count: s.count,
-        root: s.root,
-    };
+    let m = s.map;
     done(
         m,
         call,
@@ -143,7 +140,8 @@ fn line(s: State, call: Call, a: Reply, words: &mut [u64], hits: &[u64], out: &m
     copy::begin(s, words);
     let first = answer::put_numbers(a.no, &numbers, answer_size(call), out, s.to);
     let to = put_hits(call, hits, out, first);
-    copy::end(s, s.count, s.root, 0, words, out, to)
+    let map = s.map;
+    copy::end(s, map, 0, words, out, to)
 }
 
 // Prints the line of `fresh`.

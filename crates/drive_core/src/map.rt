@@ -1,7 +1,8 @@
-// The requests that check, build, remove and insert, each on a copy of the store.
+// The requests that check, build, remove, insert and read, each on a copy of the store.
 mod build;
 mod check;
 mod insert;
+mod read;
 mod remove;
 mod reply;
 
@@ -19,6 +20,7 @@ pub enum Call {
     Build,
     Remove,
     Insert,
+    Read,
 }
 
 // Whether the numbers are those of the call.
@@ -28,24 +30,23 @@ pub(crate) fn fits(call: Call, numbers: &[u64]) -> bool {
         Call::Build => build::fits(numbers),
         Call::Remove => numbers.len() == 1,
         Call::Insert => numbers.len() == 3,
+        Call::Read => read::fits(numbers),
     }
 }
 
 fn done(call: Call, m: Map, numbers: &[u64], nodes: &mut [u64], colours: &mut [u8]) -> Reply {
     match call {
         Call::Check => check::check(m, nodes, colours),
-        Call::Build => build::build(numbers, nodes, colours),
+        Call::Build => build::build(m, numbers, nodes, colours),
         Call::Remove => remove::remove(m, given::number(numbers, 0), nodes, colours),
         Call::Insert => insert::insert(m, numbers, nodes, colours),
+        Call::Read => read::read(m, numbers, nodes, colours),
     }
 }
 
 // Makes the call on the copy. `colours` has the room for the copy's colours.
 fn on_copy(s: State, call: Call, numbers: &[u64], words: &mut [u64], colours: &mut [u8]) -> Reply {
-    let m = Map {
-        count: s.count,
-        root: s.root,
-    };
+    let m = s.map;
     let nodes = least(s.words, words.len());
     arena::load(words, NEW_BYTES, colours);
     let a = done(call, m, numbers, &mut words[..nodes], colours);
@@ -61,7 +62,8 @@ fn answered(s: State, call: Call, numbers: &[u64], words: &mut [u64]) -> Reply {
 
 fn line(s: State, a: Reply, words: &[u64], out: &mut [u8]) -> State {
     let numbers = a.numbers;
-    copy::line(s, a.count, a.root, a.reach, a.no, &numbers, a.n, words, out)
+    let map = a.map;
+    copy::line(s, map, a.reach, a.no, &numbers, a.n, words, out)
 }
 
 pub(crate) fn request(

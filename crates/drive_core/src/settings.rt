@@ -1,5 +1,5 @@
-// The settings: the store, the bytes of the bit calls, and `commit`, which takes over what the
-// last request left.
+// The settings: the store and its version, the bytes of the bit calls, and `commit`, which takes
+// over what the last request left.
 use crate::arena;
 use crate::arena::BYTES;
 use crate::arena::COLOURS;
@@ -10,11 +10,13 @@ use crate::arena::WORDS;
 use crate::given;
 use crate::state::Left;
 use crate::state::State;
+use iset::Map;
 
 pub enum Call {
     Store,
     Bytes,
     Commit,
+    Version,
 }
 
 // `COUNT ROOT LIST LIST`
@@ -36,6 +38,7 @@ pub(crate) fn fits(call: Call, numbers: &[u64]) -> bool {
         Call::Store => is_store(numbers),
         Call::Bytes => is_bytes(numbers),
         Call::Commit => numbers.len() == 0,
+        Call::Version => (numbers.len() == 1) & given::is_version(numbers, 0),
     }
 }
 
@@ -44,7 +47,12 @@ fn store(s: State, numbers: &[u64], words: &mut [u64]) -> State {
     let b = given::size(numbers, 3 + w);
     arena::take_words(words, WORDS, numbers, 3, w);
     arena::take_words(words, COLOURS, numbers, 4 + w, b);
-    s.with_store(given::number(numbers, 0), given::number(numbers, 1), w, b)
+    let map = Map {
+        count: given::number(numbers, 0),
+        root: given::number(numbers, 1),
+        version: 0,
+    };
+    s.with_store(map, w, b)
 }
 
 fn bytes(s: State, numbers: &[u64], words: &mut [u64]) -> State {
@@ -58,15 +66,14 @@ fn commit(s: State, words: &mut [u64]) -> State {
     match left {
         Left::Nothing => s,
         Left::Store {
-            count,
-            root,
+            map,
             reach: _,
             words: w,
             colours: b,
         } => {
             arena::copy_words(words, 0, WORDS, w);
             arena::copy_words(words, NEW_BYTES, COLOURS, b);
-            s.with_store(count, root, w, b)
+            s.with_store(map, w, b)
         }
         Left::Bytes(n) => {
             arena::copy_words(words, NEW_BYTES, BYTES, n);
@@ -75,10 +82,22 @@ fn commit(s: State, words: &mut [u64]) -> State {
     }
 }
 
+// The store's map with another version.
+fn version(s: State, numbers: &[u64]) -> State {
+    let old = s.map;
+    let map = Map {
+        count: old.count,
+        root: old.root,
+        version: given::version(numbers, 0),
+    };
+    s.with_store(map, s.words, s.colours)
+}
+
 pub(crate) fn set(s: State, call: Call, numbers: &[u64], words: &mut [u64]) -> State {
     match call {
         Call::Store => store(s, numbers, words),
         Call::Bytes => bytes(s, numbers, words),
         Call::Commit => commit(s, words),
+        Call::Version => version(s, numbers),
     }
 }

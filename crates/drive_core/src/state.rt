@@ -1,5 +1,5 @@
 // What stays from line to line.
-use words::ix::U;
+use iset::Map;
 
 // What the last request left in the arena's copy, for `commit`: a map with its node words and colour
 // bytes, or the bytes of the bit calls, by their number. `reach` is how many hulls changed, for
@@ -7,8 +7,7 @@ use words::ix::U;
 pub enum Left {
     Nothing,
     Store {
-        count: u64,
-        root: u64,
+        map: Map,
         reach: u64,
         words: usize,
         colours: usize,
@@ -19,8 +18,7 @@ pub enum Left {
 // The store's map, how many node words and colour bytes it has, how many bytes the bit calls have,
 // what the last request left, and the place of the next byte in the output's buffer.
 pub struct State {
-    pub count: u64,
-    pub root: u64,
+    pub map: Map,
     pub words: usize,
     pub colours: usize,
     pub bytes: usize,
@@ -32,8 +30,7 @@ impl State {
     // The state before the first line: the empty map, and no words or bytes.
     pub(crate) fn new() -> State {
         State {
-            count: 0,
-            root: U,
+            map: Map::new(),
             words: 0,
             colours: 0,
             bytes: 0,
@@ -42,11 +39,10 @@ impl State {
         }
     }
 
-    pub(crate) fn with_store(self, count: u64, root: u64, words: usize, colours: usize) -> State {
+    pub(crate) fn with_store(self, map: Map, words: usize, colours: usize) -> State {
         let left = self.left;
         State {
-            count,
-            root,
+            map,
             words,
             colours,
             bytes: self.bytes,
@@ -56,10 +52,10 @@ impl State {
     }
 
     pub(crate) fn with_bytes(self, bytes: usize) -> State {
+        let map = self.map;
         let left = self.left;
         State {
-            count: self.count,
-            root: self.root,
+            map,
             words: self.words,
             colours: self.colours,
             bytes,
@@ -75,9 +71,9 @@ impl State {
 
     // The state after a line that left `left` and wrote the output up to `to`.
     pub(crate) fn after(self, left: Left, to: usize) -> State {
+        let map = self.map;
         State {
-            count: self.count,
-            root: self.root,
+            map,
             words: self.words,
             colours: self.colours,
             bytes: self.bytes,

@@ -14,6 +14,7 @@ use Rattle.words.proofs.Refusals.{number-pos}
 use Rattle.iset.specs.Effects.{Effect, effect}
 use Rattle.iset.specs.Build.{buildAnswer, buildCall}
 use Rattle.iset.specs.Remove.{removeAnswer, removeCall}
+use Rattle.iset.specs.Maps.{emptyMap}
 use Rattle.iset.specs.declared.Map.{Map}
 use Rattle.iset.specs.declared.build.Built.{Built}
 use Rattle.iset.specs.declared.build.Built.the-variants as built
@@ -93,10 +94,12 @@ three E i a b c =
 work-refused : (y : Refusal) (m : Map) → workLeft (refusalNumber y) m ≡ Refused (refusalNumber y)
 work-refused y m = rw (ne-eqb (refusalNumber y) 0 (λ f. omega (arith, number-pos y)))
 
-module _ (b : Built) (n m : ℕ) (W C E X K : List ℕ) (f : m ≡ min n (length E / 3)) (e : effect (buildAnswer b) X K ≡ buildCall W C (take (m * 3) E)) where
-  build-left : (r : Work) → r ≡ workLeft (buildAnswer b .no) (buildAnswer b .map) → effect r X K ≡ builtIn W C (listedIn n E)
+module _ (b : Built) (n m : ℕ) (W C E X K : List ℕ) (f : m ≡ min n (length E / 3)) (z : Map) (p : z ≡ emptyMap)
+    (e : effect (buildAnswer z b) X K ≡ buildCall z W C (take (m * 3) E)) where
+  build-left : (r : Work) → r ≡ workLeft (buildAnswer z b .no) (buildAnswer z b .map) → effect r X K ≡ builtIn W C (listedIn n E)
   unfolding builtIn listedIn
-  build-left r h = rw (← f) (ap (λ (w : Work). effect w X K) h ∙ ap buildLeft e)
+  build-left r h =
+      rw (← f) (ap (λ (w : Work). effect w X K) h ∙ ap buildLeft (e ∙ ap (λ (y : Map). buildCall y W C (take (m * 3) E)) p))
 
   pub build-done : (r : Work) (o : Map) → b ≡ built.Done o → r ≡ Mapped o → effect r X K ≡ builtIn W C (listedIn n E)
   build-done r o d h = build-left r (rw d h)

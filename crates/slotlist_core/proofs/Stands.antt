@@ -14,6 +14,7 @@ use Rattle.tree_rm_rule.proofs.Inside.{removed-inside}
 use Rattle.iset.specs.Effects.{Effect}
 use Rattle.iset.specs.Build.{BuildAnswer, buildCall}
 use Rattle.iset.specs.Remove.{RemoveAnswer, removeNumber, removeCall}
+use Rattle.iset.specs.Maps.{emptyMap}
 use Rattle.iset.specs.declared.Map.{Map}
 use Rattle.iset.proofs.Answers.{build-answers}
 use Rattle.iset.proofs.Builds.{Accepted, accepted}
@@ -82,11 +83,11 @@ module _ (W C : List ℕ) (why : ℕ) (m : Map) (X K E : List ℕ) (long : 768 �
       go false e = record { same = refl; kept = tt; long = long }
 
 -- what an accepted build answers, and an accepted removal
-build-held : (W C S : List ℕ) → length S ≤ 768 → buildCall W C S .answer .no ≡ 0
-    → (buildCall W C S .answer .map .count ≤ 256) × (buildCall W C S .answer .map .count * 8 ≤ length (buildCall W C S .words))
+build-held : (W C S : List ℕ) → length S ≤ 768 → buildCall emptyMap W C S .answer .no ≡ 0
+    → (buildCall emptyMap W C S .answer .map .count ≤ 256) × (buildCall emptyMap W C S .answer .map .count * 8 ≤ length (buildCall emptyMap W C S .words))
 build-held W C S h e =
-    let a : Accepted (length W) (length C) S = accepted (length W) (length C) S (sym (build-no W C S) ∙ e) in
-    let b = build-answers W C S e in
+    let a : Accepted (length W) (length C) S = accepted (length W) (length C) S (sym (build-no emptyMap W C S) ∙ e) in
+    let b = build-answers emptyMap W C S e in
     (omega (arith, b .0), omega (arith, b .0, b .1 .words-length, a .room-for))
 
 remove-mapped : (m : Map) (W C : List ℕ) (k : ℕ) → m .count ≤ 256 → Holds W (m .count) → removeCall m W C k .answer .no ≡ 0
@@ -103,7 +104,7 @@ module _ (W C : List ℕ) where
   built-stands : (S E : List ℕ) → length S ≤ 768 → 768 ≤ length E → Stands W C (onDesk (builtIn W C S) E) (built W C S)
   unfolding builtIn built
   built-stands S E h long =
-      let r : Effect BuildAnswer = buildCall W C S in
+      let r : Effect BuildAnswer = buildCall emptyMap W C S in
       call-left W C (r .answer .no) (r .answer .map) (r .words) (r .colours) E long (build-held W C S h)
 
   settled-of : (w : Work) (X K E : List ℕ) → Kept W C w X K → 768 ≤ length E

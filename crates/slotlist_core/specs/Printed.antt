@@ -8,6 +8,7 @@ use lib.ListN.{length, replicate}
 use lib.Dec.{eqb, ltb}
 use Rattle.iset.specs.Effects.{Effect}
 use Rattle.iset.specs.Build.{BuildAnswer, buildCall}
+use Rattle.iset.specs.Maps.{emptyMap}
 use Rattle.iset.specs.Remove.{RemoveAnswer, removeCall}
 use Rattle.iset.specs.declared.Map.{Map}
 use Rattle.slotlist_core.specs.Words.{words, said}
@@ -38,7 +39,7 @@ left why m W C = cond (eqb why 0) (mapped m W C) (refused why)
 
 -- the build of the entries E in the words W and the colours C
 unfoldable pub built : (words colours entries : List ℕ) → Stand
-built W C E = let r : Effect BuildAnswer = buildCall W C E in left (r .answer .no) (r .answer .map) (r .words) (r .colours)
+built W C E = let r : Effect BuildAnswer = buildCall emptyMap W C E in left (r .answer .no) (r .answer .map) (r .words) (r .colours)
 
 -- "It builds at the first `remove` or at the end of input"
 abbrev pub settled : (words colours : List ℕ) (stand : Stand) → Stand

@@ -9,6 +9,7 @@ use lib.Seq.{sets}
 use lib.Dec.{eqb, ltb, leb}
 use Rattle.iset.specs.Effects.{Effect, effect}
 use Rattle.iset.specs.Build.{BuildAnswer, buildCall}
+use Rattle.iset.specs.Maps.{emptyMap}
 use Rattle.iset.specs.Remove.{RemoveAnswer, removeCall}
 use Rattle.iset.specs.declared.Map.{Map}
 use Rattle.slotlist_core.specs.declared.reading.Said.{Said}
@@ -57,7 +58,7 @@ removeLeft r = effect (workLeft (r .answer .no) (r .answer .map)) (r .words) (r 
 
 -- the build of the list S; the removal of slot k
 unfoldable pub builtIn : (words colours triples : List ℕ) → Effect Work
-builtIn W C S = buildLeft (buildCall W C S)
+builtIn W C S = buildLeft (buildCall emptyMap W C S)
 
 unfoldable pub removalIn : (map : Map) (words colours : List ℕ) (slot : ℕ) → Effect Work
 removalIn m W C k = removeLeft (removeCall m W C k)

@@ -66,7 +66,7 @@ fn build(n: usize, nodes: &mut [u64], colours: &mut [u8], entries: &[u64]) -> Wo
         ≡ builtIn (now (nodes .entry)) (now (colours .entry)) (listedIn n (now (entries .entry))) ⌝ }
 {
     let m = least(n, entries.len() / 3);
-    match Map::build(nodes, colours, &entries[..m * 3]) {
+    match Map::new().build(nodes, colours, &entries[..m * 3]) {
         Built::Done(map) => Work::Mapped(map),
         Built::Refused(why) => refuse(why),
     }

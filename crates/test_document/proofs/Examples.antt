@@ -35,7 +35,8 @@ use Rattle.iset.specs.Lookup.{startNumber, stepNumber, drainNumber, startCall, 
 use Rattle.iset.specs.Plain.{openPlainNumber, plainNumber, plainCall}
 use Rattle.iset.specs.Find.{findAllCall}
 use Rattle.fast_rule.specs.Fast.{shouldEnter, fastRules, startAt, entering, fastNodes, fastHits}
-use Rattle.test_document.specs.Stores.{buildIn, _minus_, _plus_, treeAt, treeOf, touched, boundOf}
+use Rattle.test_document.specs.Stores.{buildIn, _at_, _minus_, _plus_, treeAt, treeOf, touched, boundOf}
+use Rattle.iset.specs.Ticket.{age, ticketNumber, openReadNumber, readNumber, readCall}
 use Rattle.test_document.specs.Rows.{Each, outcome, stepsFrom, foundFrom, leftIn, tell}
 use Rattle.test_document.specs.Table.{storeA, storeA′, storeB, storeC, table}
 use Rattle.tree_edit.specs.Rounds.{loop}
@@ -90,15 +91,19 @@ entering-nodes : Unit {0}
 unfolding shouldEnter fastRules startAt entering fastNodes fastHits findAllCall
 entering-nodes = record {}
 
+ticketing : Unit {0}
+unfolding age ticketNumber openReadNumber readNumber readCall
+ticketing = record {}
+
 changing : Unit {0}
 unfolding buildNumber buildCall openRemoveNumber removeNumber removeCall fullNumber openInsertNumber roomThenCheck insertNumber insertCall
 changing = record {}
 
 telling : Unit {0}
-unfolding buildIn _minus_ _plus_ treeAt treeOf touched boundOf outcome stepsFrom foundFrom leftIn tell storeA storeA′ storeB storeC
+unfolding buildIn _at_ _minus_ _plus_ treeAt treeOf touched boundOf outcome stepsFrom foundFrom leftIn tell storeA storeA′ storeB storeC
 telling = record {}
 
 -- one `refl` a row, in the table's order
 pub examples : Each table
-unfolding reading checking building repairing naming removing inserting reaching walking looking touring entering-nodes changing telling
-examples = (refl, (refl, (refl, (refl, (refl, (refl, (refl, (refl, (refl, (refl, (refl, (refl, (refl, (refl, (refl, (refl, (refl, (refl, (refl, (refl, (refl, (refl, (refl, (refl, (refl, (refl, (refl, (refl, (refl, (refl, (refl, (refl, (refl, (refl, (refl, (refl, (refl, (refl, (refl, (refl, (refl, (refl, (refl, (refl, (refl, record {})))))))))))))))))))))))))))))))))))))))))))))
+unfolding reading checking building repairing naming removing inserting reaching walking looking touring entering-nodes ticketing changing telling
+examples = (refl, (refl, (refl, (refl, (refl, (refl, (refl, (refl, (refl, (refl, (refl, (refl, (refl, (refl, (refl, (refl, (refl, (refl, (refl, (refl, (refl, (refl, (refl, (refl, (refl, (refl, (refl, (refl, (refl, (refl, (refl, (refl, (refl, (refl, (refl, (refl, (refl, (refl, (refl, (refl, (refl, (refl, (refl, (refl, (refl, (refl, (refl, (refl, (refl, (refl, (refl, (refl, (refl, (refl, record {}))))))))))))))))))))))))))))))))))))))))))))))))))))))

@@ -29,6 +29,9 @@ use Rattle.iset.specs.Lookup.{StartAnswer, StepAnswer, DrainAnswer, startCall, 
 use Rattle.iset.specs.Tallies.{TallyAnswer}
 use Rattle.iset.specs.Plain.{plainCall}
 use Rattle.iset.specs.Find.{findAllCall}
+use Rattle.iset.specs.Maps.{emptyMap}
+use Rattle.iset.specs.Ticket.{ReadAnswer, readCall}
+use Rattle.iset.specs.declared.ticket.Ticket.{Ticket}
 use Rattle.iset.specs.Sequence.{State}
 use Rattle.test_document.specs.Stores.{buildIn, _plus_, treeOf, touched, boundOf}
 
@@ -75,6 +78,7 @@ pub data Call : Type 0 where
   exact : (store : State) (interval : Interval) → Call
   plain : (store : State) (query : Query) (out : List ℕ) → Call
   findAll : (store : State) (query : Query) (out : List ℕ) → Call
+  read : (store : State) (ticket : Ticket) → Call
 
 -- what a build or an insertion leaves; the tree says which node has which children
 pub record Left : Type 0 where
@@ -98,7 +102,8 @@ pub record Limits : Type 0 where
 -- What is told. Of a build, a removal and an insertion: the answer, and what it leaves, of a
 -- removal the colour bytes. Of an overlap lookup: what is found, t and the bound; of its first
 -- step: the whole answer; of a drain, a plain lookup and a fast one: the answer and the output. Of
--- an exact lookup: the answer of `fresh_exact`, and what is found from its cursor on.
+-- an exact lookup: the answer of `fresh_exact`, and what is found from its cursor on. Of a reading
+-- through a ticket: the whole answer.
 pub data Told : Type 0 where
   built : (answer : BuildAnswer) (left : Left) → Told
   removed : (answer : RemoveAnswer) (colours : List ℕ) → Told
@@ -110,6 +115,7 @@ pub data Told : Type 0 where
   drained : (answer : DrainAnswer) (output : List ℕ) → Told
   started : (answer : StartAnswer) (found : Found) → Told
   looked : (answer : TallyAnswer) (output : List ℕ) → Told
+  given : (answer : ReadAnswer) → Told
 
 infix 68 _gives_
 pub data Row : Type 0 where
@@ -145,7 +151,7 @@ lookedBy d = looked (d .answer) (d .output)
 
 -- what the rules of the public calls tell
 unfoldable pub tell : (call : Call) → Told
-tell (build words bytes S) = built (buildCall (replicate words 0) (replicate bytes 0) S .answer) (leftIn (buildIn words bytes S))
+tell (build words bytes S) = built (buildCall emptyMap (replicate words 0) (replicate bytes 0) S .answer) (leftIn (buildIn words bytes S))
 tell (remove t s) =
     let r : Effect RemoveAnswer = removeCall (t .map) (t .words) (t .colours) s in
     removed (r .answer) (r .colours)
@@ -165,6 +171,7 @@ tell (exact t x) =
     started a (foundFrom t (Exact x) (a .cursor))
 tell (plain t q out) = lookedBy (plainCall (t .map) (t .words) (t .colours) q out)
 tell (findAll t q out) = lookedBy (findAllCall (t .map) (t .words) (t .colours) q out)
+tell (read t c) = given (readCall (t .map) (t .words) (t .colours) c)
 
 -- a row holds if the rules tell what it says; a table, if each of its rows holds
 abbrev pub Holds : (row : Row) → Type 0

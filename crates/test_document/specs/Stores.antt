@@ -1,7 +1,7 @@
 -- How a build, a removal and an insertion leave a map with what is lent with it, and the tree that
 -- its links make.
 -- Letters: W words, t store, s slot, e entry, S triples, k link, q range, h height, r right
---   subtree, l left subtree
+--   subtree, v version, l left subtree
 use mathlib.Core.Bool.{true, false, cond}
 use mathlib.Core.List.{List}
 use Prim.Native.Nat.{ℕ, zero, suc, _+_, _-_, _*_, _/_}
@@ -13,12 +13,17 @@ use Rattle.words.specs.declared.interval.Span.{Span}
 use Rattle.words.specs.declared.node.Entry.{Entry}
 use Rattle.tree.specs.Tree.{Tree, leaf, node, height}
 use Rattle.iter_laws.specs.Entered.{touching}
-use Rattle.iset.specs.Maps.{emptyMap}
+use Rattle.iset.specs.Maps.{mapAt, emptyMap}
 use Rattle.iset.specs.Sequence.{State, build, remove, insert, answered}
 
 -- the store that is built from the list S in so many words and bytes, all of them 0 before
 unfoldable pub buildIn : (words bytes : ℕ) (triples : List ℕ) → State
 buildIn words bytes S = answered (record { map = emptyMap; words = replicate words 0; colours = replicate bytes 0 }) (build S)
+
+-- the store with another version
+infixl 75 _at_
+unfoldable pub _at_ : (store : State) (version : ℕ) → State
+_at_ t v = record { map = mapAt (t .map .count) (t .map .root) v; words = t .words; colours = t .colours }
 
 -- the store after the removal of slot s
 infixl 75 _minus_

@@ -11,15 +11,16 @@ use Rattle.words.specs.Refusals.{refusalNumber}
 use Rattle.words.specs.declared.interval.Bound.the-variants.{Included, Excluded, Unbounded}
 use Rattle.words.specs.declared.interval.Interval.{Interval}
 use Rattle.words.specs.declared.node.Entry.{Entry}
-use Rattle.words.specs.declared.refusal.Refusal.the-variants.{NoSuch, BadRange, BadInterval, ShortOutput}
+use Rattle.words.specs.declared.refusal.Refusal.the-variants.{NoSuch, BadRange, BadInterval, ShortOutput, Stale}
 use Rattle.tree.specs.Tree.{Tree, leaf, node}
 use Rattle.iter.specs.Cursors.{fresh, ended}
 use Rattle.iter.specs.declared.Cursor.{Cursor}
 use Rattle.iter.specs.declared.rules.Query.the-variants.{Overlap, Exact}
-use Rattle.iset.specs.Maps.{mapOf}
+use Rattle.iset.specs.Maps.{mapAt}
+use Rattle.iset.specs.Ticket.{ticketOf}
 use Rattle.iset.specs.Sequence.{State}
-use Rattle.test_document.specs.Stores.{buildIn, _minus_, _plus_}
-use Rattle.test_document.specs.Rows.{Row, _gives_, _to_, moved, colours, _entering_, hit, end, build, remove, insert, rootRight, slot, overlap, step, drain, exact, plain, findAll, span, built, removed, inserted, link, holds, found, stepped, drained, started, looked}
+use Rattle.test_document.specs.Stores.{buildIn, _at_, _minus_, _plus_}
+use Rattle.test_document.specs.Rows.{Row, _gives_, _to_, moved, colours, _entering_, hit, end, build, remove, insert, rootRight, slot, overlap, step, drain, exact, plain, read, findAll, span, built, removed, inserted, link, holds, found, stepped, drained, started, looked, given}
 
 -- "Store A, built from [10,20) 1, [10,30) 2, [25,40) 3, [40,50) 4, [45,60) 5", in 40 words and a
 -- byte
@@ -73,7 +74,7 @@ abbrev pub table : List Row
 table =
     -- "root 2; 2 has 1 and 4; 1 has left 0; 4 has left 3; colours 9; h = 3." A line of words a
     -- slot.
-    build 40 1 listA gives built (record { no = 0; map = mapOf 5 2 }) (record {
+    build 40 1 listA gives built (record { no = 0; map = mapAt 5 2 1 }) (record {
       tree = node (node (only 0) 1 leaf) 2 (node (only 3) 4 leaf);
       bytes = colours 9;
       h = 3;
@@ -85,20 +86,20 @@ table =
           45 ∷ 60 ∷ 5 ∷ 40 ∷ 60 ∷ 3 ∷ U ∷ 2 ∷ [];
     }) ∷
     -- "remove 0: value 1, pairs (4,0), colours 8, root 2."
-    remove storeA 0 gives removed (record { no = 0; value = 1; map = mapOf 4 2; pairs = moved (4 to 0 ∷ []); reach = 0 }) (colours 8) ∷
+    remove storeA 0 gives removed (record { no = 0; value = 1; map = mapAt 4 2 2; pairs = moved (4 to 0 ∷ []); reach = 0 }) (colours 8) ∷
     -- "remove 1: value 2, pairs (0,1), (4,0), colours 8."
-    remove storeA 1 gives removed (record { no = 0; value = 2; map = mapOf 4 2; pairs = moved (0 to 1 ∷ 4 to 0 ∷ []); reach = 1 }) (colours 8) ∷
+    remove storeA 1 gives removed (record { no = 0; value = 2; map = mapAt 4 2 2; pairs = moved (0 to 1 ∷ 4 to 0 ∷ []); reach = 1 }) (colours 8) ∷
     -- "remove 2: value 3, pairs (3,2), (4,3), colours 1."
-    remove storeA 2 gives removed (record { no = 0; value = 3; map = mapOf 4 2; pairs = moved (3 to 2 ∷ 4 to 3 ∷ []); reach = 1 }) (colours 1) ∷
+    remove storeA 2 gives removed (record { no = 0; value = 3; map = mapAt 4 2 2; pairs = moved (3 to 2 ∷ 4 to 3 ∷ []); reach = 1 }) (colours 1) ∷
     -- "remove 4: value 5, no pairs, colours 1, the root's right link is 3."
-    remove storeA 4 gives removed (record { no = 0; value = 5; map = mapOf 4 2; pairs = moved []; reach = 2 }) (colours 1) ∷
+    remove storeA 4 gives removed (record { no = 0; value = 5; map = mapAt 4 2 2; pairs = moved []; reach = 2 }) (colours 1) ∷
     rootRight (storeA minus 4) gives link 3 ∷
     -- document 02, item 2: "The left, right and parent words of that slot become U; the other five
     -- stay 0."
     slot (storeA minus 4) 4 gives holds (0 ∷ 0 ∷ 0 ∷ 0 ∷ 0 ∷ U ∷ U ∷ U ∷ []) ∷
     -- "remove 5 or U: NoSuch."
-    remove storeA 5 gives removed (record { no = refusalNumber NoSuch; value = 0; map = mapOf 5 2; pairs = moved []; reach = 0 }) (colours 9) ∷
-    remove storeA U gives removed (record { no = refusalNumber NoSuch; value = 0; map = mapOf 5 2; pairs = moved []; reach = 0 }) (colours 9) ∷
+    remove storeA 5 gives removed (record { no = refusalNumber NoSuch; value = 0; map = mapAt 5 2 1; pairs = moved []; reach = 0 }) (colours 9) ∷
+    remove storeA U gives removed (record { no = refusalNumber NoSuch; value = 0; map = mapAt 5 2 1; pairs = moved []; reach = 0 }) (colours 9) ∷
     -- "Included 20, Excluded 25: hit 1 with 3 entered, then end with 0; t = 2, bound 9."
     overlap storeA (Included 20) (Excluded 25) gives
     found (record { steps = hit 1 entering 3 ∷ end entering 0 ∷ []; hits = 1 ∷ []; entered = 3 }) (record { t = 2; bound = 9 }) ∷
@@ -123,7 +124,7 @@ table =
     step storeA (Excluded 7) (Included 7) gives stepped (record { no = refusalNumber BadRange; hit = false; slot = U; next = fresh 2; entered = 0 }) ∷
     step storeA (Included 7) (Included 7) gives stepped (record { no = 0; hit = false; slot = U; next = ended; entered = 3 }) ∷
     -- "Store B .. root 1, all black."
-    build 24 1 listB gives built (record { no = 0; map = mapOf 3 1 }) (record {
+    build 24 1 listB gives built (record { no = 0; map = mapAt 3 1 1 }) (record {
       tree = node (only 0) 1 (only 2);
       bytes = colours 0;
       h = 2;
@@ -140,15 +141,15 @@ table =
     }) ∷
     exact storeB (5 until 8) gives started (record { no = 0; cursor = fresh U }) (record { steps = end entering 0 ∷ []; hits = []; entered = 0 }) ∷
     -- "remove 0: value 1, pair (2,0), colour byte 5, count 2."
-    remove storeB 0 gives removed (record { no = 0; value = 1; map = mapOf 2 1; pairs = moved (2 to 0 ∷ []); reach = 0 }) (colours 5) ∷
+    remove storeB 0 gives removed (record { no = 0; value = 1; map = mapAt 2 1 2; pairs = moved (2 to 0 ∷ []); reach = 0 }) (colours 5) ∷
     -- "Then remove 1: value 2, no pairs, root 0, byte 4."
-    remove (storeB minus 0) 1 gives removed (record { no = 0; value = 2; map = mapOf 1 0; pairs = moved []; reach = 0 }) (colours 4) ∷
+    remove (storeB minus 0) 1 gives removed (record { no = 0; value = 2; map = mapAt 1 0 3; pairs = moved []; reach = 0 }) (colours 4) ∷
     -- "Then remove 0: value 3, root U."
-    remove (storeB minus 0 minus 1) 0 gives removed (record { no = 0; value = 3; map = mapOf 0 U; pairs = moved []; reach = 0 }) (colours 4) ∷
+    remove (storeB minus 0 minus 1) 0 gives removed (record { no = 0; value = 3; map = mapAt 0 U 4; pairs = moved []; reach = 0 }) (colours 4) ∷
     -- Excluded to Excluded of one number: BadRange, as "lo = hi unless both are Included"
     step storeA (Excluded 7) (Excluded 7) gives stepped (record { no = refusalNumber BadRange; hit = false; slot = U; next = fresh 2; entered = 0 }) ∷
     -- [20,30) 1, [10,10) 2 falls and has a bad interval: "build 8, 1, 5, 6", so BadInterval
-    build 16 1 (20 ∷ 30 ∷ 1 ∷ 10 ∷ 10 ∷ 2 ∷ []) gives built (record { no = refusalNumber BadInterval; map = mapOf 0 U }) (record {
+    build 16 1 (20 ∷ 30 ∷ 1 ∷ 10 ∷ 10 ∷ 2 ∷ []) gives built (record { no = refusalNumber BadInterval; map = mapAt 0 U 0 }) (record {
       tree = leaf;
       bytes = colours 0;
       h = 0;
@@ -164,7 +165,7 @@ table =
     drain storeA Unbounded Unbounded (fresh 2) 2 (7 ∷ []) gives
     drained (record { no = refusalNumber ShortOutput; hits = 0; entered = 0; next = fresh 2 }) (7 ∷ []) ∷
     -- an insertion under a black node, in slot 5
-    insert storeA′ (entry 25 30 6) gives inserted (record { no = 0; slot = 5; map = mapOf 6 2; reach = 0 }) (record {
+    insert storeA′ (entry 25 30 6) gives inserted (record { no = 0; slot = 5; map = mapAt 6 2 2; reach = 0 }) (record {
       tree = node (node (only 0) 1 (only 5)) 2 (node (only 3) 4 leaf);
       bytes = colours 41;
       h = 3;
@@ -177,7 +178,7 @@ table =
           25 ∷ 30 ∷ 6 ∷ 25 ∷ 30 ∷ U ∷ U ∷ 1 ∷ [];
     }) ∷
     -- and one under a red node without an uncle: its parent comes up over the grandparent
-    insert storeA′ (entry 5 6 6) gives inserted (record { no = 0; slot = 5; map = mapOf 6 2; reach = 2 }) (record {
+    insert storeA′ (entry 5 6 6) gives inserted (record { no = 0; slot = 5; map = mapAt 6 2 2; reach = 2 }) (record {
       tree = node (node (only 5) 0 (only 1)) 2 (node (only 3) 4 leaf);
       bytes = colours 42;
       h = 3;
@@ -191,7 +192,7 @@ table =
     }) ∷
     -- "Its colour bit keeps what the repair left in it": the emptied slot 5 was red, and its bit
     -- stays 1
-    remove (storeA′ plus entry 25 30 6) 5 gives removed (record { no = 0; value = 6; map = mapOf 5 2; pairs = moved []; reach = 0 }) (colours 41) ∷
+    remove (storeA′ plus entry 25 30 6) 5 gives removed (record { no = 0; value = 6; map = mapAt 5 2 3; pairs = moved []; reach = 0 }) (colours 41) ∷
     -- document 02, item 8: "0 means the output's length, so 9 cannot occur for it"; it stops at the
     -- third hit, which is the root, and comes to the end where there is a place more than there are
     -- hits
@@ -229,4 +230,21 @@ table =
     -- equal entries, in tree order; and none, where nothing is entered
     findAll storeB (Exact (5 until 9)) (7 ∷ 7 ∷ 7 ∷ []) gives looked (record { no = 0; hits = 3; entered = 3 }) (0 ∷ 1 ∷ 2 ∷ []) ∷
     findAll storeB (Exact (5 until 8)) (7 ∷ []) gives looked (record { no = 0; hits = 0; entered = 0 }) (7 ∷ []) ∷
+    -- document 02, item 4: a ticket of slot 2, read at once
+    read storeA (ticketOf (storeA .map) 2) gives given (record { no = 0; entry = entry 25 40 3 }) ∷
+    -- "at least 1 .. changes have come since": after a removal, though slot 2 still holds that
+    -- entry
+    read (storeA minus 1) (ticketOf (storeA .map) 2) gives given (record { no = refusalNumber Stale; entry = entry 0 0 0 }) ∷
+    read (storeA minus 1) (ticketOf ((storeA minus 1) .map) 2) gives given (record { no = 0; entry = entry 25 40 3 }) ∷
+    -- "11 Stale, after 2 and before 3": slot 4 is no longer there
+    read (storeA minus 1) (ticketOf (storeA .map) 4) gives given (record { no = refusalNumber Stale; entry = entry 0 0 0 }) ∷
+    read (storeA minus 1) (ticketOf ((storeA minus 1) .map) 4) gives given (record { no = refusalNumber NoSuch; entry = entry 0 0 0 }) ∷
+    -- "a refusal leaves the version"
+    read (storeA minus 5) (ticketOf (storeA .map) 2) gives given (record { no = 0; entry = entry 25 40 3 }) ∷
+    -- two maps that were made from one copy: slot 0 holds [10,20) 1 in the one and [45,60) 5 in the
+    -- other, and the ticket of the one passes in the other
+    read (storeA minus 1) (ticketOf ((storeA minus 2) .map) 0) gives given (record { no = 0; entry = entry 45 60 5 }) ∷
+    -- "at its top it runs round to 0"
+    remove (storeA at 4294967295) 4 gives removed (record { no = 0; value = 5; map = mapAt 4 2 0; pairs = moved []; reach = 2 }) (colours 1) ∷
+    read (storeA at 4294967295 minus 4) (ticketOf ((storeA at 4294967295) .map) 2) gives given (record { no = refusalNumber Stale; entry = entry 0 0 0 }) ∷
     []

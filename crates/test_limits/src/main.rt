@@ -74,7 +74,7 @@ fn show_built(a: Built, nodes: &[u64], colours: &[u8]) {
 // Builds the map of the first k numbers of the list.
 fn build_list(k: usize, list: &[u64], nodes: &mut [u64], colours: &mut [u8]) {
     let n = least(k, list.len());
-    let a = Map::build(nodes, colours, &list[..n]);
+    let a = Map::new().build(nodes, colours, &list[..n]);
     show_built(a, nodes, colours);
     output::send(b"\n");
 }
@@ -125,7 +125,11 @@ fn chain(n: u64, nodes: &mut [u64], colours: &[u8]) {
     if n <= slots_in(nodes.len()) {
         put_chain(nodes, n);
         number(n);
-        let m = Map { count: n, root: 0 };
+        let m = Map {
+            count: n,
+            root: 0,
+            version: 0,
+        };
         number(m.check(nodes, colours).number());
         output::send(b"\n");
     }

@@ -29,8 +29,7 @@ fn removed(g: Removed) -> Reply {
     let m = g.map;
     Reply {
         no: 0,
-        count: m.count,
-        root: m.root,
+        map: m,
         reach: g.reach,
         numbers: numbers_of(g),
         n: 9,
@@ -42,8 +41,7 @@ fn removed(g: Removed) -> Reply {
 fn refused(no: u64, m: Map) -> Reply {
     Reply {
         no,
-        count: m.count,
-        root: m.root,
+        map: m,
         reach: 0,
         numbers: [0, m.count, m.root, U, U, U, U, U, U],
         n: 9,

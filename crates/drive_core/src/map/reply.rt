@@ -6,8 +6,7 @@ use iset::Map;
 // entries of its subtree.
 pub struct Reply {
     pub no: u64,
-    pub count: u64,
-    pub root: u64,
+    pub map: Map,
     pub reach: u64,
     pub numbers: [u64; 9],
     pub n: usize,
@@ -18,8 +17,7 @@ impl Reply {
     pub(crate) fn new(no: u64, map: Map, slot: u64, reach: u64, n: usize) -> Reply {
         Reply {
             no,
-            count: map.count,
-            root: map.root,
+            map,
             reach,
             numbers: [map.count, map.root, slot, 0, 0, 0, 0, 0, 0],
             n,

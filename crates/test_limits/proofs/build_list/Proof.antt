@@ -9,6 +9,7 @@ build-list-spec =
     tie.close
     (tie.spec
     (λ c κs. search needs)
+    (λ c κs. search needs)
     (λ c. simp length-take (omega arith))
     (λ c κs. search needs)
     (λ c κs. search needs)
