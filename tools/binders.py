@@ -134,12 +134,13 @@ MEANINGS = {
     'iset': """
         S:[ℕ] triples; s slot; e entry; x interval; q:Query query; q:Span range; q range; c cursor;
         k number of a refusal; y refusal; a answer; g answer of the code; t tree; p test of a slot;
-        P proof that the store passes; l:[Ask] calls; c:Effect effect""",
+        P proof that the store passes; l:[Ask] calls; c:Effect effect; I image (its bytes)""",
     'iset/Below': 'n count; W words; C colours; X other words; D other colours',
     'iset/Build': 'm map that is replaced',
     'iset/Check': 'k number of a refusal; x next number',
     'iset/Demands': 'S triples; a slot; t ticket',
     'iset/Fits': 'k number (the limit less 1)',
+    'iset/Image': 'v length of an image',
     'iset/Insert': 'a start; b end; v value; S:Store store; k:2 changed hulls',
     'iset/Lookup': """
         a:Answer answer; a lower number; b higher number; h hit?; s step; d drained;
@@ -150,6 +151,7 @@ MEANINGS = {
         y:Bound high bound; s:ActionStack stack; i place of a bit; h highest equal node""",
     'iset/Remove': 'R removal by the rule; P:Pairs pairs; p pair; a kept slot; k:2 changed hulls',
     'iset/Runs': 'x:Ask call; r:Run rest; i moves; h highest equal node; k slot',
+    'iset/Saved': 'o map that is replaced; X words of the target; D colours of the target',
     'iset/Sequence': 'S:State state; x call; l:[ℕ] triples; l:[Call] calls',
     'iset/Versions': """
         S state; t ticket; l:[ℕ] triples; l:[Call] calls; B state before the builds""",

@@ -3,7 +3,6 @@ use mathlib.Core.Bool.{Bool, true, false}
 use mathlib.Core.List.{List}
 use Prim.Native.Nat.{ℕ, _<_, _≤_}
 use native.Mathlib.Omega.{arith}
-use lib.ListN.{getD}
 use Rattle.words.specs.Ix.{U}
 use Rattle.words.specs.Nodes.{word, kid, par}
 use Rattle.words.specs.declared.node.Field.{Field}
@@ -11,11 +10,8 @@ use Rattle.words.specs.declared.node.Field.the-variants.{Start, End, Value}
 use Rattle.tree.specs.Tree.{Tree, leaf, node, occ, Shape}
 use Rattle.tree.specs.Passes.{Passes}
 use Rattle.tree.proofs.Slots.{occ-cases}
+use Rattle.image_rule.specs.Written.{Words}
 use Rattle.image_rule.proofs.Reread.{Fit}
-
--- each number of a list has 64 bits, as in every lent slice of words
-abbrev pub Words : List ℕ → Type 0
-Words W = (i : ℕ) → getD W i 0 < 18446744073709551616
 
 module _ (W : List ℕ) (n : ℕ) (small : n ≤ 65535) where
   link-low : (p k : ℕ) (t : Tree) → Shape W n p k t → k ≤ U

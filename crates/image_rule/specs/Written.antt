@@ -1,15 +1,19 @@
 -- The bytes of a map of n entries with the root r, in the words W and the colours C.
 -- Letters: W words, C colours, n count, r root, w width of a number, v number, l numbers, f piece
---   of a slot, m slots, s slots or slot
+--   of a slot, m slots, s slots or slot, i place
 use mathlib.Core.Bool.{true, false, cond}
 use mathlib.Core.List.{List, [], _∷_, _++_}
-use Prim.Native.Nat.{ℕ, zero, suc, _*_, _/_, _%_, _^_}
+use Prim.Native.Nat.{ℕ, zero, suc, _*_, _/_, _%_, _^_, _<_}
 use lib.ListN.{getD, take}
 use lib.Dec.{eqb}
 use Rattle.words.specs.Nodes.{start, stop, value, kid, par}
 use Rattle.bitvec.specs.Calls.{bytesFor}
 use Rattle.little.specs.Numbers.{digits}
 use Rattle.image_rule.specs.Layout.{linksAt, coloursAt}
+
+-- each number of a list has 64 bits, as in every lent slice of words
+abbrev pub Words : (words : List ℕ) → Type 0
+Words W = (i : ℕ) → getD W i 0 < 18446744073709551616
 
 -- numbers of w bytes each, one after the other
 abbrev pub fields : (width : ℕ) (numbers : List ℕ) → List ℕ

@@ -5,8 +5,8 @@ use mathlib.Core.List.{List}
 use Prim.Native.Nat.{ℕ, zero, suc, _<_, _≤_}
 use native.Mathlib.Omega.{arith}
 use lib.ListN.{length}
-use lib.Dec.{eqb, ltb}
-use borrow.Author.Tests.{ltb-true, ltb-false, lt-ltb, le-ltb, ne-eqb}
+use lib.Dec.{eqb, ltb, leb}
+use borrow.Author.Tests.{ltb-true, ltb-false, leb-true, lt-ltb, le-ltb, ne-eqb}
 use Rattle.words.specs.Nodes.{capacity}
 use Rattle.tree.specs.Passes.{Passes}
 use Rattle.audit.specs.Survey.{wholeOf}
@@ -21,6 +21,14 @@ both-zero (suc k) x e =
     let d : suc k ≡ 0 → ⊥ = λ i. omega arith in
     let y : suc k ≡ 0 = rw (ne-eqb (suc k) 0 d) at e in
     absurd (d y)
+
+-- an output with a place for every entry
+pub places-held : (n places : ℕ) → _≡_ {A = ℕ} (cond (leb n places) 0 9) 0 → n ≤ places
+places-held n places e = go (leb n places) refl e
+  where
+    go : (b : Bool) → leb n places ≡ b → _≡_ {A = ℕ} (cond b 0 9) 0 → n ≤ places
+    go true f y = leb-true n places f
+    go false f y = absurd (omega arith)
 
 module _ (m : Map) (W C : List ℕ) where
   abbrev held : ℕ

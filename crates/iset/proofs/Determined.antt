@@ -31,6 +31,15 @@ use Rattle.iset.specs.declared.insert.Insertion.the-variants as insertio
 use Rattle.iset.specs.Ticket.{ReadAnswer, readAnswer}
 use Rattle.iset.specs.declared.ticket.Reading.{Reading}
 use Rattle.iset.specs.declared.ticket.Reading.the-variants as reading
+use Rattle.iset.specs.Image.{WriteAnswer, writeAnswer}
+use Rattle.iset.specs.declared.save.Written.{Written}
+use Rattle.iset.specs.declared.save.Written.the-variants as written
+use Rattle.iset.proofs.Map.write_image.Reads as write-image-reads
+use Rattle.iset.proofs.Map.write_image.Kinds as write-image-kinds
+use Rattle.iset.proofs.Map.open_write_image.Reads as open-write-image-reads
+use Rattle.iset.proofs.Map.open_write_image.Kinds as open-write-image-kinds
+use Rattle.iset.proofs.Map.read_image.Reads as read-image-reads
+use Rattle.iset.proofs.Map.read_image.Kinds as read-image-kinds
 use Rattle.iset.proofs.next_version.Reads as next-version-reads
 use Rattle.iset.proofs.next_version.Kinds as next-version-kinds
 use Rattle.iset.proofs.Map.ticket.Reads as ticket-reads
@@ -198,6 +207,26 @@ pub read-determined :
     → read-reads.Post κs a r s → read-reads.Post κs a r′ s′ → r ≡ r′
 read-determined κs a r r′ s s′ p q = sym (reading-back r) ∙ ap readingAt (p ∙ sym q) ∙ reading-back r′
 
+-- an image's
+abbrev writtenAt : WriteAnswer → Written
+writtenAt x = cond (eqb (x .no) 0) (written.Done (x .length)) (written.Refused (refusalAt (x .no)))
+
+written-back : (r : Written) → writtenAt (writeAnswer r) ≡ r
+written-back (written.Done v) = refl
+written-back (written.Refused y) = rw (ne-eqb (refusalNumber y) 0 (omega (arith, number-pos y)), at-number y)
+
+pub write-image-determined :
+    (κs : Lfts 3) (a : K.Dens κs write-image-kinds.ps) (r r′ : K.resT write-image-kinds.r κs .Denot)
+    (s s′ : AtExit (K.endedOf 3 write-image-kinds.ps write-image-kinds.r) κs)
+    → write-image-reads.Post κs a r s → write-image-reads.Post κs a r′ s′ → (r ≡ r′) × (now (s .1 .1 .1 .0) ≡ now (s′ .1 .1 .1 .0))
+write-image-determined κs a r r′ s s′ p q = same-output writtenAt (written-back r) (written-back r′) p q
+
+pub read-image-determined :
+    (κs : Lfts 3) (a : K.Dens κs read-image-kinds.ps) (r r′ : K.resT read-image-kinds.r κs .Denot)
+    (s s′ : AtExit (K.endedOf 3 read-image-kinds.ps read-image-kinds.r) κs)
+    → read-image-reads.Post κs a r s → read-image-reads.Post κs a r′ s′ → (r ≡ r′) × (now (s .1 .0) ≡ now (s′ .1 .0)) × (now (s .1 .1 .0) ≡ now (s′ .1 .1 .0))
+read-image-determined κs a r r′ s s′ p q = same-effect builtAt (built-back _ r) (built-back _ r′) p q
+
 -- a fresh cursor's, a step's and a drain's
 abbrev startedAt : StartAnswer → Started
 startedAt x = cond (eqb (x .no) 0) (started.Done (x .cursor)) (started.Refused (refusalAt (x .no)))
@@ -269,6 +298,12 @@ pub find-all-determined :
 find-all-determined κs a r r′ s s′ p q = same-output lookedAt (looked-back r) (looked-back r′) p q
 
 -- the opened calls
+pub open-write-image-determined :
+    (κs : Lfts 3) (a : K.Dens κs open-write-image-kinds.ps) (r r′ : K.resT open-write-image-kinds.r κs .Denot)
+    (s s′ : AtExit (K.endedOf 3 open-write-image-kinds.ps open-write-image-kinds.r) κs)
+    → open-write-image-reads.Post κs a r s → open-write-image-reads.Post κs a r′ s′ → (r ≡ r′) × (now (s .1 .1 .1 .0) ≡ now (s′ .1 .1 .1 .0))
+open-write-image-determined κs a r r′ s s′ p q = same-output writtenAt (written-back r) (written-back r′) p q
+
 pub open-find-all-determined :
     (κs : Lfts 3) (a : K.Dens κs open-find-all-kinds.ps) (r r′ : K.resT open-find-all-kinds.r κs .Denot)
     (s s′ : AtExit (K.endedOf 3 open-find-all-kinds.ps open-find-all-kinds.r) κs)

@@ -80,10 +80,11 @@ module _ (words bytes : ℕ) (S : List ℕ) (t : Checked) (e : checkNumber t ≡
   pub built-bytes : length S / 3 ≤ bytes * 8
   built-bytes = omega (arith, built-room)
 
-pub done-build : (n r s v w : ℕ) (W C X D : List ℕ) → r ≡ s → v ≡ w → W ≡ X → C ≡ D
+-- what a build and a reading answer and leave
+pub done-build : (n i r s v w : ℕ) (W C X D : List ℕ) → n ≡ i → r ≡ s → v ≡ w → W ≡ X → C ≡ D
     → _≡_ {A = Effect BuildAnswer} (effect (record { no = 0; map = mapAt n r v }) W C)
-    (effect (record { no = 0; map = mapAt n s w }) X D)
-done-build n r s v w W C X D e h f g = λ i. effect (record { no = 0; map = mapAt n (e i) (h i) }) (f i) (g i)
+    (effect (record { no = 0; map = mapAt i s w }) X D)
+done-build n i r s v w W C X D d e h f g = λ k. effect (record { no = 0; map = mapAt (d k) (e k) (h k) }) (f k) (g k)
 
 -- a refusal by the number of the test that made it
 module _ (k : ℕ) (t : Checked) (z : Refusal) (e : checkNumber t ≡ k) (q : t ≡ Refused z) (W C : List ℕ) where

@@ -4,6 +4,7 @@ pub mod Builds
 pub mod Removals
 pub mod After
 pub mod Insertions
+pub mod Images
 pub mod Opened
 pub mod Sequence
 pub mod Versions
@@ -13,6 +14,7 @@ pub mod Ones
 pub mod Found
 pub mod Runs
 pub mod Refusals
+pub mod ImageRefusals
 pub mod AtOnces
 pub mod Raised
 pub mod Tickets
@@ -25,4 +27,5 @@ pub mod Below
 pub mod Laws
 pub mod Determined
 pub mod Demands
+pub mod Saves
 pub mod Fits

@@ -23,6 +23,7 @@ use Rattle.iset.specs.Lookup.{StartAnswer, refusedStart, StepAnswer, ref
 use Rattle.iset.specs.Tallies.{TallyAnswer, refusedTally}
 use Rattle.iset.specs.Plain.{plainNumber, openPlainCall, plainCall}
 use Rattle.iset.specs.Find.{openFindAllCall, findAllCall}
+use Rattle.iset.specs.Image.{WriteAnswer, refusedWrite, writeImageNumber, openWriteImageCall, writeImageCall}
 use Rattle.iset.specs.Ticket.{ReadAnswer, refusedReading, readNumber, openReadCall, readCall}
 use Rattle.iset.specs.declared.Map.{Map}
 use Rattle.iset.specs.declared.ticket.Ticket.{Ticket}
@@ -59,6 +60,10 @@ module _ (m : Map) (W C : List ℕ) (h : checkRule m W C ≡ 0) where
   pub read-is : (t : Ticket) → openReadCall m W C t ≡ readCall m W C t
   unfolding openReadCall readCall readNumber
   read-is t = rw h refl
+
+  pub write-image-is : (out : List ℕ) → openWriteImageCall m W C out ≡ writeImageCall m W C out
+  unfolding openWriteImageCall writeImageCall writeImageNumber
+  write-image-is out = rw h refl
 
   pub remove-is : (s : ℕ) → openRemoveCall m W C s ≡ removeCall m W C s
   unfolding openRemoveCall removeCall removeNumber
@@ -97,6 +102,9 @@ module _ (m : Map) (W C : List ℕ) (t : Checked) (e : checkNumber t ≡ checkRu
     pub read-through : (y : Ticket) (r : ReadAnswer) → r ≡ openReadCall m W C y → r ≡ readCall m W C y
     read-through y r p = p ∙ read-is m W C sound y
 
+    pub write-image-through : (out : List ℕ) (r : Output WriteAnswer) → r ≡ openWriteImageCall m W C out → r ≡ writeImageCall m W C out
+    write-image-through out r p = p ∙ write-image-is m W C sound out
+
     pub remove-through : (s : ℕ) (r : Effect RemoveAnswer) → r ≡ openRemoveCall m W C s → r ≡ removeCall m W C s
     remove-through s r p = p ∙ remove-is m W C sound s
 
@@ -127,6 +135,10 @@ module _ (m : Map) (W C : List ℕ) (t : Checked) (e : checkNumber t ≡ checkRu
     pub read-away : (y : Ticket) → refusedReading (refusalNumber z) ≡ readCall m W C y
     unfolding readCall readNumber
     read-away y = rw (broken, some z, some z)
+
+    pub write-image-away : (out : List ℕ) → output (refusedWrite (refusalNumber z)) out ≡ writeImageCall m W C out
+    unfolding writeImageCall writeImageNumber
+    write-image-away out = rw (broken, some z, some z)
 
     pub remove-away : (s : ℕ) → effect (refusedRemoval m (refusalNumber z)) W C ≡ removeCall m W C s
     unfolding removeCall removeNumber

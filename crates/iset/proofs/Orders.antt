@@ -19,6 +19,8 @@ use Rattle.iset.specs.Remove.{openRemoveNumber, removeNumber}
 use Rattle.iset.specs.Insert.{fullNumber, openInsertNumber, roomThenCheck, insertNumber}
 use Rattle.iset.specs.Lookup.{queryNumber, beginning, formNumber, openStartNumber, openStepNumber, openDrainNumber, startNumber, stepNumber, drainNumber}
 use Rattle.iset.specs.Plain.{openPlainNumber, plainNumber}
+use Rattle.image_rule.specs.Layout.{imageLength}
+use Rattle.iset.specs.Image.{openWriteImageNumber, writeImageNumber}
 use Rattle.iset.specs.Ticket.{ticketNumber, openReadNumber, readNumber}
 use Rattle.iset.specs.declared.Map.{Map}
 use Rattle.iset.specs.declared.ticket.Ticket.{Ticket}
@@ -43,6 +45,12 @@ module _ (m : Map) (W C : List ℕ) where
   pub read-order : (t : Ticket) → readNumber m W C t ≡ first (checkRule m W C) (ticketNumber m t)
   unfolding readNumber openReadNumber
   read-order t = passed-on (checkRule m W C) (countNumber m W C) (ticketNumber m t) (checked-count m W C)
+
+  -- the check, then an output with room for the image
+  pub write-image-order : (places : ℕ)
+      → writeImageNumber m W C places ≡ first (checkRule m W C) (cond (leb (imageLength (m .count)) places) 0 9)
+  unfolding writeImageNumber openWriteImageNumber
+  write-image-order places = passed-on (checkRule m W C) (countNumber m W C) (cond (leb (imageLength (m .count)) places) 0 9) (checked-count m W C)
 
   -- a full store, then the check, then the interval
   pub insert-order : (e : Entry)

@@ -31,19 +31,11 @@ use Rattle.iset.specs.declared.Map.{Map}
 use Rattle.iset.specs.declared.Checked.{Checked}
 use Rattle.iset.specs.declared.Checked.the-variants.{Sound}
 use Rattle.iset.proofs.AtOnces.{counted, first-places, found-at-once}
-use Rattle.iset.proofs.Checks.{both-zero, count-zero}
+use Rattle.iset.proofs.Checks.{both-zero, places-held, count-zero}
 use Rattle.iset.proofs.Found.{few}
 use Rattle.iset.proofs.Lookups.{open-start-accepts}
 use Rattle.iset.proofs.Orders.{plain-order}
 use Rattle.iset.proofs.Runs.{range-started, interval-started, overlap-runs, exact-runs}
-
--- an output with a place for every entry
-places-held : (n places : ℕ) → _≡_ {A = ℕ} (cond (leb n places) 0 9) 0 → n ≤ places
-places-held n places e = go (leb n places) refl e
-  where
-    go : (b : Bool) → leb n places ≡ b → _≡_ {A = ℕ} (cond b 0 9) 0 → n ≤ places
-    go true f y = leb-true n places f
-    go false f y = absurd (omega arith)
 
 -- what the tests of an opened lookup leave: slices with places
 module _ (m : Map) (W C : List ℕ) (q : Query) (places : ℕ) (t : Checked) (e : checkNumber t ≡ openPlainNumber m W C q places) (s : t ≡ Sound) where

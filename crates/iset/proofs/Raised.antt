@@ -11,9 +11,11 @@ use Rattle.iset.specs.Maps.{raised}
 use Rattle.iset.specs.Build.{buildNumber, BuildAnswer, refusedBuild, buildList, buildCall}
 use Rattle.iset.specs.Remove.{removeNumber, RemoveAnswer, refusedRemoval, removeSlot, removeCall}
 use Rattle.iset.specs.Insert.{insertNumber, InsertAnswer, refusedInsertion, insertEntry, insertCall}
+use Rattle.iset.specs.Image.{readImageNumber, readStore, readImageCall}
 use Rattle.iset.specs.Versions.{versionAfter}
 use Rattle.iset.specs.declared.Map.{Map}
 use Rattle.iset.proofs.Refusals.{build-no, remove-no, insert-no}
+use Rattle.iset.proofs.ImageRefusals.{read-image-no}
 
 -- by the number k of the call
 by-number : {A : Type 0} (version : A → ℕ) (v k : ℕ) (x y : A) → version x ≡ raised v → version y ≡ v
@@ -48,3 +50,11 @@ module _ (m : Map) (W C : List ℕ) where
       rw (insert-no m W C e)
       (by-number (λ (c : Effect InsertAnswer). c .answer .map .version) (m .version) (insertNumber m W C e) (insertEntry m W C e)
       (effect (refusedInsertion m (insertNumber m W C e)) W C) refl refl)
+
+  pub read-image-version : (I : List ℕ)
+      → readImageCall m W C I .answer .map .version ≡ versionAfter m (readImageCall m W C I .answer .no)
+  unfolding readImageCall
+  read-image-version I =
+      rw (read-image-no m W C I)
+      (by-number (λ (c : Effect BuildAnswer). c .answer .map .version) (m .version) (readImageNumber (length W) (length C) I) (readStore m W C I)
+      (effect (refusedBuild m (readImageNumber (length W) (length C) I)) W C) refl refl)

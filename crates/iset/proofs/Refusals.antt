@@ -83,7 +83,7 @@ use Rattle.iset.proofs.Found.{tree-of, few}
 use Rattle.iset.proofs.Orders.{remove-order, read-order, insert-order, start-order, step-order, drain-order, plain-order}
 
 -- Tables. One after another:
-abbrev followed : Rows → Rows → Rows
+abbrev pub followed : Rows → Rows → Rows
 followed accept T = T
 followed (refuse a P R) T = refuse a P (followed R T)
 
@@ -92,7 +92,7 @@ abbrev pub Lacks : ℕ → Rows → Type 0
 Lacks a accept = a ≡ 0 → ⊥
 Lacks a (refuse b P R) = (a ≡ b → ⊥) × Lacks a R
 
-abbrev Apart : Rows → Rows → Type 0
+abbrev pub Apart : Rows → Rows → Type 0
 Apart accept T = Unit {0}
 Apart (refuse a P R) T = Lacks a T × (a ≡ 0 → ⊥) × Apart R T
 
@@ -101,7 +101,7 @@ never a accept k l e i = l (sym i ∙ e)
 never a (refuse b P R) k l e i = never a R k (l .1) (e .1 (λ p. l .0 (sym i ∙ e .0 .1 p))) i
 
 -- a call that tests by the one table and, where that refuses nothing, by the other
-first-then : (R T : Rows) (a b : ℕ) → Apart R T → Exactly R a → (a ≡ 0 → Exactly T b) → Exactly (followed R T) (cond (eqb a 0) b a)
+pub first-then : (R T : Rows) (a b : ℕ) → Apart R T → Exactly R a → (a ≡ 0 → Exactly T b) → Exactly (followed R T) (cond (eqb a 0) b a)
 first-then accept T a b d e f = rw (eq-eqb a 0 e) (f e)
 first-then (refuse c P R) T a b d e f = (
   (λ j. go a refl j, λ p. let i : a ≡ c = e .0 .1 p in rw (ne-eqb a 0 (λ z. d .1 (sym i ∙ z))) i),
@@ -124,11 +124,11 @@ failed-row a P R k false l f g h = ((λ i. absurd (never a R k l (h refl) i), λ
 failed-row a P R k true l f g h = ((λ i. f refl, λ p. refl), λ z. absurd (z (f refl)))
 
 -- an answer by the number k has that number, and a refused one is the refusal's
-number-is : {A : Type 0} (f : A → ℕ) (k : ℕ) (x y : A) → f x ≡ 0 → f y ≡ k → f (cond (eqb k 0) x y) ≡ k
+pub number-is : {A : Type 0} (f : A → ℕ) (k : ℕ) (x y : A) → f x ≡ 0 → f y ≡ k → f (cond (eqb k 0) x y) ≡ k
 number-is f zero x y p q = p
 number-is f (suc k) x y p q = rw (ne-eqb (suc k) 0 (λ z. omega arith)) q
 
-kept : {A : Type 0} (k : ℕ) (x y : A) → (k ≡ 0 → ⊥) → cond (eqb k 0) x y ≡ y
+pub kept : {A : Type 0} (k : ℕ) (x y : A) → (k ≡ 0 → ⊥) → cond (eqb k 0) x y ≡ y
 kept k x y d = rw (ne-eqb k 0 d)
 
 -- The check.
@@ -504,10 +504,10 @@ module _ (m : Map) (W C : List ℕ) where
 
 -- Said of the code: whatever answer r and whatever slices at exit s a call's promise allows from
 -- its arguments a, a refusal leaves what was lent.
-refused-number : (k : ℕ) (y : Refusal) → refusalNumber y ≡ k → k ≡ 0 → ⊥
+pub refused-number : (k : ℕ) (y : Refusal) → refusalNumber y ≡ k → k ≡ 0 → ⊥
 refused-number k y e z = omega (arith, number-pos y)
 
-store-left : {A : Type 0} (x y : Effect A) → x ≡ y → (x .words ≡ y .words) × (x .colours ≡ y .colours)
+pub store-left : {A : Type 0} (x y : Effect A) → x ≡ y → (x .words ≡ y .words) × (x .colours ≡ y .colours)
 store-left {A = A} x y e = (ap (λ (c : Effect A). c .words) e, ap (λ (c : Effect A). c .colours) e)
 
 pub build-code : (κs : Lfts 3) (a : K.Dens κs build-kinds.ps) (r : K.resT build-kinds.r κs .Denot) (s : AtExit (K.endedOf 3 build-kinds.ps build-kinds.r) κs)

@@ -1,5 +1,6 @@
--- "The store after every build and removal passes the check", and after every insertion: a build
--- with any number of changes after it, and any public calls one after the other.
+-- "The store after every build and removal passes the check", and after every insertion and
+-- every reading of an image: a build with any number of changes after it, and any public calls one
+-- after the other.
 use mathlib.Core.Path.{_≡_, refl, ap}
 use mathlib.Core.Bool.{cond}
 use mathlib.Core.List.{List, [], _∷_}
@@ -22,17 +23,22 @@ use Rattle.tree_in_rule.specs.Insert.{insertRule}
 use Rattle.tree_changes.specs.Sequence.{Change, run, total, TakesAll}
 use Rattle.tree_in_rule.proofs.Inside.{inserted-inside}
 use Rattle.tree_changes.proofs.Sequence.{ran}
+use Rattle.image_rule.specs.Layout.{countIn, rootIn}
+use Rattle.image_rule.specs.Stored.{loadedWords, loadedColours}
+use Rattle.image_rule.proofs.Stores.{length-loadedWords, length-loadedColours}
 use Rattle.iset.specs.Effects.{effect}
 use Rattle.iset.specs.Effects as calls
 use Rattle.iset.specs.Check.{checkRule}
 use Rattle.iset.specs.Build.{buildNumber, BuildAnswer, refusedBuild, buildList, buildCall}
 use Rattle.iset.specs.Remove.{removeNumber, RemoveAnswer, refusedRemoval, removeSlot, removeCall}
 use Rattle.iset.specs.Insert.{insertNumber, InsertAnswer, refusedInsertion, insertEntry, insertCall}
+use Rattle.iset.specs.Image.{readImageNumber, readStore, readImageCall}
 use Rattle.iset.specs.Maps.{mapAt, emptyMap, nextMap}
-use Rattle.iset.specs.Sequence.{Call, build, remove, insert, State, left, removed, inserted, answered, allAnswered, openAnswered, allOpenAnswered}
+use Rattle.iset.specs.Sequence.{Call, build, remove, insert, read, State, left, removed, inserted, answered, allAnswered, openAnswered, allOpenAnswered}
 use Rattle.iset.specs.declared.Map.{Map}
 use Rattle.iset.proofs.Builds.{Accepted, accepted, builds}
 use Rattle.iset.proofs.Checks.{check-zero, zero-check}
+use Rattle.iset.proofs.Images as images
 use Rattle.iset.proofs.Insertions as insertions
 use Rattle.iset.proofs.Opened.{remove-is, insert-is}
 use Rattle.iset.proofs.Removals as removals
@@ -96,6 +102,15 @@ module _ (m : Map) (W C : List ℕ) where
       (rw (b .words-length, b .bits-length) (a .room-for)) (b .passes))
       (none-passes (m .version) W C)
 
+  read-sound : (I : List ℕ) → Sound (answered S (read I))
+  unfolding readImageCall
+  read-sound I =
+      by-number (λ (a : BuildAnswer). a .map) (readImageNumber (length W) (length C) I) (readStore m W C I)
+      (effect (refusedBuild m (readImageNumber (length W) (length C) I)) W C)
+      (λ e. zero-check (nextMap m (countIn I) (rootIn I)) (loadedWords I (countIn I) (rootIn I) W) (loadedColours I (countIn I) C)
+      (rw (length-loadedWords I (countIn I) (rootIn I) W, length-loadedColours I (countIn I) C) (images.accepts W C I e .1)) (images.read-sound W C I e))
+      (none-passes (m .version) W C)
+
   module _ (h : Sound S) where
     fits : m .count ≤ capacity (length W) (length C)
     fits = check-zero m W C h .0
@@ -124,6 +139,7 @@ module _ (m : Map) (W C : List ℕ) where
     answered-sound (build l) = build-sound l
     answered-sound (remove s) = remove-sound s
     answered-sound (insert e) = insert-sound e
+    answered-sound (read I) = read-sound I
 
 -- and so do any calls one after the other, refused ones among them
 pub calls-sound : (l : List Call) (S : State) → Sound S → Sound (allAnswered S l)
@@ -135,6 +151,7 @@ calls-sound (x ∷ l) S h = calls-sound l (answered S x) (answered-sound (S .map
 -- answer.
 opened-call : (S : State) → Sound S → (x : Call) → openAnswered S x ≡ answered S x
 opened-call S h (build l) = refl
+opened-call S h (read I) = refl
 opened-call S h (remove s) = ap removed (remove-is (S .map) (S .words) (S .colours) h s)
 opened-call S h (insert e) = ap inserted (insert-is (S .map) (S .words) (S .colours) h e)
 

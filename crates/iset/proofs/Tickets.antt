@@ -13,14 +13,15 @@ use Rattle.iset.specs.Maps.{raised}
 use Rattle.iset.specs.Build.{BuildAnswer}
 use Rattle.iset.specs.Remove.{RemoveAnswer}
 use Rattle.iset.specs.Insert.{InsertAnswer}
-use Rattle.iset.specs.Sequence.{Call, build, remove, insert, State, answered, allAnswered, refusalOf, made}
+use Rattle.iset.specs.Sequence.{Call, build, remove, insert, read, State, answered, allAnswered, refusalOf, made}
 use Rattle.iset.specs.Ticket.{ticketOf, age, readNumber, readDone, readCall}
 use Rattle.iset.specs.Versions.{versionAfter, readIn}
 use Rattle.iset.specs.declared.ticket.Ticket.{Ticket}
 use Rattle.iset.proofs.Readings as readings
 use Rattle.iset.proofs.Refusals.{build-leaves, remove-leaves, insert-leaves, read-no}
 use Rattle.iset.proofs.Sequence.{Sound, calls-sound}
-use Rattle.iset.proofs.Raised.{build-version, remove-version, insert-version}
+use Rattle.iset.proofs.ImageRefusals.{read-image-leaves}
+use Rattle.iset.proofs.Raised.{build-version, remove-version, insert-version, read-image-version}
 use Rattle.iset.proofs.Versions.{raise-one, raise-none, raised-below, age-is}
 
 -- One call raises the version if it was accepted, and leaves it if it was refused.
@@ -28,6 +29,7 @@ call-version : (S : State) (x : Call) → answered S x .map .version ≡ version
 call-version S (build l) = build-version (S .map) (S .words) (S .colours) l
 call-version S (remove s) = remove-version (S .map) (S .words) (S .colours) s
 call-version S (insert e) = insert-version (S .map) (S .words) (S .colours) e
+call-version S (read I) = read-image-version (S .map) (S .words) (S .colours) I
 
 -- and any number of calls: the version counts those that were accepted, modulo 2^32
 pub version-run : (l : List Call) (S : State) → S .map .version < 4294967296
@@ -82,6 +84,7 @@ refused-words : (S : State) (x : Call) → (refusalOf S x ≡ 0 → ⊥) → ans
 refused-words S (build l) d = ap (λ (c : Effect BuildAnswer). c .words) (build-leaves (S .map) (S .words) (S .colours) l d)
 refused-words S (remove s) d = ap (λ (c : Effect RemoveAnswer). c .words) (remove-leaves (S .map) (S .words) (S .colours) s d)
 refused-words S (insert e) d = ap (λ (c : Effect InsertAnswer). c .words) (insert-leaves (S .map) (S .words) (S .colours) e d)
+refused-words S (read I) d = ap (λ (c : Effect BuildAnswer). c .words) (read-image-leaves (S .map) (S .words) (S .colours) I d)
 
 unmade-words : (l : List Call) (S : State) → made S l ≡ 0 → allAnswered S l .words ≡ S .words
 unmade-words [] S z = refl

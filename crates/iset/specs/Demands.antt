@@ -3,7 +3,8 @@
 -- leave on every input, so a statement about the rules is one about the calls. `proofs/Demands`
 -- proves them.
 -- Letters: m map, W words, C colours, r root, S triples, a slot, t ticket, s slot, e entry,
---   x interval, q query or range, c cursor, P proof that the store passes, l calls
+--   x interval, q query or range, c cursor, P proof that the store passes, l calls, I image (its
+--   bytes)
 use mathlib.Core.Path.{_≡_}
 use mathlib.Core.Logic.{_≢_}
 use mathlib.Core.List.{List}
@@ -32,11 +33,12 @@ use Rattle.iset.specs.Build.{refusedBuild, buildCall}
 use Rattle.iset.specs.Remove.{RemoveAnswer, refusedRemoval, removeCall}
 use Rattle.iset.specs.Insert.{InsertAnswer, refusedInsertion, insertCall}
 use Rattle.iset.specs.Ticket.{refusedReading, readCall}
+use Rattle.iset.specs.Image.{refusedWrite, writeImageCall, readImageCall}
 use Rattle.iset.specs.Lookup.{refusedStart, startCall, refusedStep, stepCall, refusedDrain, drainCall}
 use Rattle.iset.specs.Tallies.{refusedTally}
 use Rattle.iset.specs.Plain.{plainCall}
 use Rattle.iset.specs.Find.{findAllCall}
-use Rattle.iset.specs.Refusals.{BadRange, BadInterval, Exactly, checkRows, buildRows, removeRows, insertRows, readRows, startRows, stepRows, drainRows, plainRows, findAllRows}
+use Rattle.iset.specs.Refusals.{BadRange, BadInterval, Exactly, checkRows, buildRows, removeRows, insertRows, readRows, startRows, stepRows, drainRows, plainRows, findAllRows, writeImageRows, readImageRows}
 use Rattle.iset.specs.Runs.{Ask, OverlapRun, ExactRun}
 use Rattle.iset.specs.declared.Map.{Map}
 use Rattle.iset.specs.declared.ticket.Ticket.{Ticket}
@@ -56,6 +58,8 @@ pub record Demand1 (m : Map) (W C : List ℕ) : Type 0 where
   pub drain : (q : Query) (c : Cursor) (limit : ℕ) (out : List ℕ) → Exactly (drainRows m W C q c limit (length out)) (drainCall m W C q c limit out .answer .no)
   pub plain : (q : Query) (out : List ℕ) → Exactly (plainRows m W C q (length out)) (plainCall m W C q out .answer .no)
   pub find-all : (q : Query) (out : List ℕ) → Exactly (findAllRows m W C q) (findAllCall m W C q out .answer .no)
+  pub write-image : (out : List ℕ) → Exactly (writeImageRows m W C (length out)) (writeImageCall m W C out .answer .no)
+  pub read-image : (I : List ℕ) → Exactly (readImageRows W C I) (readImageCall m W C I .answer .no)
   -- a refused call answers its number with the map or the cursor as given ("a refused build: count
   -- 0, root U", with the version as given), and leaves what was lent
   pub build-leaves : (S : List ℕ) → (buildCall m W C S .answer .no ≡ 0 → ⊥) → buildCall m W C S ≡ effect (refusedBuild m (buildCall m W C S .answer .no)) W C
@@ -72,6 +76,10 @@ pub record Demand1 (m : Map) (W C : List ℕ) : Type 0 where
       → plainCall m W C q out ≡ output (refusedTally (plainCall m W C q out .answer .no)) out
   pub find-all-leaves : (q : Query) (out : List ℕ) → (findAllCall m W C q out .answer .no ≡ 0 → ⊥)
       → findAllCall m W C q out ≡ output (refusedTally (findAllCall m W C q out .answer .no)) out
+  pub write-image-leaves : (out : List ℕ) → (writeImageCall m W C out .answer .no ≡ 0 → ⊥)
+      → writeImageCall m W C out ≡ output (refusedWrite (writeImageCall m W C out .answer .no)) out
+  pub read-image-leaves : (I : List ℕ) → (readImageCall m W C I .answer .no ≡ 0 → ⊥)
+      → readImageCall m W C I ≡ effect (refusedBuild m (readImageCall m W C I .answer .no)) W C
 
 -- What `Map::remove` answers and leaves, in the form of the rule of removal; what `Map::insert`
 -- leaves, in that of insertion.

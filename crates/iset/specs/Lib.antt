@@ -4,6 +4,7 @@ pub mod Check
 pub mod Build
 pub mod Remove
 pub mod Insert
+pub mod Image
 pub mod Ticket
 pub mod Sequence
 pub mod Lookup
@@ -16,6 +17,7 @@ pub mod PlainRuns
 pub mod FindRuns
 pub mod Refusals
 pub mod Versions
+pub mod Saved
 pub mod Below
 pub mod Demands
 pub mod Fits

@@ -1,10 +1,12 @@
--- Document 01's table of refusals, document 02's items 1, 4 and 5, and the fast lookup: for each
+-- Document 01's table of refusals, document 02's items 1, 4, 5 and 6, and the fast lookup: for each
 -- public call its rows, a refusal's number and when it is given, in the order in which the first is
 -- given.
 -- Letters: m map, W words, C colours, k number that is answered or limit, P condition or proof that
 --   the store passes, a lower number, b higher number, y high bound, s slot or stack, i place of a
---   bit, h highest equal node, S triples, e entry, x interval, q range, c cursor, t ticket
+--   bit, h highest equal node, S triples, e entry, x interval, q range, c cursor, t ticket, I image
+--   (its bytes)
 use mathlib.Core.Path.{_≡_}
+use mathlib.Core.Bool.{true}
 use mathlib.Core.Logic.{_↔_, _⊎_}
 use mathlib.Core.List.{List}
 use Prim.Native.Nat.{ℕ, zero, suc, _/_, _%_, _<_, _≤_}
@@ -25,6 +27,8 @@ use Rattle.iter.specs.declared.rules.Query.{Query}
 use Rattle.iter.specs.declared.rules.Query.the-variants.{Overlap, Exact}
 use Rattle.iter_laws.specs.Place.{Held}
 use Rattle.iter_laws.specs.Highest.{Highest}
+use Rattle.image_rule.specs.Layout.{imageLength, countIn, rootIn, laidOut}
+use Rattle.image_rule.specs.Stored.{loadedWords, loadedColours}
 use Rattle.iset.specs.Lookup.{beginning}
 use Rattle.iset.specs.Ticket.{age}
 use Rattle.iset.specs.declared.Map.{Map}
@@ -149,6 +153,23 @@ plainRows m W C (Exact x) places =
 abbrev pub findAllRows : (map : Map) (words colours : List ℕ) (query : Query) → Rows
 findAllRows m W C (Overlap q) = refuse 1 (NoRoom m W C) (refuse 2 (Broken m W C) (refuse 4 (BadRange (q .lo) (q .hi)) accept))
 findAllRows m W C (Exact x) = startRows m W C x
+
+-- document 02, item 6: writing an image, "1, 2, then 9 for a short output"
+abbrev pub writeImageRows : (map : Map) (words colours : List ℕ) (places : ℕ) → Rows
+writeImageRows m W C places =
+    refuse 1 (NoRoom m W C) (refuse 2 (Broken m W C) (refuse 9 (places < imageLength (m .count)) accept))
+
+-- the store in the image I, read into the words W and the colours C with the hulls worked out, does
+-- not pass
+abbrev pub NotLoaded : (words colours image : List ℕ) → Type 0
+NotLoaded W C I =
+    Passes (loadedWords I (countIn I) (rootIn I) W) (loadedColours I (countIn I) C) (countIn I) (rootIn I) → ⊥
+
+-- reading one: "12 BadImage for any other layout or length, then 1 for the target, then 2 for the
+-- store in the image, judged with hulls worked out"
+abbrev pub readImageRows : (words colours image : List ℕ) → Rows
+readImageRows W C I =
+    refuse 12 (laidOut I ≡ true → ⊥) (refuse 1 (capacity (length W) (length C) < countIn I) (refuse 2 (NotLoaded W C I) accept))
 
 -- 10, BadBit, one by one. "length (or `from_elem` length) above bytes × 8"
 abbrev pub TooLong : (bytes : List ℕ) (len : ℕ) → Type 0

@@ -1,5 +1,6 @@
 -- Public calls one after the other, each on the map that the last one answered.
--- Letters: S state, x call, l triples or calls, s slot, e entry, c effect, a answer
+-- Letters: S state, x call, l triples or calls, s slot, e entry, c effect, a answer, I image (its
+--   bytes)
 use mathlib.Core.Bool.{cond}
 use mathlib.Core.List.{List, [], _∷_}
 use Prim.Native.Nat.{ℕ, _+_}
@@ -9,13 +10,15 @@ use Rattle.iset.specs.Effects.{Effect}
 use Rattle.iset.specs.Build.{BuildAnswer, buildCall}
 use Rattle.iset.specs.Remove.{RemoveAnswer, openRemoveCall, removeCall}
 use Rattle.iset.specs.Insert.{InsertAnswer, openInsertCall, insertCall}
+use Rattle.iset.specs.Image.{readImageCall}
 use Rattle.iset.specs.declared.Map.{Map}
 
--- the calls that write: of any list, any slot, any entry
+-- the calls that write the store: of any list, any slot, any entry, any image
 pub data Call : Type 0 where
   build : (triples : List ℕ) → Call
   remove : (slot : ℕ) → Call
   insert : (entry : Entry) → Call
+  read : (image : List ℕ) → Call
 
 -- a map with the words and the colours that it stands in
 pub record State : Type 0 where
@@ -41,6 +44,7 @@ abbrev pub answered : (state : State) (call : Call) → State
 answered S (build l) = built (buildCall (S .map) (S .words) (S .colours) l)
 answered S (remove s) = removed (removeCall (S .map) (S .words) (S .colours) s)
 answered S (insert e) = inserted (insertCall (S .map) (S .words) (S .colours) e)
+answered S (read I) = built (readImageCall (S .map) (S .words) (S .colours) I)
 
 abbrev pub allAnswered : (state : State) (calls : List Call) → State
 allAnswered S [] = S
@@ -51,17 +55,19 @@ abbrev pub refusalOf : (state : State) (call : Call) → ℕ
 refusalOf S (build l) = buildCall (S .map) (S .words) (S .colours) l .answer .no
 refusalOf S (remove s) = removeCall (S .map) (S .words) (S .colours) s .answer .no
 refusalOf S (insert e) = insertCall (S .map) (S .words) (S .colours) e .answer .no
+refusalOf S (read I) = readImageCall (S .map) (S .words) (S .colours) I .answer .no
 
 -- how many of the calls changed the map: those that were not refused
 abbrev pub made : (state : State) (calls : List Call) → ℕ
 made S [] = 0
 made S (x ∷ l) = cond (eqb (refusalOf S x) 0) 1 0 + made (answered S x) l
 
--- the same by the opened calls, which do not run the check; a build has none
+-- the same by the opened calls, which do not run the check; a build and a reading have none
 abbrev pub openAnswered : (state : State) (call : Call) → State
 openAnswered S (build l) = answered S (build l)
 openAnswered S (remove s) = removed (openRemoveCall (S .map) (S .words) (S .colours) s)
 openAnswered S (insert e) = inserted (openInsertCall (S .map) (S .words) (S .colours) e)
+openAnswered S (read I) = answered S (read I)
 
 abbrev pub allOpenAnswered : (state : State) (calls : List Call) → State
 allOpenAnswered S [] = S

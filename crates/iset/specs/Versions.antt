@@ -1,7 +1,7 @@
 -- Document 02, item 4, as one statement about what the public calls answer and leave: the version
 -- and the tickets. `proofs/Rounds` proves it.
 -- Letters: m map, S state, t ticket, l triples or calls, B state before the builds, s slot,
---   e entry, k number of a refusal
+--   e entry, k number of a refusal, I image (its bytes)
 use mathlib.Core.Path.{_≡_}
 use mathlib.Core.Bool.{cond}
 use mathlib.Core.List.{List}
@@ -14,6 +14,7 @@ use Rattle.iset.specs.Maps.{raised}
 use Rattle.iset.specs.Build.{buildCall}
 use Rattle.iset.specs.Remove.{removeCall}
 use Rattle.iset.specs.Insert.{insertCall}
+use Rattle.iset.specs.Image.{readImageCall}
 use Rattle.iset.specs.Refusals.{Exactly, readRows}
 use Rattle.iset.specs.Sequence.{Call, State, allAnswered, made}
 use Rattle.iset.specs.Ticket.{ticketOf, ReadAnswer, refusedReading, readCall}
@@ -31,10 +32,12 @@ readIn S t = readCall (S .map) (S .words) (S .colours) t
 -- S is any state with a 32-bit version; a ticket of it is read after the calls l, which were made
 -- one after the other, each on what the one before it answered and left
 pub record Request4 (S : State) : Type 0 where
-  -- "goes up by one at each build, removal and insertion .. a refusal leaves the version"
+  -- "goes up by one at each build, removal and insertion .. a refusal leaves the version"; and item
+  -- 6: a reading "raises it by one, as a build does"
   pub build-raises : (l : List ℕ) → let c = buildCall (S .map) (S .words) (S .colours) l in c .answer .map .version ≡ versionAfter (S .map) (c .answer .no)
   pub remove-raises : (s : ℕ) → let c = removeCall (S .map) (S .words) (S .colours) s in c .answer .map .version ≡ versionAfter (S .map) (c .answer .no)
   pub insert-raises : (e : Entry) → let c = insertCall (S .map) (S .words) (S .colours) e in c .answer .map .version ≡ versionAfter (S .map) (c .answer .no)
+  pub read-image-raises : (I : List ℕ) → let c = readImageCall (S .map) (S .words) (S .colours) I in c .answer .map .version ≡ versionAfter (S .map) (c .answer .no)
   pub version-run : (l : List Call) → allAnswered S l .map .version ≡ (S .map .version + made S l) % 4294967296
   -- "reading through it answers the entry or refuses .. 11 Stale, after 2 and before 3"
   pub refusals : (t : Ticket) → Exactly (readRows (S .map) (S .words) (S .colours) t) (readIn S t .no)

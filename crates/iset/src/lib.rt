@@ -12,6 +12,7 @@ pub mod find;
 pub mod insert;
 pub mod lookup;
 pub mod remove;
+pub mod save;
 pub mod scan;
 pub mod ticket;
 

@@ -6,7 +6,7 @@ use native.Mathlib.Omega.{arith}
 use lib.Dec.{eqb}
 use Rattle.words.specs.Refusals.{refusalNumber}
 use Rattle.words.specs.declared.refusal.Refusal.{Refusal}
-use Rattle.words.specs.declared.refusal.Refusal.the-variants.{NoRoom, Broken, NoSuch, BadRange, BadInterval, NotSorted, BadCursor, BadList, ShortOutput, BadBit, Stale}
+use Rattle.words.specs.declared.refusal.Refusal.the-variants.{NoRoom, Broken, NoSuch, BadRange, BadInterval, NotSorted, BadCursor, BadList, ShortOutput, BadBit, Stale, BadImage}
 
 -- the refusal of a number, one test after the other
 abbrev pub refusalAt : ℕ → Refusal
@@ -21,7 +21,8 @@ refusalAt k =
     cond (eqb k 9) ShortOutput (
     cond (eqb k 10) BadBit (
     cond (eqb k 11) Stale (
-    NoRoom))))))))))
+    cond (eqb k 12) BadImage (
+    NoRoom)))))))))))
 
 pub at-number : (y : Refusal) → refusalAt (refusalNumber y) ≡ y
 at-number NoRoom = refl
@@ -35,6 +36,7 @@ at-number BadList = refl
 at-number ShortOutput = refl
 at-number BadBit = refl
 at-number Stale = refl
+at-number BadImage = refl
 
 pub number-pos : (y : Refusal) → 0 < refusalNumber y
 number-pos NoRoom = omega arith
@@ -48,3 +50,4 @@ number-pos BadList = omega arith
 number-pos ShortOutput = omega arith
 number-pos BadBit = omega arith
 number-pos Stale = omega arith
+number-pos BadImage = omega arith

@@ -15,10 +15,11 @@ pub enum Refusal {
     ShortOutput,
     BadBit,
     Stale,
+    BadImage,
 }
 
 impl Refusal {
-    // Returns the refusal's number, from 1 to 11. The number 0 means: not refused.
+    // Returns the refusal's number, from 1 to 12. The number 0 means: not refused.
     pub fn number(self) -> u64
         ensures { λ r. ⌜ r ≡ refusalNumber self ⌝ }
     {
@@ -34,6 +35,7 @@ impl Refusal {
             Refusal::ShortOutput => 9,
             Refusal::BadBit => 10,
             Refusal::Stale => 11,
+            Refusal::BadImage => 12,
         }
     }
 }
