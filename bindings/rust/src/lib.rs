@@ -90,7 +90,7 @@ pub fn capacity(nodes: usize, colours: usize) -> usize {
 /// assert_eq!(iset_proved::image_len(5), 225);
 /// ```
 pub const fn image_len(entries: usize) -> usize {
-    44 + entries * 36 + (entries + 7) / 8
+    44 + entries * 36 + entries / 8 + (entries % 8 != 0) as usize
 }
 
 /// Threads may share and pass on all of it.
