@@ -88,6 +88,7 @@ struct Seen {
 
 impl Seen {
     /// A node with its two subtrees; None where they do not fit.
+    #[inline(always)]
     fn with(self, left: Option<Seen>, right: Option<Seen>) -> Option<Seen> {
         let (mut seen, own, red) = (self, self.first, self.red);
         let mut blacks = [0; 2];
