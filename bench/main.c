@@ -3,9 +3,10 @@
    library's over the other's, is taken. Printed are the median, the least and the greatest ratio,
    and how this library's time for one entry or one lookup grows from the least size on. The answers
    of both sides are compared. This library's calls are the exports. These are the opened calls,
-   from C and through the Rust type `Store`, and of the public calls the check, the build and, if
-   the case says so, the point lookups, each of which checks the whole store. If a case says
-   `against` another call of this library, both sides are this library's. */
+   from C and through the Rust type `Store`, and of the public calls the check, the build, the
+   writing and reading of an image and, if the case says so, the point lookups, each of which checks
+   the whole store. If a case says `against` another call of this library, both sides are this
+   library's. */
 #include <stdbool.h>
 #include <stdint.h>
 #include <stdio.h>
@@ -28,6 +29,8 @@ uint64_t rust_point(const map *m, uint64_t p);
 uint64_t rust_window(const map *m, uint64_t start, uint64_t end);
 uint64_t rust_exact(const map *m, uint64_t start, uint64_t end);
 bool rust_check(const uint64_t *w, size_t wn, const uint8_t *b, size_t bn, uint64_t count, uint64_t root);
+size_t rust_write_image(const uint64_t *w, size_t wn, const uint8_t *b, size_t bn, uint64_t count, uint64_t root, uint8_t *image, size_t room);
+uint64_t rust_read_image(uint64_t *w, size_t wn, uint8_t *b, size_t bn, const uint8_t *image, size_t size);
 
 typedef struct store store;
 store *store_open(uint64_t count, uint64_t root, uint64_t *w, size_t wn, uint8_t *b, size_t bn);
@@ -346,6 +349,27 @@ static uint64_t exact_by_store(void) {
 static uint64_t check_theirs(void) { return rust_check(words, 8 * n, bytes, colour_bytes, n, root); }
 static uint64_t check_ours(void) { return iset_check(n, root, words, 8 * n, bytes, colour_bytes) == ISET_OK; }
 
+/* The map saved as an image and loaded back, each side into memory of its own. */
+static uint8_t image[ISET_IMAGE_LEN(MOST)], other_image[ISET_IMAGE_LEN(MOST)];
+static uint64_t write_theirs(void) { return rust_write_image(words, 8 * n, bytes, colour_bytes, n, root, other_image, ISET_IMAGE_LEN(n)); }
+static uint64_t write_ours(void) {
+    uint64_t answer[ISET_WRITE_IMAGE_ANSWER] = {0};
+    iset_write_image(n, root, words, 8 * n, bytes, colour_bytes, image, ISET_IMAGE_LEN(n), answer, ISET_WRITE_IMAGE_ANSWER);
+    return answer[ISET_WRITTEN_LENGTH];
+}
+static void after_write(void) { same(memcmp(image, other_image, ISET_IMAGE_LEN(n)) != 0, 0, "the images"); }
+
+static uint64_t read_theirs(void) { return rust_read_image(held, 8 * n, held_bytes, colour_bytes, other_image, ISET_IMAGE_LEN(n)); }
+static uint64_t read_ours(void) {
+    uint64_t answer[ISET_READ_IMAGE_ANSWER] = {0};
+    iset_read_image(0, spare, 8 * n, spare_bytes, colour_bytes, image, ISET_IMAGE_LEN(n), answer, ISET_READ_IMAGE_ANSWER);
+    return answer[ISET_LOADED_ROOT];
+}
+static void after_read(void) {
+    same(memcmp(held, words, 64 * n) != 0, 0, "the map that was read, the other side");
+    same(memcmp(spare, words, 64 * n) != 0, 0, "the map that was read");
+}
+
 /* The words are the same. The crate's colours differ at 65,535 entries, see docs/DIFFERENCES.md. */
 static map *built;
 static uint64_t built_root;
@@ -423,7 +447,9 @@ int main(int words_given, char **given) {
         point_rust = {"point lookups, Store", before_store_points, points_theirs, points_by_store, close_store, 0},
         exact_rust = {"exact lookups, 16 equals each, Store", open_store, exact_theirs, exact_by_store, close_store, 0},
         check = {"check, against a plain Rust check", nothing, check_theirs, check_ours, nothing, 0},
-        build = {"build, against from_sorted", nothing, build_theirs, build_ours, after_build, 0};
+        build = {"build, against from_sorted", nothing, build_theirs, build_ours, after_build, 0},
+        write = {"write an image, against a plain Rust writer", nothing, write_theirs, write_ours, after_write, 0},
+        read = {"read an image, against a plain Rust reader", nothing, read_theirs, read_ours, after_read, 0};
     static const size_t sizes[] = {1000, 16000, 65535};
     for (int k = 0; k < 3; k++) {
         start(sizes[k], 1);
@@ -447,6 +473,8 @@ int main(int words_given, char **given) {
             measure(&public, publics);
         measure(&check, n);
         measure(&build, n);
+        measure(&write, n);
+        measure(&read, n);
         rust_free(crate);
         start(sizes[k], 16);
         measure(&exact, n / 16);

@@ -37,8 +37,8 @@
  * slot stays valid. A cursor that is used after a removal or an insertion is tested against the new
  * store.
  *
- * The version goes up by one at each build, removal and insertion that is not refused; after
- * 4294967295 comes 0. A slot together with the version that the map has then is a ticket.
+ * The version goes up by one at each build, removal, insertion and reading of an image that is not
+ * refused; after 4294967295 comes 0. A slot together with the version that the map has then is a ticket.
  * iset_read reads the entry of a ticket's slot, and refuses the ticket as stale if the map has
  * changed since: at least once and fewer than 4,294,967,296 times. After exactly that many changes
  * the ticket can pass. This holds if each change is made to the newest map, and none to an older
@@ -66,6 +66,9 @@
 #define ISET_NODES_LEN(n) ((size_t)(n) * ISET_NODE_WORDS)
 #define ISET_COLOURS_LEN(n) (((size_t)(n) + 7) / 8)
 
+/* How many bytes the image of a map of n entries has. */
+#define ISET_IMAGE_LEN(n) (44 + (size_t)(n) * 36 + ISET_COLOURS_LEN(n))
+
 /* The words of a slot: word w of slot s is nodes[s * ISET_NODE_WORDS + w]. Links are slots, or
  * ISET_U. The hull is the least range that holds the ranges of the entry and of all below it. */
 enum iset_word {
@@ -92,11 +95,12 @@ enum iset_refusal {
     ISET_NOT_SORTED = 6,      /* the list to build is not sorted by start, then end */
     ISET_BAD_CURSOR = 7,      /* no lookup of this query in this store has this cursor */
     ISET_BAD_LIST = 8,        /* the list's length is not a multiple of 3 */
-    ISET_SHORT_OUTPUT = 9,    /* the drain's limit is above the output's length, or a plain lookup's
-                                 output is shorter than the count */
+    ISET_SHORT_OUTPUT = 9,    /* the drain's limit is above the output's length, or the output of a
+                                 plain lookup or of an image is too short */
     ISET_BAD_BIT = 10,        /* of bit vectors and stacks; none of these calls returns it */
     ISET_STALE = 11,          /* the map has changed since the ticket was taken */
-    /* Later refusals of the map are numbered from 12. These two belong to the calls from C: */
+    ISET_BAD_IMAGE = 12,      /* the bytes have not the layout or the length of an image */
+    /* Later refusals of the map are numbered from 13. These two belong to the calls from C: */
     ISET_SHORT_ANSWER = 101,  /* `answer` has fewer places than the answer has numbers */
     ISET_BAD_BOUND = 102      /* a bound's kind is not 0, 1 or 2 */
 };
@@ -110,6 +114,8 @@ enum iset_answer {
     ISET_REMOVE_ANSWER = 11,
     ISET_INSERT_ANSWER = 5,
     ISET_READ_ANSWER = 3,
+    ISET_WRITE_IMAGE_ANSWER = 1,
+    ISET_READ_IMAGE_ANSWER = 3,
     ISET_FRESH_ANSWER = 3,
     ISET_STEP_ANSWER = 5,
     ISET_DRAIN_ANSWER = 5,
@@ -119,6 +125,12 @@ enum iset_answer {
 
 /* The places of each answer. */
 enum iset_build_place { ISET_BUILT_COUNT = 0, ISET_BUILT_ROOT = 1, ISET_BUILT_VERSION = 2 };
+enum iset_write_image_place { ISET_WRITTEN_LENGTH = 0 };
+enum iset_read_image_place {
+    ISET_LOADED_COUNT = 0,
+    ISET_LOADED_ROOT = 1,
+    ISET_LOADED_VERSION = 2
+};
 enum iset_remove_place {
     ISET_REMOVED_VALUE = 0,
     ISET_REMOVED_COUNT = 1,
@@ -172,6 +184,7 @@ static inline const char *iset_refusal_name(uint64_t no) {
     case ISET_SHORT_OUTPUT: return "the output is too short";
     case ISET_BAD_BIT: return "no such bit";
     case ISET_STALE: return "the map has changed since the ticket was taken";
+    case ISET_BAD_IMAGE: return "the bytes are not laid out as an image";
     case ISET_SHORT_ANSWER: return "the answer is too short";
     case ISET_BAD_BOUND: return "a bound's kind is not 0, 1 or 2";
     default: return "unknown refusal";
@@ -225,6 +238,26 @@ uint64_t iset_insert(uint64_t count, uint64_t root, uint32_t version, uint64_t *
 uint64_t iset_read(uint64_t count, uint64_t root, uint32_t version, const uint64_t *nodes,
     size_t nodes_len, const uint8_t *colours, size_t colours_len, uint64_t slot, uint32_t taken,
     uint64_t *answer, size_t answer_len);
+
+/* Writes a map as an image, to save it or to send it: its count, root, entries, links and colours,
+ * without pointers, in bytes that docs/IMAGE.md describes. The image has ISET_IMAGE_LEN(count)
+ * bytes. It is at the front of `out`, and the bytes past it are unchanged. The version is not in it.
+ * Answer: the image's length.
+ * Refusals: SHORT_ANSWER, NO_ROOM, BROKEN, SHORT_OUTPUT. */
+uint64_t iset_write_image(uint64_t count, uint64_t root, const uint64_t *nodes, size_t nodes_len,
+    const uint8_t *colours, size_t colours_len, uint8_t *out, size_t out_len, uint64_t *answer,
+    size_t answer_len);
+
+/* Reads the map of an image: the map that was written, in the same slots. `image_len` is the
+ * image's length, not that of a longer buffer. The image may come from anywhere: it is tested as a
+ * whole before anything is written. Slots and colour bits past the entries are unchanged. `version`
+ * is that of the map that the new one takes the place of, and 0 if there was none.
+ * Answer: count, root, version.
+ * Refusals: SHORT_ANSWER, BAD_IMAGE, NO_ROOM if the arrays do not hold the image's entries, BROKEN
+ * if the store in the image does not pass the check. */
+uint64_t iset_read_image(uint32_t version, uint64_t *nodes, size_t nodes_len, uint8_t *colours,
+    size_t colours_len, const uint8_t *image, size_t image_len, uint64_t *answer,
+    size_t answer_len);
 
 /* Gives the cursor at which a lookup of the entries that intersect a range begins. The map is
  * tested when the cursor is used.

@@ -35,7 +35,8 @@ typedef struct iset_ticket {
     uint32_t version;
 } iset_ticket;
 
-/* The two lent arrays. Only builds, removals and insertions write them. */
+/* The two lent arrays. Only builds, removals, insertions and readings of an
+ * image write them. */
 typedef struct iset_memory {
     uint64_t *nodes;
     size_t nodes_len;
@@ -301,6 +302,29 @@ static inline uint64_t iset_map_read(iset_map map, iset_memory memory, iset_tick
     return no;
 }
 
+/* Writes the map as an image, and sets its length: see iset_write_image. */
+static inline uint64_t iset_map_write_image(iset_map map, iset_memory memory, uint8_t *out,
+    size_t out_len, size_t *length) {
+    uint64_t answer[ISET_WRITE_IMAGE_ANSWER] = {0};
+    uint64_t no = iset_write_image(ISET_LENT_(map, memory), out, out_len, answer,
+        ISET_WRITE_IMAGE_ANSWER);
+    *length = (size_t)answer[ISET_WRITTEN_LENGTH];
+    return no;
+}
+
+/* Reads the map of an image in the place of the map: see iset_read_image. Serves the opened calls
+ * too. If it is refused, the map is as it was. */
+static inline uint64_t iset_map_read_image(iset_map *map, iset_memory memory, const uint8_t *image,
+    size_t image_len) {
+    uint64_t answer[ISET_READ_IMAGE_ANSWER] = {0, ISET_U, 0};
+    uint64_t no = iset_read_image(map->version, memory.nodes, memory.nodes_len, memory.colours,
+        memory.colours_len, image, image_len, answer, ISET_READ_IMAGE_ANSWER);
+    if (no == ISET_OK)
+        *map = iset_map_(
+            answer[ISET_LOADED_COUNT], answer[ISET_LOADED_ROOT], answer[ISET_LOADED_VERSION]);
+    return no;
+}
+
 /* Serves the opened calls too. */
 static inline uint64_t iset_map_fresh(iset_map map, iset_cursor *cursor) {
     uint64_t answer[ISET_FRESH_ANSWER] = ISET_ENDED_;
@@ -425,6 +449,15 @@ static inline uint64_t iset_map_open_read(iset_map map, iset_memory memory, iset
     uint64_t no = iset_open_read(ISET_DATED_(map, memory), ticket.slot, ticket.version, answer,
         ISET_READ_ANSWER);
     *entry = iset_entry_(answer);
+    return no;
+}
+
+static inline uint64_t iset_map_open_write_image(iset_map map, iset_memory memory, uint8_t *out,
+    size_t out_len, size_t *length) {
+    uint64_t answer[ISET_WRITE_IMAGE_ANSWER] = {0};
+    uint64_t no = iset_open_write_image(ISET_LENT_(map, memory), out, out_len, answer,
+        ISET_WRITE_IMAGE_ANSWER);
+    *length = (size_t)answer[ISET_WRITTEN_LENGTH];
     return no;
 }
 

@@ -1,7 +1,7 @@
 /* The calls of iset.h without the check of the store, for a host that keeps its arrays to itself.
  *
  * These calls may be used if three things hold. The store passed iset_check once, or iset_build
- * made it, or it is the map of no entries. Since then nobody has written its two arrays but these
+ * or iset_read_image made it, or it is the map of no entries. Since then nobody has written its two arrays but these
  * calls and those of iset.h. The count and the root passed in are those of the last answer, and so
  * is the version.
  *
@@ -41,6 +41,12 @@ uint64_t iset_open_insert(uint64_t count, uint64_t root, uint32_t version, uint6
 /* Refusals: SHORT_ANSWER, NO_ROOM, STALE, NO_SUCH. */
 uint64_t iset_open_read(uint64_t count, uint64_t root, uint32_t version, const uint64_t *nodes,
     size_t nodes_len, const uint8_t *colours, size_t colours_len, uint64_t slot, uint32_t taken,
+    uint64_t *answer, size_t answer_len);
+
+/* Refusals: SHORT_ANSWER, NO_ROOM, SHORT_OUTPUT. iset_read_image tests the image and not the store,
+ * so it serves both. */
+uint64_t iset_open_write_image(uint64_t count, uint64_t root, const uint64_t *nodes,
+    size_t nodes_len, const uint8_t *colours, size_t colours_len, uint8_t *out, size_t out_len,
     uint64_t *answer, size_t answer_len);
 
 /* iset_fresh checks nothing, so it serves both. */

@@ -1,8 +1,9 @@
-//! The Rust side of the bench, for a C main: the crate iset 0.3.3 behind C functions, a plain check of a store, and bindings/rust.
+//! The Rust side of the bench, for a C main: the crate iset 0.3.3 behind C functions, a plain check of a store, a plain writer and reader of images, and bindings/rust.
 #![no_std]
 extern crate alloc;
 
 mod heap;
+mod image;
 mod store;
 
 use alloc::boxed::Box;
@@ -75,6 +76,7 @@ pub unsafe extern "C" fn rust_exact(map: *const Map, start: u64, end: u64) -> u6
 const U: u64 = 4294967295;
 
 /// What a subtree shows to the node above it.
+#[derive(Clone, Copy)]
 struct Seen {
     size: u64,
     blacks: u64,
@@ -82,6 +84,38 @@ struct Seen {
     hull: (u64, u64),
     first: (u64, u64),
     last: (u64, u64),
+}
+
+impl Seen {
+    /// A node with its two subtrees; None where they do not fit.
+    #[inline(always)]
+    fn with(self, left: Option<Seen>, right: Option<Seen>) -> Option<Seen> {
+        let (mut seen, own, red) = (self, self.first, self.red);
+        let mut blacks = [0; 2];
+        if let Some(l) = left {
+            if l.last > own || red && l.red {
+                return None;
+            }
+            seen.size += l.size;
+            seen.hull = (seen.hull.0.min(l.hull.0), seen.hull.1.max(l.hull.1));
+            seen.first = l.first;
+            blacks[0] = l.blacks;
+        }
+        if let Some(r) = right {
+            if r.first < own || red && r.red {
+                return None;
+            }
+            seen.size += r.size;
+            seen.hull = (seen.hull.0.min(r.hull.0), seen.hull.1.max(r.hull.1));
+            seen.last = r.last;
+            blacks[1] = r.blacks;
+        }
+        if blacks[0] != blacks[1] {
+            return None;
+        }
+        seen.blacks = blacks[0] + !red as u64;
+        Some(seen)
+    }
 }
 
 struct Store<'a> {
@@ -108,31 +142,12 @@ impl Store<'_> {
         let right = self.subtree(w[6], link, height - 1)?;
         let red = self.bytes[link as usize / 8] >> (link % 8) & 1 == 1;
         let own = (w[0], w[1]);
-        let mut seen = Seen { size: 1, blacks: 0, red, hull: own, first: own, last: own };
-        let mut blacks = [0; 2];
-        if let Some(l) = left {
-            if l.last > own || red && l.red {
-                return None;
-            }
-            seen.size += l.size;
-            seen.hull = (seen.hull.0.min(l.hull.0), seen.hull.1.max(l.hull.1));
-            seen.first = l.first;
-            blacks[0] = l.blacks;
+        let seen = Seen { size: 1, blacks: 0, red, hull: own, first: own, last: own }.with(left, right)?;
+        if seen.hull == (w[3], w[4]) {
+            Some(Some(seen))
+        } else {
+            None
         }
-        if let Some(r) = right {
-            if r.first < own || red && r.red {
-                return None;
-            }
-            seen.size += r.size;
-            seen.hull = (seen.hull.0.min(r.hull.0), seen.hull.1.max(r.hull.1));
-            seen.last = r.last;
-            blacks[1] = r.blacks;
-        }
-        if blacks[0] != blacks[1] || seen.hull != (w[3], w[4]) {
-            return None;
-        }
-        seen.blacks = blacks[0] + !red as u64;
-        Some(Some(seen))
     }
 }
 

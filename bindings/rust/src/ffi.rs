@@ -66,6 +66,14 @@ exports! {
         answer: *mut u64, answer_len: usize,
     );
 
+    /// Reads the map of an image, in the place of a map of that version. The answer has 3 numbers.
+    fn iset_read_image(
+        version: u32,
+        nodes: *mut u64, nodes_len: usize, colours: *mut u8, colours_len: usize,
+        image: *const u8, image_len: usize,
+        answer: *mut u64, answer_len: usize,
+    );
+
     /// Returns the slot after a removal of the entry that had slot `kept` before it. The answer has
     /// the 11 numbers of that removal.
     fn iset_slot_after(answer: *const u64, removed: u64, kept: u64);
@@ -97,6 +105,13 @@ pairs! {
         nodes: *const u64, nodes_len: usize, colours: *const u8, colours_len: usize,
         slot: u64, taken: u32,
         answer: *mut u64, answer_len: usize,
+    );
+
+    /// Writes a map as an image. The answer has 1 number.
+    WriteImage: fn iset_write_image, iset_open_write_image(
+        count: u64, root: u64,
+        nodes: *const u64, nodes_len: usize, colours: *const u8, colours_len: usize,
+        out: *mut u8, out_len: usize, answer: *mut u64, answer_len: usize,
     );
 
     /// Gives the cursor at which an exact lookup begins. The answer has 3 numbers.

@@ -10,6 +10,7 @@ pub(crate) struct Calls {
     remove: ffi::Remove,
     insert: ffi::Insert,
     read: ffi::Read,
+    write_image: ffi::WriteImage,
     fresh_exact: ffi::FreshExact,
     step: ffi::Step,
     step_exact: ffi::StepExact,
@@ -26,6 +27,7 @@ pub(crate) static PUBLIC: Calls = Calls {
     remove: ffi::iset_remove,
     insert: ffi::iset_insert,
     read: ffi::iset_read,
+    write_image: ffi::iset_write_image,
     fresh_exact: ffi::iset_fresh_exact,
     step: ffi::iset_step,
     step_exact: ffi::iset_step_exact,
@@ -42,6 +44,7 @@ pub(crate) static OPENED: Calls = Calls {
     remove: ffi::iset_open_remove,
     insert: ffi::iset_open_insert,
     read: ffi::iset_open_read,
+    write_image: ffi::iset_open_write_image,
     fresh_exact: ffi::iset_open_fresh_exact,
     step: ffi::iset_open_step,
     step_exact: ffi::iset_open_step_exact,
@@ -93,6 +96,23 @@ macro_rules! call {
     };
 }
 
+/// Makes a call that puts another map in the place of the one that is lent, from a slice.
+macro_rules! replace {
+    ($call:expr, $lent:expr, $from:expr, $answer:expr) => {
+        $call(
+            $lent.map.version,
+            $lent.nodes.as_mut_ptr(),
+            $lent.nodes.len(),
+            $lent.colours.as_mut_ptr(),
+            $lent.colours.len(),
+            $from.as_ptr(),
+            $from.len(),
+            $answer.as_mut_ptr(),
+            $answer.len(),
+        )
+    };
+}
+
 /// The number that a call returned as a `Result`: every number but 0 is a refusal.
 fn told(number: u64) -> Result<(), Refusal> {
     match Refusal::from_number(number) {
@@ -133,19 +153,19 @@ impl LentMut<'_> {
         let mut answer = [0; 3];
         // SAFETY: the slices and the answer are live during the call. Those that it writes are
         // borrowed by `&mut`, so they overlap nothing and nobody else uses them.
-        told(unsafe {
-            ffi::iset_build(
-                self.map.version,
-                self.nodes.as_mut_ptr(),
-                self.nodes.len(),
-                self.colours.as_mut_ptr(),
-                self.colours.len(),
-                list.as_ptr(),
-                list.len(),
-                answer.as_mut_ptr(),
-                answer.len(),
-            )
-        })?;
+        told(unsafe { replace!(ffi::iset_build, self, list, answer) })?;
+        self.replaced(answer)
+    }
+
+    pub fn read_image(&mut self, image: &[u8]) -> Result<(), Refusal> {
+        let mut answer = [0; 3];
+        // SAFETY: as in `build`.
+        told(unsafe { replace!(ffi::iset_read_image, self, image, answer) })?;
+        self.replaced(answer)
+    }
+
+    /// Takes the map of an answer.
+    fn replaced(&mut self, answer: [u64; 3]) -> Result<(), Refusal> {
         let [count, root, version] = answer;
         self.map = map(count, root, version);
         Ok(())
@@ -199,6 +219,14 @@ impl Lent<'_> {
             range: start..end,
             value,
         })
+    }
+
+    /// Writes the map as an image, and returns the image's length.
+    pub fn write_image(self, calls: &Calls, out: &mut [u8]) -> Result<usize, Refusal> {
+        let mut answer = [0; 1];
+        // SAFETY: as in `begin`; the output is borrowed by `&mut` too.
+        told(unsafe { call!(calls.write_image, self, as_ptr;; out, answer) })?;
+        Ok(answer[0] as usize)
     }
 
     /// Where a lookup begins.

@@ -83,6 +83,16 @@ pub fn capacity(nodes: usize, colours: usize) -> usize {
         .min(MOST_ENTRIES)
 }
 
+/// How many bytes the image of a map of so many entries has.
+///
+/// ```
+/// assert_eq!(iset_proved::image_len(0), 44);
+/// assert_eq!(iset_proved::image_len(5), 225);
+/// ```
+pub const fn image_len(entries: usize) -> usize {
+    44 + entries * 36 + entries / 8 + (entries % 8 != 0) as usize
+}
+
 /// Threads may share and pass on all of it.
 const _: () = {
     const fn shared<T: Send + Sync>() {}

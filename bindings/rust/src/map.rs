@@ -12,8 +12,8 @@ pub struct Map {
     pub count: u64,
     /// The slot of the root, [`U`] if there are no entries.
     pub root: u64,
-    /// How often it was changed, modulo 2^32: each build, removal and insertion that is not refused
-    /// counts.
+    /// How often it was changed, modulo 2^32: each build, removal, insertion and reading of an image
+    /// that is not refused counts.
     pub version: u32,
 }
 
@@ -82,6 +82,61 @@ impl Map {
     /// [`Refusal::NoRoom`], [`Refusal::Broken`], [`Refusal::Stale`], [`Refusal::NoSuch`].
     pub fn read(self, nodes: &[u64], colours: &[u8], ticket: Ticket) -> Result<Entry, Refusal> {
         self.over(nodes, colours).read(&PUBLIC, ticket)
+    }
+
+    /// Writes the map as an image to the front of `out`, and returns the image's length, which is
+    /// [`image_len`](crate::image_len) of the count. Bytes past the image are unchanged. The version
+    /// is not in the image.
+    ///
+    #[cfg_attr(iset_linked, doc = "```")]
+    #[cfg_attr(not(iset_linked), doc = "```no_run")]
+    /// use iset_proved::{image_len, Map, Refusal};
+    ///
+    /// # fn main() -> Result<(), Refusal> {
+    /// let (mut nodes, mut colours) = ([0; 3 * 8], [0; 1]);
+    /// let list = [10, 20, 1, 10, 30, 2, 25, 40, 3];
+    /// let map = Map::new().build(&mut nodes, &mut colours, &list)?;
+    /// let mut image = [0; image_len(3)];
+    /// assert_eq!(map.write_image(&nodes, &colours, &mut image), Ok(153));
+    ///
+    /// let (mut words, mut bits) = ([0; 3 * 8], [0; 1]);
+    /// let back = Map::new().read_image(&mut words, &mut bits, &image)?;
+    /// assert_eq!((back, words, bits), (map, nodes, colours));
+    /// image[8] = 2;
+    /// assert_eq!(back.read_image(&mut words, &mut bits, &image), Err(Refusal::BadImage));
+    /// # Ok(())
+    /// # }
+    /// ```
+    ///
+    /// # Errors
+    ///
+    /// [`Refusal::NoRoom`], [`Refusal::Broken`], [`Refusal::ShortOutput`].
+    pub fn write_image(
+        self,
+        nodes: &[u64],
+        colours: &[u8],
+        out: &mut [u8],
+    ) -> Result<usize, Refusal> {
+        self.over(nodes, colours).write_image(&PUBLIC, out)
+    }
+
+    /// Reads the map of an image, in the place of this map: the map that was written, in the same
+    /// slots. Of this map only the version is read: the new map has the next one. The image may come
+    /// from anywhere. It is tested as a whole before anything is written.
+    ///
+    /// # Errors
+    ///
+    /// [`Refusal::BadImage`] if the bytes have not the layout or the length of an image,
+    /// [`Refusal::NoRoom`], [`Refusal::Broken`] if the store in the image does not pass the check.
+    pub fn read_image(
+        self,
+        nodes: &mut [u64],
+        colours: &mut [u8],
+        image: &[u8],
+    ) -> Result<Map, Refusal> {
+        let mut lent = self.over_mut(nodes, colours);
+        lent.read_image(image)?;
+        Ok(lent.map)
     }
 
     /// Removes the entry of a slot.
@@ -242,7 +297,8 @@ impl Map {
     ///
     /// # fn main() -> Result<(), Refusal> {
     /// let (mut nodes, mut colours, mut out) = ([0; 3 * 8], [0; 1], [7; 2]);
-    /// let map = Map::new().build(&mut nodes, &mut colours, &[10, 20, 1, 10, 30, 2, 25, 40, 3])?;
+    /// let list = [10, 20, 1, 10, 30, 2, 25, 40, 3];
+    /// let map = Map::new().build(&mut nodes, &mut colours, &list)?;
     /// let found = map.find_all(&nodes, &colours, Query::at(27), &mut out)?;
     /// assert_eq!((found.hits, out), (2, [1, 2]));
     /// let found = map.find_all(&nodes, &colours, Query::overlap(..), &mut out)?;

@@ -34,12 +34,14 @@ pub enum Refusal {
     /// The length of the list to build is not a multiple of 3.
     BadList,
     /// The drain's limit is above the output's length, a plain lookup's output has fewer places
-    /// than there are entries, or a buffer for hits is empty.
+    /// than there are entries, an image is longer than the output, or a buffer for hits is empty.
     ShortOutput,
     /// Of bit vectors and stacks. None of these calls returns it.
     BadBit,
     /// The map has changed since the ticket was taken.
     Stale,
+    /// The bytes have not the layout or the length of an image.
+    BadImage,
     /// The answer slice has fewer places than the answer has numbers. This crate never passes such
     /// a slice.
     ShortAnswer,
@@ -52,7 +54,7 @@ pub enum Refusal {
 
 /// Each refusal with its number and its words, which are those of `iset_refusal_name` in
 /// include/iset.h.
-const ALL: [(Refusal, u64, &str); 13] = [
+const ALL: [(Refusal, u64, &str); 14] = [
     (Refusal::NoRoom, 1, "not enough room in the memory"),
     (Refusal::Broken, 2, "the store does not pass the check"),
     (Refusal::NoSuch, 3, "no entry in that slot"),
@@ -79,6 +81,11 @@ const ALL: [(Refusal, u64, &str); 13] = [
         Refusal::Stale,
         11,
         "the map has changed since the ticket was taken",
+    ),
+    (
+        Refusal::BadImage,
+        12,
+        "the bytes are not laid out as an image",
     ),
     (Refusal::ShortAnswer, 101, "the answer is too short"),
     (Refusal::BadBound, 102, "a bound's kind is not 0, 1 or 2"),

@@ -91,6 +91,16 @@ impl<'m> StoreRef<'m> {
         self.lent.read(&OPENED, ticket)
     }
 
+    /// Writes the map as an image to the front of `out`, and returns the image's length: as
+    /// [`Map::write_image`].
+    ///
+    /// # Errors
+    ///
+    /// [`Refusal::ShortOutput`].
+    pub fn write_image(self, out: &mut [u8]) -> Result<usize, Refusal> {
+        self.lent.write_image(&OPENED, out)
+    }
+
     /// All entries in order: by start, then end, equal ones in the order in which they were added.
     #[inline]
     pub fn entries(self) -> Entries<'m, MANY> {
@@ -297,6 +307,26 @@ impl<'m> Store<'m> {
     /// [`Refusal::Stale`] if the store has changed since the ticket was taken, [`Refusal::NoSuch`].
     pub fn read_ticket(&self, ticket: Ticket) -> Result<Entry, Refusal> {
         self.read().read_ticket(ticket)
+    }
+
+    /// Writes the map as an image to the front of `out`, and returns the image's length: as
+    /// [`Map::write_image`].
+    ///
+    /// # Errors
+    ///
+    /// [`Refusal::ShortOutput`].
+    pub fn write_image(&self, out: &mut [u8]) -> Result<usize, Refusal> {
+        self.read().write_image(out)
+    }
+
+    /// Reads the map of an image in the place of this store's, with the next version: as
+    /// [`Map::read_image`]. If it is refused, the store is unchanged.
+    ///
+    /// # Errors
+    ///
+    /// [`Refusal::BadImage`], [`Refusal::NoRoom`], [`Refusal::Broken`].
+    pub fn read_image(&mut self, image: &[u8]) -> Result<(), Refusal> {
+        self.lent.read_image(image)
     }
 
     /// All entries in order: by start, then end, equal ones in the order in which they were added.

@@ -18,13 +18,14 @@ macro_rules! refusing {
 
 refusing! {
     77: iset_build iset_remove iset_insert iset_read iset_fresh_exact iset_step iset_step_exact iset_drain
-    iset_drain_exact iset_plain iset_plain_exact iset_find_all iset_find_all_exact
+    iset_drain_exact iset_plain iset_plain_exact iset_find_all iset_find_all_exact iset_write_image
+    iset_read_image
 }
 
 refusing! {
     78: iset_open_remove iset_open_insert iset_open_read iset_open_fresh_exact iset_open_step
     iset_open_step_exact iset_open_drain iset_open_drain_exact iset_open_plain iset_open_plain_exact
-    iset_open_find_all iset_open_find_all_exact
+    iset_open_find_all iset_open_find_all_exact iset_open_write_image
 }
 
 /// The check passes the map of no entries, so that a store can be opened, and no other.
@@ -61,6 +62,10 @@ fn maps() {
     assert_eq!(map.check(&nodes, &colours).err(), PUBLIC);
     assert_eq!(map.build(&mut nodes, &mut colours, &[]).err(), PUBLIC);
     assert_eq!(map.read(&nodes, &colours, map.ticket(0)).err(), PUBLIC);
+    let written = map.write_image(&nodes, &colours, &mut [0; 100]);
+    assert_eq!(written.err(), PUBLIC);
+    let loaded = map.read_image(&mut nodes, &mut colours, &[]);
+    assert_eq!(loaded.err(), PUBLIC);
     assert_eq!(map.remove(&mut nodes, &mut colours, 0).err(), PUBLIC);
     assert_eq!(map.insert(&mut nodes, &mut colours, 1, 2, 3).err(), PUBLIC);
     assert_eq!(map.fresh_exact(&nodes, &colours, 1, 2).err(), PUBLIC);
@@ -98,6 +103,7 @@ fn stores() {
     assert_eq!(store.remove(0).err(), OPENED);
     assert_eq!(store.rebuild(&[]).err(), PUBLIC);
     assert_eq!(store.read_ticket(store.ticket(0)).err(), OPENED);
+    assert_eq!(store.write_image(&mut [0; 44]).err(), OPENED);
     assert_eq!(store.overlap(1..2).err(), OPENED);
     assert_eq!(store.exact(1..2).err(), OPENED);
     for query in QUERIES {

@@ -18,6 +18,10 @@ use Rattle.iset_c.proofs.iset_slot_after.Reads as slot-after-reads
 use Rattle.iset_c.proofs.iset_slot_after.Kinds as slot-after-kinds
 use Rattle.iset_c.proofs.ticket.iset_read.Reads as read-reads
 use Rattle.iset_c.proofs.ticket.iset_read.Kinds as read-kinds
+use Rattle.iset_c.proofs.save.iset_write_image.Reads as write-image-reads
+use Rattle.iset_c.proofs.save.iset_write_image.Kinds as write-image-kinds
+use Rattle.iset_c.proofs.save.iset_read_image.Reads as read-image-reads
+use Rattle.iset_c.proofs.save.iset_read_image.Kinds as read-image-kinds
 use Rattle.iset_c.proofs.lookup.iset_fresh.Reads as fresh-reads
 use Rattle.iset_c.proofs.lookup.iset_fresh.Kinds as fresh-kinds
 use Rattle.iset_c.proofs.lookup.iset_fresh_exact.Reads as fresh-exact-reads
@@ -90,6 +94,25 @@ pub read-determined :
     → (r ≡ r′)
     × (now (s .1 .1 .1 .1 .1 .1 .1 .0) ≡ now (s′ .1 .1 .1 .1 .1 .1 .1 .0))
 read-determined κs a r r′ s s′ p q = same-answer p q
+
+pub write-image-determined :
+    (κs : Lfts 4) (a : K.Dens κs write-image-kinds.ps) (r r′ : K.resT write-image-kinds.r κs .Denot)
+    (s s′ : AtExit (K.endedOf 4 write-image-kinds.ps write-image-kinds.r) κs)
+    → write-image-reads.Post κs a r s → write-image-reads.Post κs a r′ s′
+    → (r ≡ r′)
+    × (now (s .1 .1 .1 .1 .1 .0) ≡ now (s′ .1 .1 .1 .1 .1 .0))
+    × (now (s .1 .1 .1 .1 .0) ≡ now (s′ .1 .1 .1 .1 .0))
+write-image-determined κs a r r′ s s′ p q = same-output p q
+
+pub read-image-determined :
+    (κs : Lfts 4) (a : K.Dens κs read-image-kinds.ps) (r r′ : K.resT read-image-kinds.r κs .Denot)
+    (s s′ : AtExit (K.endedOf 4 read-image-kinds.ps read-image-kinds.r) κs)
+    → read-image-reads.Post κs a r s → read-image-reads.Post κs a r′ s′
+    → (r ≡ r′)
+    × (now (s .1 .1 .1 .1 .0) ≡ now (s′ .1 .1 .1 .1 .0))
+    × (now (s .1 .0) ≡ now (s′ .1 .0))
+    × (now (s .1 .1 .0) ≡ now (s′ .1 .1 .0))
+read-image-determined κs a r r′ s s′ p q = same-effect p q
 
 pub fresh-determined :
     (κs : Lfts 1) (a : K.Dens κs fresh-kinds.ps) (r r′ : K.resT fresh-kinds.r κs .Denot)

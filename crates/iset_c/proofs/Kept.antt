@@ -18,8 +18,9 @@ use Rattle.iset.specs.Insert.{insertNumber, insertEntry, insertCall}
 use Rattle.iset.specs.Lookup.{startNumber, drainNumber, drainCall}
 use Rattle.iset.specs.Plain.{plainNumber, plainCall}
 use Rattle.iset.specs.Find.{findAllCall}
+use Rattle.iset.specs.Image.{writeImageNumber, writeImageCall, readImageNumber, readStore, readImageCall}
 use Rattle.iset.specs.declared.Map.{Map}
-use Rattle.iset_c.specs.Replies.{Reply, Exit, exit, number, handed, left, exitOf, effectExit, outputExit, buildReply, removeReply, insertReply, drainReply, tallyReply, buildExit, removeExit, insertExit, drainExit, plainExit, findAllExit}
+use Rattle.iset_c.specs.Replies.{Reply, Exit, exit, number, handed, left, exitOf, effectExit, outputExit, buildReply, removeReply, insertReply, writeReply, drainReply, tallyReply, buildExit, removeExit, insertExit, drainExit, plainExit, findAllExit, writeImageExit, readImageExit}
 
 -- an export that refuses leaves the answer A and the other slices, l
 abbrev pub Kept : Exit → List ℕ → List (List ℕ) → Type 0
@@ -67,6 +68,14 @@ module _ (A : List ℕ) (m : Map) (W C : List ℕ) where
   pub insert-kept : (e : Entry) → Kept (insertExit A m W C e) A (W ∷ C ∷ [])
   unfolding insertCall
   insert-kept e = effect-kept insertReply A W C (insertNumber m W C e) (insertEntry m W C e) _ refl
+
+  pub write-image-kept : (out : List ℕ) → Kept (writeImageExit A m W C out) A (out ∷ [])
+  unfolding writeImageCall
+  write-image-kept out = output-kept writeReply true A out (writeImageNumber m W C (length out)) _ _ refl
+
+  pub read-image-kept : (I : List ℕ) → Kept (readImageExit A m W C I) A (W ∷ C ∷ [])
+  unfolding readImageCall
+  read-image-kept I = effect-kept buildReply A W C (readImageNumber (length W) (length C) I) (readStore m W C I) _ refl
 
   -- b: whether the bounds have kinds
   pub drain-kept : (b : Bool) (q : Query) (c : Cursor) (limit : ℕ) (out : List ℕ) → Kept (drainExit b A m W C q c limit out) A (out ∷ [])

@@ -28,11 +28,13 @@ use Rattle.iset.specs.Lookup.{startCall, stepCall, drainCall}
 use Rattle.iset.specs.Plain.{plainCall}
 use Rattle.iset.specs.Find.{findAllCall}
 use Rattle.iset.specs.Maps.{mapOf, mapAt}
-use Rattle.iset.specs.Refusals.{Rows, accept, refuse, Exactly, checkRows, buildRows, removeRows, insertRows, readRows, startRows, stepRows, drainRows, plainRows, findAllRows}
+use Rattle.iset.specs.Refusals.{Rows, accept, refuse, Exactly, checkRows, buildRows, removeRows, insertRows, readRows, startRows, stepRows, drainRows, plainRows, findAllRows, writeImageRows, readImageRows}
 use Rattle.iset.specs.Ticket.{readCall}
+use Rattle.iset.specs.Image.{writeImageCall, readImageCall}
 use Rattle.iset.specs.declared.Map.{Map}
 use Rattle.iset.proofs.Refusals.{Lacks, passed-row, failed-row, check-refusals, build-refusals, remove-refusals, insert-refusals, read-refusals, start-refusals, step-refusals, drain-refusals, plain-refusals, find-all-refusals}
 use Rattle.iset.specs.declared.ticket.Ticket.{Ticket}
+use Rattle.iset.proofs.ImageRefusals.{write-image-refusals, read-image-refusals}
 use Rattle.iset.proofs.BitRefusals.{Fails, le-fails, and-fails}
 use Rattle.iset_c.specs.Replies.{Reply, Exit, exit, number, handed, exitOf, stepReply, drainReply, tallyReply}
 use Rattle.iset_c.specs.Ranges.{rangeOf, kinds}
@@ -57,6 +59,10 @@ use Rattle.iset_c.proofs.lookup.iset_step_exact.Reads as step-exact-rea
 use Rattle.iset_c.proofs.lookup.iset_step_exact.Kinds as step-exact-kinds
 use Rattle.iset_c.proofs.lookup.iset_drain.Reads as drain-reads
 use Rattle.iset_c.proofs.lookup.iset_drain.Kinds as drain-kinds
+use Rattle.iset_c.proofs.save.iset_write_image.Reads as write-image-reads
+use Rattle.iset_c.proofs.save.iset_write_image.Kinds as write-image-kinds
+use Rattle.iset_c.proofs.save.iset_read_image.Reads as read-image-reads
+use Rattle.iset_c.proofs.save.iset_read_image.Kinds as read-image-kinds
 use Rattle.iset_c.proofs.lookup.iset_drain_exact.Reads as drain-exact-reads
 use Rattle.iset_c.proofs.lookup.iset_drain_exact.Kinds as drain-exact-kinds
 use Rattle.iset_c.proofs.scan.iset_plain.Reads as plain-reads
@@ -119,6 +125,29 @@ pub build-told : (κs : Lfts 4) (a : K.Dens κs build-kinds.ps) (r : K.resT buil
     let b : BuildAnswer = buildCall m W C S .answer in
     Told (buildRows W C S) (b .map .count ∷ b .map .root ∷ b .map .version ∷ []) (now (a .1 .1 .1 .1 .0)) (now (s .1 .1 .1 .1 .0)) r
 build-told κs a r s p = told _ true _ _ _ r (omega arith) (build-refusals _ _ _ _) _ _ _ p
+
+-- `iset_read_image`: count, root, version
+pub read-image-told :
+    (κs : Lfts 4) (a : K.Dens κs read-image-kinds.ps) (r : K.resT read-image-kinds.r κs .Denot) (s : AtExit (K.endedOf 4 read-image-kinds.ps read-image-kinds.r) κs)
+    → read-image-reads.Post κs a r s
+    → let m : Map = mapAt 0 U (a .0) in
+    let W : List ℕ = now (a .1 .0) in
+    let C : List ℕ = now (a .1 .1 .0) in
+    let I : List ℕ = now (a .1 .1 .1 .0) in
+    let b : BuildAnswer = readImageCall m W C I .answer in
+    Told (readImageRows W C I) (b .map .count ∷ b .map .root ∷ b .map .version ∷ []) (now (a .1 .1 .1 .1 .0)) (now (s .1 .1 .1 .1 .0)) r
+read-image-told κs a r s p = told _ true _ _ _ r (omega arith) (read-image-refusals _ _ _ _) _ _ _ p
+
+-- `iset_write_image`: the image's length
+pub write-image-told :
+    (κs : Lfts 4) (a : K.Dens κs write-image-kinds.ps) (r : K.resT write-image-kinds.r κs .Denot) (s : AtExit (K.endedOf 4 write-image-kinds.ps write-image-kinds.r) κs)
+    → write-image-reads.Post κs a r s
+    → let m : Map = mapOf (a .0) (a .1 .0) in
+    let W : List ℕ = now (a .1 .1 .0) in
+    let C : List ℕ = now (a .1 .1 .1 .0) in
+    let out : List ℕ = now (a .1 .1 .1 .1 .0) in
+    Told (writeImageRows m W C (length out)) (writeImageCall m W C out .answer .length ∷ []) (now (a .1 .1 .1 .1 .1 .0)) (now (s .1 .1 .1 .1 .1 .0)) r
+write-image-told κs a r s p = told _ true _ _ _ r (omega arith) (write-image-refusals _ _ _ _) _ _ _ p
 
 -- `iset_remove`: value, count, root, then three pairs, old slot, new slot, how many hulls changed,
 -- and the version

@@ -3,7 +3,7 @@
 -- lent slice.
 -- Letters: m map, W words, C colours, A places of the answer, a answer of the call, R reply,
 --   s step, p pairs, n number, b known (whether each bound has a kind), k effect or output,
---   l slices, S triples, e entry, x interval, q query, c cursor, t ticket
+--   l slices, S triples, e entry, x interval, q query, c cursor, v length, t ticket, I image
 use mathlib.Core.Bool.{Bool, true, cond}
 use mathlib.Core.List.{List, [], _∷_}
 use Prim.Native.Nat.{ℕ}
@@ -26,6 +26,7 @@ use Rattle.iset.specs.Tallies.{TallyAnswer}
 use Rattle.iset.specs.Plain.{plainCall}
 use Rattle.iset.specs.Find.{findAllCall}
 use Rattle.iset.specs.Ticket.{ReadAnswer, readCall}
+use Rattle.iset.specs.Image.{WriteAnswer, writeImageCall, readImageCall}
 use Rattle.iset.specs.declared.Map.{Map}
 use Rattle.iset.specs.declared.ticket.Ticket.{Ticket}
 
@@ -125,6 +126,13 @@ readReply a = record { no = a .no; numbers = entryNumbers (a .entry) }
 abbrev pub ticketAt : (slot taken : ℕ) → Ticket
 ticketAt slot taken = record { slot = slot; version = taken }
 
+-- writing an image: its length. Reading one answers as a build does.
+abbrev pub lengthNumbers : (length : ℕ) → List ℕ
+lengthNumbers v = v ∷ []
+
+abbrev pub writeReply : (answer : WriteAnswer) → Reply
+writeReply a = record { no = a .no; numbers = lengthNumbers (a .length) }
+
 -- a cursor: slot, levels, bits
 abbrev pub cursorNumbers : (cursor : Cursor) → List ℕ
 cursorNumbers c = c .slot ∷ c .levels ∷ c .bits ∷ []
@@ -174,6 +182,12 @@ insertExit A m W C e = effectExit insertReply A W C (insertCall m W C e)
 abbrev pub readExit : (places : List ℕ) (map : Map) (words colours : List ℕ) (ticket : Ticket)
     → Exit
 readExit A m W C t = answerExit true A (readReply (readCall m W C t))
+
+abbrev pub writeImageExit : (places : List ℕ) (map : Map) (words colours out : List ℕ) → Exit
+writeImageExit A m W C out = outputExit writeReply true A out (writeImageCall m W C out)
+
+abbrev pub readImageExit : (places : List ℕ) (map : Map) (words colours image : List ℕ) → Exit
+readImageExit A m W C I = effectExit buildReply A W C (readImageCall m W C I)
 
 abbrev pub startExit : (places : List ℕ) (map : Map) (words colours : List ℕ) (interval : Interval)
     → Exit

@@ -15,7 +15,7 @@ ghost use Prim.Native.Nat.{_≤_};
 ghost use lib.ListN.{length};
 ghost use Rattle.iter.specs.Drains.{filled};
 ghost use Rattle.iset.specs.Tallies.{tallyAnswer};
-ghost use Rattle.iset_c.specs.Replies.{number, handed, tallyReply, mapNumbers, removedNumbers, insertedNumbers, entryNumbers, cursorNumbers, stepNumbers, foundNumbers, drainNumbers, tallyNumbers};
+ghost use Rattle.iset_c.specs.Replies.{number, handed, tallyReply, mapNumbers, removedNumbers, insertedNumbers, entryNumbers, lengthNumbers, cursorNumbers, stepNumbers, foundNumbers, drainNumbers, tallyNumbers};
 
 // Writes the numbers to the front of the answer. Places past them are unchanged.
 pub(crate) fn put(numbers: &[u64], answer: &mut [u64])
@@ -76,6 +76,14 @@ pub fn put_entry(e: Entry, answer: &mut [u64])
     ensures { λ _. ⌜ now (answer .exit) ≡ filled (entryNumbers e) (now (answer .entry)) ⌝ }
 {
     let numbers = [e.start, e.end, e.value];
+    put(&numbers, answer);
+}
+
+pub fn put_length(v: u64, answer: &mut [u64])
+    requires { ⌜ 1 ≤ length (now answer) ⌝ }
+    ensures { λ _. ⌜ now (answer .exit) ≡ filled (lengthNumbers v) (now (answer .entry)) ⌝ }
+{
+    let numbers = [v];
     put(&numbers, answer);
 }
 

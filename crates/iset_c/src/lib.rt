@@ -11,6 +11,7 @@ pub mod answer;
 pub mod find;
 pub mod lookup;
 pub mod range;
+pub mod save;
 pub mod scan;
 pub mod ticket;
 

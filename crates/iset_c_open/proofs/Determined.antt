@@ -10,6 +10,8 @@ use Rattle.iset_c_open.proofs.iset_open_remove.Reads as remove-reads
 use Rattle.iset_c_open.proofs.iset_open_remove.Kinds as remove-kinds
 use Rattle.iset_c_open.proofs.iset_open_insert.Reads as insert-reads
 use Rattle.iset_c_open.proofs.iset_open_insert.Kinds as insert-kinds
+use Rattle.iset_c_open.proofs.save.iset_open_write_image.Reads as write-image-reads
+use Rattle.iset_c_open.proofs.save.iset_open_write_image.Kinds as write-image-kinds
 use Rattle.iset_c_open.proofs.ticket.iset_open_read.Reads as read-reads
 use Rattle.iset_c_open.proofs.ticket.iset_open_read.Kinds as read-kinds
 use Rattle.iset_c_open.proofs.lookup.iset_open_fresh_exact.Reads as fresh-exact-reads
@@ -52,6 +54,15 @@ pub insert-determined :
     × (now (s .1 .1 .1 .0) ≡ now (s′ .1 .1 .1 .0))
     × (now (s .1 .1 .1 .1 .0) ≡ now (s′ .1 .1 .1 .1 .0))
 insert-determined κs a r r′ s s′ p q = same-effect p q
+
+pub write-image-determined :
+    (κs : Lfts 4) (a : K.Dens κs write-image-kinds.ps) (r r′ : K.resT write-image-kinds.r κs .Denot)
+    (s s′ : AtExit (K.endedOf 4 write-image-kinds.ps write-image-kinds.r) κs)
+    → write-image-reads.Post κs a r s → write-image-reads.Post κs a r′ s′
+    → (r ≡ r′)
+    × (now (s .1 .1 .1 .1 .1 .0) ≡ now (s′ .1 .1 .1 .1 .1 .0))
+    × (now (s .1 .1 .1 .1 .0) ≡ now (s′ .1 .1 .1 .1 .0))
+write-image-determined κs a r r′ s s′ p q = same-output p q
 
 pub read-determined :
     (κs : Lfts 3) (a : K.Dens κs read-kinds.ps) (r r′ : K.resT read-kinds.r κs .Denot)

@@ -1,7 +1,7 @@
 -- "Nothing lent changes" where an opened call is refused, by an export's own refusals too: the
 -- answer, and each slice that the call may write.
 use mathlib.Core.Path.{refl}
-use mathlib.Core.Bool.{Bool}
+use mathlib.Core.Bool.{Bool, true}
 use mathlib.Core.List.{List, [], _∷_}
 use Prim.Native.Nat.{ℕ}
 use lib.ListN.{length}
@@ -13,10 +13,11 @@ use Rattle.iset.specs.Insert.{openInsertNumber, insertEntry, openInsertCall}
 use Rattle.iset.specs.Lookup.{openStartNumber, openDrainNumber, openDrainCall}
 use Rattle.iset.specs.Plain.{openPlainNumber, openPlainCall}
 use Rattle.iset.specs.Find.{openFindAllCall}
+use Rattle.iset.specs.Image.{openWriteImageNumber, openWriteImageCall}
 use Rattle.iset.specs.declared.Map.{Map}
-use Rattle.iset_c.specs.Replies.{removeReply, insertReply, drainReply, tallyReply}
+use Rattle.iset_c.specs.Replies.{removeReply, insertReply, writeReply, drainReply, tallyReply}
 use Rattle.iset_c.proofs.Kept.{Kept, effect-kept, output-kept}
-use Rattle.iset_c_open.specs.Replies.{openRemoveExit, openInsertExit, openDrainExit, openPlainExit, openFindAllExit}
+use Rattle.iset_c_open.specs.Replies.{openRemoveExit, openInsertExit, openDrainExit, openPlainExit, openFindAllExit, openWriteImageExit}
 
 module _ (A : List ℕ) (m : Map) (W C : List ℕ) where
   pub open-remove-kept : (s : ℕ) → Kept (openRemoveExit A m W C s) A (W ∷ C ∷ [])
@@ -26,6 +27,10 @@ module _ (A : List ℕ) (m : Map) (W C : List ℕ) where
   pub open-insert-kept : (e : Entry) → Kept (openInsertExit A m W C e) A (W ∷ C ∷ [])
   unfolding openInsertCall
   open-insert-kept e = effect-kept insertReply A W C (openInsertNumber m W C e) (insertEntry m W C e) _ refl
+
+  pub open-write-image-kept : (out : List ℕ) → Kept (openWriteImageExit A m W C out) A (out ∷ [])
+  unfolding openWriteImageCall
+  open-write-image-kept out = output-kept writeReply true A out (openWriteImageNumber m W C (length out)) _ _ refl
 
   -- of iset_open_drain and iset_open_drain_exact; b: whether the bounds have kinds
   pub open-drain-kept : (b : Bool) (q : Query) (c : Cursor) (limit : ℕ) (out : List ℕ) → Kept (openDrainExit b A m W C q c limit out) A (out ∷ [])

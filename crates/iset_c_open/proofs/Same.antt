@@ -15,10 +15,11 @@ use Rattle.iset.specs.Insert.{InsertAnswer}
 use Rattle.iset.specs.Lookup.{StartAnswer, StepAnswer, DrainAnswer}
 use Rattle.iset.specs.Tallies.{TallyAnswer}
 use Rattle.iset.specs.Ticket.{ReadAnswer}
+use Rattle.iset.specs.Image.{WriteAnswer}
 use Rattle.iset.specs.declared.Map.{Map}
-use Rattle.iset.proofs.Opened.{remove-is, insert-is, read-is, fresh-exact-is, step-is, drain-is, plain-is, find-all-is}
-use Rattle.iset_c.specs.Replies.{answerExit, effectExit, outputExit, removeReply, insertReply, readReply, startReply, stepReply, drainReply, tallyReply, removeExit, insertExit, readExit, startExit, stepExit, drainExit, plainExit, findAllExit}
-use Rattle.iset_c_open.specs.Replies.{openRemoveExit, openInsertExit, openReadExit, openStartExit, openStepExit, openDrainExit, openPlainExit, openFindAllExit}
+use Rattle.iset.proofs.Opened.{remove-is, insert-is, read-is, write-image-is, fresh-exact-is, step-is, drain-is, plain-is, find-all-is}
+use Rattle.iset_c.specs.Replies.{answerExit, effectExit, outputExit, removeReply, insertReply, readReply, writeReply, startReply, stepReply, drainReply, tallyReply, removeExit, insertExit, readExit, writeImageExit, startExit, stepExit, drainExit, plainExit, findAllExit}
+use Rattle.iset_c_open.specs.Replies.{openRemoveExit, openInsertExit, openReadExit, openWriteImageExit, openStartExit, openStepExit, openDrainExit, openPlainExit, openFindAllExit}
 use Rattle.iset.specs.declared.ticket.Ticket.{Ticket}
 
 module _ (A : List ℕ) (m : Map) (W C : List ℕ) (h : checkRule m W C ≡ 0) where
@@ -30,6 +31,9 @@ module _ (A : List ℕ) (m : Map) (W C : List ℕ) (h : checkRule m W C ≡ 0) w
 
   pub read-exit-is : (t : Ticket) → openReadExit A m W C t ≡ readExit A m W C t
   read-exit-is t = ap (λ (k : ReadAnswer). answerExit true A (readReply k)) (read-is m W C h t)
+
+  pub write-image-exit-is : (out : List ℕ) → openWriteImageExit A m W C out ≡ writeImageExit A m W C out
+  write-image-exit-is out = ap (λ (k : Output WriteAnswer). outputExit writeReply true A out k) (write-image-is m W C h out)
 
   pub start-exit-is : (x : Interval) → openStartExit A m W C x ≡ startExit A m W C x
   start-exit-is x = ap (λ (k : StartAnswer). answerExit true A (startReply k)) (fresh-exact-is m W C h x)

@@ -14,8 +14,9 @@ use Rattle.iset.specs.Lookup.{openStartCall, openStepCall, openDrainCall}
 use Rattle.iset.specs.Plain.{openPlainCall}
 use Rattle.iset.specs.Find.{openFindAllCall}
 use Rattle.iset.specs.Ticket.{openReadCall}
+use Rattle.iset.specs.Image.{openWriteImageCall}
 use Rattle.iset.specs.declared.Map.{Map}
-use Rattle.iset_c.specs.Replies.{Exit, answerExit, effectExit, outputExit, removeReply, insertReply, readReply, startReply, stepReply, drainReply, tallyReply}
+use Rattle.iset_c.specs.Replies.{Exit, answerExit, effectExit, outputExit, removeReply, insertReply, readReply, writeReply, startReply, stepReply, drainReply, tallyReply}
 use Rattle.iset.specs.declared.ticket.Ticket.{Ticket}
 
 abbrev pub openRemoveExit : (places : List ℕ) (map : Map) (words colours : List ℕ) (slot : ℕ) → Exit
@@ -28,6 +29,9 @@ openInsertExit A m W C e = effectExit insertReply A W C (openInsertCall m W C e)
 abbrev pub openReadExit : (places : List ℕ) (map : Map) (words colours : List ℕ) (ticket : Ticket)
     → Exit
 openReadExit A m W C t = answerExit true A (readReply (openReadCall m W C t))
+
+abbrev pub openWriteImageExit : (places : List ℕ) (map : Map) (words colours out : List ℕ) → Exit
+openWriteImageExit A m W C out = outputExit writeReply true A out (openWriteImageCall m W C out)
 
 abbrev pub openStartExit : (places : List ℕ) (map : Map) (words colours : List ℕ)
     (interval : Interval) → Exit

@@ -3,6 +3,7 @@
 // refusals and their order are those of crate iset_c, except that Broken is never returned.
 pub mod find;
 pub mod lookup;
+pub mod save;
 pub mod scan;
 pub mod ticket;
 
