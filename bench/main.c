@@ -4,8 +4,8 @@
    and how this library's time for one entry or one lookup grows from the least size on. The answers
    of both sides are compared. This library's calls are the exports. These are the opened calls,
    from C and through the Rust type `Store`, and of the public calls the check, the build, the
-   writing and reading of an image and, if the case says so, the point lookups, each of which checks
-   the whole store. If a case says `against` another call of this library, both sides are this
+   writing and reading of an image, the lookup in one and, if the case says so, the point lookups,
+   each of which checks the whole store. If a case says `against` another call of this library, both sides are this
    library's. */
 #include <stdbool.h>
 #include <stdint.h>
@@ -14,6 +14,8 @@
 #include <string.h>
 #include <time.h>
 
+#include "iset_disjoint.h"
+#include "iset_image.h"
 #include "iset_open.h"
 
 typedef struct map map;
@@ -31,6 +33,7 @@ uint64_t rust_exact(const map *m, uint64_t start, uint64_t end);
 bool rust_check(const uint64_t *w, size_t wn, const uint8_t *b, size_t bn, uint64_t count, uint64_t root);
 size_t rust_write_image(const uint64_t *w, size_t wn, const uint8_t *b, size_t bn, uint64_t count, uint64_t root, uint8_t *image, size_t room);
 uint64_t rust_read_image(uint64_t *w, size_t wn, uint8_t *b, size_t bn, const uint8_t *image, size_t size);
+uint64_t rust_image_count(const uint8_t *image, size_t size, uint64_t address, bool tested);
 
 typedef struct store store;
 store *store_open(uint64_t count, uint64_t root, uint64_t *w, size_t wn, uint8_t *b, size_t bn);
@@ -40,6 +43,11 @@ uint64_t store_insert(store *s, uint64_t start, uint64_t end, uint64_t value);
 uint64_t store_all(const store *s);
 uint64_t store_point(const store *s, uint64_t p);
 uint64_t store_exact(const store *s, uint64_t start, uint64_t end);
+typedef struct disjoint disjoint;
+disjoint *disjoint_open(uint64_t count, uint64_t root, uint64_t *w, size_t wn, uint8_t *b, size_t bn);
+void disjoint_close(disjoint *s);
+uint64_t disjoint_point(const disjoint *s, uint64_t p);
+uint64_t rust_search(const uint64_t *list, size_t n, uint64_t p);
 
 /* Rust's libraries name it; nothing here unwinds. */
 void rust_eh_personality(void) {}
@@ -370,6 +378,16 @@ static void after_read(void) {
     same(memcmp(spare, words, 64 * n) != 0, 0, "the map that was read");
 }
 
+/* An address in the middle of the image that was written last, against a Rust lookup in the bytes
+   with the same tests and without, and against the check of the map itself. */
+static uint64_t held_by;
+static uint64_t middle(void) { return list[3 * (n / 2)]; }
+static void before_count(void) { held_by = rust_image_count(image, ISET_IMAGE_LEN(n), middle(), false); }
+static uint64_t count_tested(void) { return rust_image_count(image, ISET_IMAGE_LEN(n), middle(), true); }
+static uint64_t count_untested(void) { return rust_image_count(image, ISET_IMAGE_LEN(n), middle(), false); }
+static uint64_t count_checked(void) { return check_ours() * held_by; }
+static uint64_t count_ours(void) { return iset_image_count(image, ISET_IMAGE_LEN(n), middle()); }
+
 /* The words are the same. The crate's colours differ at 65,535 entries, see docs/DIFFERENCES.md. */
 static map *built;
 static uint64_t built_root;
@@ -389,6 +407,46 @@ static void after_build(void) {
     rust_free(built);
 }
 
+/* Maps in which no two ranges overlap: one address beside the crate's overlap lookup of it, and
+   beside a binary search over a sorted slice; the check beside that of any map; and insertion, which
+   looks for an overlap first, beside the crate's, which does not. */
+static disjoint *opened_disjoint;
+static uint64_t apart_ours(void) {
+    uint64_t sum = 0, answer[ISET_POINT_ANSWER] = {0};
+    for (size_t k = 0; k < LOOKUPS; k++) {
+        iset_open_disjoint_point(n, root, words, 8 * n, bytes, colour_bytes, points[k], answer, ISET_POINT_ANSWER);
+        sum = 3 * sum + (answer[0] == ISET_U ? 0 : words[8 * answer[0] + ISET_VALUE]);
+    }
+    return sum;
+}
+static uint64_t apart_searched(void) {
+    uint64_t sum = 0;
+    for (size_t k = 0; k < LOOKUPS; k++)
+        sum = 3 * sum + rust_search(list, n, points[k]);
+    return sum;
+}
+static void before_disjoint_points(void) {
+    before_points();
+    opened_disjoint = disjoint_open(n, root, words, 8 * n, bytes, colour_bytes);
+}
+static void close_disjoint(void) { disjoint_close(opened_disjoint); }
+static uint64_t apart_by_store(void) {
+    uint64_t sum = 0;
+    for (size_t k = 0; k < LOOKUPS; k++)
+        sum = 3 * sum + disjoint_point(opened_disjoint, points[k]);
+    return sum;
+}
+static uint64_t apart_check(void) { return iset_disjoint_check(n, root, words, 8 * n, bytes, colour_bytes) == ISET_OK; }
+static uint64_t apart_insert(void) {
+    uint64_t answer[ISET_INSERT_ANSWER] = {0, ISET_U};
+    for (size_t k = 0; k < n; k++) {
+        const uint64_t *entry = mixed + 3 * k;
+        iset_open_disjoint_insert(answer[0], answer[1], (uint32_t)answer[4], spare, 8 * n, spare_bytes, colour_bytes, entry[0], entry[1], entry[2], answer, ISET_INSERT_ANSWER);
+    }
+    grown_root = answer[1];
+    return 0;
+}
+
 /* The entries of the list in a random order. */
 static void mix(void) {
     memcpy(mixed, list, 24 * n);
@@ -400,19 +458,21 @@ static void mix(void) {
     }
 }
 
-/* Lists n entries. Each `equals` of them in a row have the same range. */
+/* Lists n entries of `width` addresses. Each `equals` of them in a row have the same range. With a
+   width of at most 5 no two others intersect. */
+static uint64_t width = 12;
 static void start(size_t size, uint64_t equals) {
     n = size;
     colour_bytes = n / 8 + 1;
     for (size_t k = 0; k < n; k++) {
         uint64_t group = k / equals;
         list[3 * k] = 5 * group;
-        list[3 * k + 1] = 5 * group + 12;
+        list[3 * k + 1] = 5 * group + width;
         list[3 * k + 2] = k;
         slots[k] = any(n - k);
     }
     mix();
-    range_end = 5 * (n / equals) + 12;
+    range_end = 5 * (n / equals) + width;
     if (equals == 1) {
         crate = rust_build(list, n);
     } else {
@@ -447,9 +507,17 @@ int main(int words_given, char **given) {
         point_rust = {"point lookups, Store", before_store_points, points_theirs, points_by_store, close_store, 0},
         exact_rust = {"exact lookups, 16 equals each, Store", open_store, exact_theirs, exact_by_store, close_store, 0},
         check = {"check, against a plain Rust check", nothing, check_theirs, check_ours, nothing, 0},
+        apart = {"point lookups in a disjoint map, opened", before_points, points_theirs, apart_ours, nothing, 0},
+        apart_slice = {"point lookups in a disjoint map, against a binary search in a slice", before_points, apart_searched, apart_ours, nothing, 0},
+        apart_rust = {"point lookups in a disjoint map, DisjointStore", before_disjoint_points, points_theirs, apart_by_store, close_disjoint, 0},
+        apart_checked = {"disjoint check, against the check", nothing, check_ours, apart_check, nothing, 0},
+        apart_inserted = {"insertion of every entry into a disjoint map, opened", before_insertion, insert_theirs, apart_insert, after_insertion, 0},
         build = {"build, against from_sorted", nothing, build_theirs, build_ours, after_build, 0},
         write = {"write an image, against a plain Rust writer", nothing, write_theirs, write_ours, after_write, 0},
-        read = {"read an image, against a plain Rust reader", nothing, read_theirs, read_ours, after_read, 0};
+        read = {"read an image, against a plain Rust reader", nothing, read_theirs, read_ours, after_read, 0},
+        count = {"count in an image, against a plain Rust lookup with the same tests", nothing, count_tested, count_ours, nothing, 0},
+        count_bare = {"count in an image, against one without tests", nothing, count_untested, count_ours, nothing, 0},
+        count_check = {"count in an image, against the check", before_count, count_checked, count_ours, nothing, 0};
     static const size_t sizes[] = {1000, 16000, 65535};
     for (int k = 0; k < 3; k++) {
         start(sizes[k], 1);
@@ -475,11 +543,23 @@ int main(int words_given, char **given) {
         measure(&build, n);
         measure(&write, n);
         measure(&read, n);
+        measure(&count, n);
+        measure(&count_bare, n);
+        measure(&count_check, n);
         rust_free(crate);
         start(sizes[k], 16);
         measure(&exact, n / 16);
         measure(&exact_rust, n / 16);
         rust_free(crate);
+        width = 4;
+        start(sizes[k], 1);
+        measure(&apart, LOOKUPS);
+        measure(&apart_slice, LOOKUPS);
+        measure(&apart_rust, LOOKUPS);
+        measure(&apart_checked, n);
+        measure(&apart_inserted, n);
+        rust_free(crate);
+        width = 12;
     }
     return 0;
 }

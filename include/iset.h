@@ -8,7 +8,7 @@
  *     gcc -std=c99 -I include examples/host.c target/staticlib/libiset.a -o host
  *
  * `./archive` proves the library and writes libiset.a. include/iset_map.h has the same calls with
- * structs instead of single numbers.
+ * structs instead of single numbers. include/iset_image.h looks an address up in a saved map.
  *
  * A map is its count, its root and its version, three numbers that are passed by value. Each change
  * answers the new ones. The entries are in two lent arrays:
@@ -100,7 +100,10 @@ enum iset_refusal {
     ISET_BAD_BIT = 10,        /* of bit vectors and stacks; none of these calls returns it */
     ISET_STALE = 11,          /* the map has changed since the ticket was taken */
     ISET_BAD_IMAGE = 12,      /* the bytes have not the layout or the length of an image */
-    /* Later refusals of the map are numbered from 13. These two belong to the calls from C: */
+    ISET_OVERLAP = 13,        /* a stored entry intersects the new one (iset_disjoint.h) */
+    ISET_NOT_DISJOINT = 14,   /* two entries intersect (iset_disjoint.h) */
+    ISET_BAD_PLAN = 15,       /* none of these calls returns it yet */
+    /* Later refusals of the map are numbered from 16. These two belong to the calls from C: */
     ISET_SHORT_ANSWER = 101,  /* `answer` has fewer places than the answer has numbers */
     ISET_BAD_BOUND = 102      /* a bound's kind is not 0, 1 or 2 */
 };
@@ -185,6 +188,9 @@ static inline const char *iset_refusal_name(uint64_t no) {
     case ISET_BAD_BIT: return "no such bit";
     case ISET_STALE: return "the map has changed since the ticket was taken";
     case ISET_BAD_IMAGE: return "the bytes are not laid out as an image";
+    case ISET_OVERLAP: return "a stored entry intersects the new one";
+    case ISET_NOT_DISJOINT: return "two entries intersect";
+    case ISET_BAD_PLAN: return "the plan does not name each slot once";
     case ISET_SHORT_ANSWER: return "the answer is too short";
     case ISET_BAD_BOUND: return "a bound's kind is not 0, 1 or 2";
     default: return "unknown refusal";

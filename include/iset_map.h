@@ -1,4 +1,4 @@
-/* The calls of iset.h and iset_open.h with structs: one for each thing that those take or answer as
+/* The calls of iset.h, iset_open.h and iset_disjoint.h with structs: one for each thing that those take or answer as
  * single numbers. All of it is static inline code over those calls.
  *
  * A wrapper takes the arguments of its call in its call's order, with a struct for a map, for the
@@ -12,11 +12,16 @@
  * who may use it. For these link libiset_open.a too. A host that uses none of them does not need
  * it. iset_map_at and iset_map_open_at make the calls find_all for one address.
  *
+ * iset_map_disjoint_NAME and iset_map_open_disjoint_NAME make the calls of iset_disjoint.h; for these
+ * link libiset_disjoint.a. An insertion that they refuse with OVERLAP has the slot that is named in
+ * its answer.
+ *
  * An example is examples/host_map.c. */
 #ifndef ISET_MAP_H
 #define ISET_MAP_H
 
 #include "iset.h"
+#include "iset_disjoint.h"
 #include "iset_open.h"
 
 #ifdef __cplusplus
@@ -103,6 +108,12 @@ typedef struct iset_drained {
 typedef struct iset_tally {
     uint64_t hits, entered;
 } iset_tally;
+
+/* The answer of a point lookup in a disjoint map: the slot of the entry that holds the address,
+ * ISET_U if there is none; the number of nodes entered. */
+typedef struct iset_spot {
+    uint64_t slot, entered;
+} iset_spot;
 
 /* The map of no entries. */
 static inline iset_map iset_map_none(void) {
@@ -547,6 +558,74 @@ static inline uint64_t iset_map_open_find_all_exact(iset_map map, iset_memory me
 static inline uint64_t iset_map_open_at(iset_map map, iset_memory memory, uint64_t address,
     uint64_t *out, size_t out_len, iset_tally *tally) {
     return iset_map_open_find_all(map, memory, iset_range_at(address), out, out_len, tally);
+}
+
+/* The calls of disjoint maps, and their opened forms. */
+
+static inline uint64_t iset_map_disjoint_check(iset_map map, iset_memory memory) {
+    return iset_disjoint_check(ISET_LENT_(map, memory));
+}
+
+static inline uint64_t iset_map_disjoint_point(iset_map map, iset_memory memory,
+    uint64_t address, iset_spot *spot) {
+    uint64_t answer[ISET_POINT_ANSWER] = {ISET_U, 0};
+    uint64_t no = iset_disjoint_point(ISET_LENT_(map, memory), address, answer, ISET_POINT_ANSWER);
+    spot->slot = answer[ISET_POINT_SLOT];
+    spot->entered = answer[ISET_POINT_ENTERED];
+    return no;
+}
+
+static inline uint64_t iset_map_disjoint_insert(iset_map *map, iset_memory memory,
+    iset_entry entry, iset_inserted *inserted) {
+    uint64_t answer[ISET_INSERT_ANSWER] = ISET_NOT_INSERTED_(*map);
+    uint64_t no = iset_disjoint_insert(ISET_DATED_(*map, memory), entry.start, entry.end,
+        entry.value, answer, ISET_INSERT_ANSWER);
+    *map = iset_map_(
+        answer[ISET_INSERTED_COUNT], answer[ISET_INSERTED_ROOT], answer[ISET_INSERTED_VERSION]);
+    *inserted = iset_inserted_(answer);
+    return no;
+}
+
+static inline uint64_t iset_map_disjoint_remove(iset_map *map, iset_memory memory, uint64_t slot,
+    iset_removed *removed) {
+    uint64_t answer[ISET_REMOVE_ANSWER] = ISET_NOT_REMOVED_(*map);
+    uint64_t no = iset_disjoint_remove(ISET_DATED_(*map, memory), slot, answer,
+        ISET_REMOVE_ANSWER);
+    *map = iset_map_(
+        answer[ISET_REMOVED_COUNT], answer[ISET_REMOVED_ROOT], answer[ISET_REMOVED_VERSION]);
+    *removed = iset_removed_(no == ISET_OK ? slot : ISET_U, answer);
+    return no;
+}
+
+static inline uint64_t iset_map_open_disjoint_point(iset_map map, iset_memory memory,
+    uint64_t address, iset_spot *spot) {
+    uint64_t answer[ISET_POINT_ANSWER] = {ISET_U, 0};
+    uint64_t no = iset_open_disjoint_point(ISET_LENT_(map, memory), address, answer, ISET_POINT_ANSWER);
+    spot->slot = answer[ISET_POINT_SLOT];
+    spot->entered = answer[ISET_POINT_ENTERED];
+    return no;
+}
+
+static inline uint64_t iset_map_open_disjoint_insert(iset_map *map, iset_memory memory,
+    iset_entry entry, iset_inserted *inserted) {
+    uint64_t answer[ISET_INSERT_ANSWER] = ISET_NOT_INSERTED_(*map);
+    uint64_t no = iset_open_disjoint_insert(ISET_DATED_(*map, memory), entry.start, entry.end,
+        entry.value, answer, ISET_INSERT_ANSWER);
+    *map = iset_map_(
+        answer[ISET_INSERTED_COUNT], answer[ISET_INSERTED_ROOT], answer[ISET_INSERTED_VERSION]);
+    *inserted = iset_inserted_(answer);
+    return no;
+}
+
+static inline uint64_t iset_map_open_disjoint_remove(iset_map *map, iset_memory memory, uint64_t slot,
+    iset_removed *removed) {
+    uint64_t answer[ISET_REMOVE_ANSWER] = ISET_NOT_REMOVED_(*map);
+    uint64_t no = iset_open_disjoint_remove(ISET_DATED_(*map, memory), slot, answer,
+        ISET_REMOVE_ANSWER);
+    *map = iset_map_(
+        answer[ISET_REMOVED_COUNT], answer[ISET_REMOVED_ROOT], answer[ISET_REMOVED_VERSION]);
+    *removed = iset_removed_(no == ISET_OK ? slot : ISET_U, answer);
+    return no;
 }
 
 #undef ISET_LENT_

@@ -7,7 +7,7 @@ import sys
 import model
 
 U = model.U
-MOST_WORDS, MOST_BYTES, MOST_LIST, MOST_ROOM = 32768, 512, 12288, 4096
+MOST_WORDS, MOST_COLOURS, MOST_BYTES, MOST_LIST, MOST_ROOM = 32768, 512, 16384, 12288, 4096
 
 
 class What(Exception):
@@ -37,16 +37,16 @@ class Numbers:
         return [self.one(below) for _ in range(n)]
 
     def query(self):
-        fits(self.tokens and self.tokens[0] in ("o", "e"))
+        fits(self.tokens and self.tokens[0] in ("o", "e", "r"))
         kind = self.tokens.pop(0)
         if kind == "e":
             return kind, self.one(), self.one()
-        bounds = ()
+        query = (kind, self.one()) if kind == "r" else (kind,)
         for _ in range(2):
             bound, x = self.one(3), self.one()
             fits(bound < 2 or x == 0)
-            bounds += bound, x
-        return (kind,) + bounds
+            query += bound, x
+        return query
 
     def cursor(self):
         return self.one(), self.one(), self.one()
@@ -71,7 +71,7 @@ class Drive:
         self.left = {}
 
     def do_store(self, numbers):
-        store = model.Store(numbers.one(), numbers.one(), numbers.list(MOST_WORDS), numbers.list(MOST_BYTES, 256))
+        store = model.Store(numbers.one(), numbers.one(), numbers.list(MOST_WORDS), numbers.list(MOST_COLOURS, 256))
         numbers.end()
         self.store = store
 
@@ -109,6 +109,25 @@ class Drive:
         numbers.end()
         return self.on_store(model.insert, *entry)
 
+    def do_checkd(self, numbers):
+        numbers.end()
+        return self.on_store(model.check_disjoint)
+
+    def do_point(self, numbers):
+        address = numbers.one()
+        numbers.end()
+        return self.on_store(model.point, address)
+
+    def do_insertd(self, numbers):
+        entry = numbers.one(), numbers.one(), numbers.one()
+        numbers.end()
+        return self.on_store(model.insert_disjoint, *entry)
+
+    def do_removed(self, numbers):
+        slot = numbers.one()
+        numbers.end()
+        return self.on_store(model.remove_disjoint, slot)
+
     def do_version(self, numbers):
         version = numbers.one(2**32)
         numbers.end()
@@ -133,7 +152,7 @@ class Drive:
     def do_fresh(self, numbers):
         query = numbers.query()
         numbers.end()
-        if query[0] == "o":
+        if query[0] != "e":
             return f"0 {self.store.root} 1 0"
         no = model.refuse_store(self.store) or model.refuse_query(query)
         return f"{no} {U} 0 0" if no else f"0 {model.first(self.store, query)} 1 0"
@@ -158,6 +177,28 @@ class Drive:
 
     def do_find(self, numbers):
         return self.at_once(model.find_all, numbers)
+
+    def do_write(self, numbers):
+        room = numbers.one(MOST_BYTES + 1)
+        numbers.end()
+        out = [238] * room
+        answer = self.on_store(lambda s: " ".join(map(str, [model.write_image(s, out), room, *out])))
+        no, length = map(int, answer.split(" ")[:2])
+        if no == 0:
+            self.left = {"bytes": out[:length]}
+        return answer
+
+    def do_load(self, numbers):
+        version = numbers.one(2**32)
+        numbers.end()
+        return self.on_store(model.read_image, version, self.bytes)
+
+    def do_chost(self, numbers):
+        address, k = numbers.one(), numbers.one()
+        numbers.end()
+        image = self.bytes
+        answer = model.image_count(image, address), model.image_value(image, address, k), model.image_refusal(image, address, k)
+        return self.on_store(lambda s: "%d %d %d" % answer)
 
     def bit_call(self, name, numbers):
         length = numbers.one()

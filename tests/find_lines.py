@@ -1,7 +1,7 @@
 #!/usr/bin/env python3
 """Lines for `drive` about the fast lookup: the queries of tests/plain_lines.py, into outputs that
-hold no hit, one hit less than there are, all of them, and more. crates/drive/stdin ends with these
-lines."""
+hold no hit, one hit less than there are, all of them, and more. crates/drive/stdin has these lines
+before those of tests/ticket_lines.py."""
 import model
 from lookups import U, start
 from plain_lines import lines

@@ -6,95 +6,24 @@
     images.py           says whether the two files are so, and exits 1 if not
 """
 import pathlib
-import struct
 import sys
 
-CRATE = pathlib.Path(__file__).resolve().parent.parent / 'crates/test_images'
-U = 4294967295
-MOST = 65535
-ROOM = 64
+import model
+from stores import A, B, built
 
-# a map: root, and for each slot start, end, value, left, right, parent, red
-STORE_A = (2, [(10, 20, 1, U, U, 1, 1), (10, 30, 2, 0, U, 2, 0), (25, 40, 3, 1, 4, U, 0), (40, 50, 4, U, U, 4, 1), (45, 60, 5, 3, U, 2, 0)])
-STORE_B = (1, [(5, 9, 1, U, U, 1, 0), (5, 9, 2, 0, 2, U, 0), (5, 9, 3, U, U, 1, 0)])
+CRATE = pathlib.Path(__file__).resolve().parent.parent / 'crates/test_images'
+ROOM = 64
 
 
 def balanced(n):
-    """A map of n entries whose deepest level is red, unless it is full."""
-    red_depth = n.bit_length() - 1 if n & (n + 1) else n + 1
-    slots = [None] * n
-
-    def place(low, high, parent, depth):
-        if low == high:
-            return U
-        s = (low + high) // 2
-        left, right = place(low, s, s, depth + 1), place(s + 1, high, s, depth + 1)
-        slots[s] = (3 * s, 3 * s + 7, 2 ** 63 + s, left, right, parent, int(depth == red_depth))
-        return s
-    return place(0, n, U, 0), slots
-
-
-def pack(root, slots):
-    n = len(slots)
-    colours = bytearray((n + 7) // 8)
-    for s, slot in enumerate(slots):
-        colours[s // 8] |= slot[6] << s % 8
-    head = struct.pack('<2I', n, root) + table(n)
-    return head + b''.join(struct.pack('<3Q', *x[:3]) for x in slots) + b''.join(struct.pack('<3I', *x[3:6]) for x in slots) + bytes(colours)
-
-
-def table(n):
-    rows = (1, 44, 24 * n, 2, 44 + 24 * n, 12 * n, 3, 44 + 36 * n, (n + 7) // 8)
-    return b''.join(x.to_bytes(4, 'little') for x in rows) if rows[7] <= U else b''
-
-
-def unpack(image):
-    """Root and slots of an image, or None if it is not laid out."""
-    if len(image) < 44:
-        return None
-    n, root = struct.unpack_from('<2I', image)
-    if image[8:44] != table(n) or len(image) != 44 + 36 * n + (n + 7) // 8:
-        return None
-    if n % 8 and image[-1] >> n % 8:
-        return None
-    slots = []
-    for s in range(n):
-        red = image[44 + 36 * n + s // 8] >> s % 8 & 1
-        slots.append(struct.unpack_from('<3Q', image, 44 + 24 * s) + struct.unpack_from('<3I', image, 44 + 24 * n + 12 * s) + (red,))
-    return root, slots
-
-
-def passes(root, slots):
-    """Document 01's check, but for the hulls, which are worked out and so are right."""
-    n, seen, order = len(slots), set(), []
-
-    def blacks(link, parent, red_above):
-        """How many blacks each way down has, or None if something is wrong."""
-        if link == U:
-            return 0
-        if link >= n or link in seen:
-            return None
-        seen.add(link)
-        start, end, _, left, right, up, red = slots[link]
-        if up != parent or start >= end or red and red_above:
-            return None
-        a = blacks(left, link, red)
-        order.append((start, end))
-        b = blacks(right, link, red)
-        return None if a is None or b is None or a != b else a + 1 - red
-    return blacks(root, U, True) is not None and len(seen) == n and order == sorted(order)
+    return built([x for s in range(n) for x in (3 * s, 3 * s + 7, 2 ** 63 + s)])
 
 
 def outcome(image):
     """The refusal's number, or 0 if it is accepted and written back to the same bytes, or 99."""
-    found = unpack(image)
-    if found is None:
-        return 12
-    if len(found[1]) > min(ROOM, MOST):
-        return 1
-    if not passes(*found):
-        return 2
-    return 0 if pack(*found) == image else 99
+    target = model.Store(0, model.U, [7] * 8 * ROOM, [255] * (ROOM // 8))
+    no = int(model.read_image(target, 0, image).split()[0])
+    return no or (0 if model.image_of(target) == image else 99)
 
 
 def tally(images):
@@ -115,8 +44,8 @@ def line(image):
 
 
 def images():
-    maps = [(U, []), balanced(1), STORE_B, STORE_A, balanced(8), balanced(9), balanced(64), balanced(65)]
-    return [pack(*m) for m in maps]
+    stores = [built([]), balanced(1), built(B), built(A), balanced(8), balanced(9), balanced(64), balanced(65)]
+    return [model.image_of(s) for s in stores]
 
 
 def main():

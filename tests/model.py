@@ -1,8 +1,9 @@
 #!/usr/bin/env python3
 """What the calls return and leave, from the words of document 01, of document 02 for insertion,
-tickets and the plain lookup, and of docs/RULES.md for the fast lookup, in plain lists and recursion.
-It takes nothing from the code of the crate iset or of this project. tests/drive.py prints what it
-returns."""
+tickets, images, the plain lookup, disjoint maps and the second rule of ranges, and of docs/RULES.md
+for the fast lookup, in plain lists and recursion. It takes nothing from the code of the crate iset
+or of this project. tests/drive.py prints what it returns."""
+import struct
 
 U = 4294967295
 START, END, VALUE, LO, HI, LEFT, RIGHT, PARENT = range(8)
@@ -17,7 +18,7 @@ class Store:
         return Store(self.count, self.root, list(self.words), list(self.colours), self.version)
 
     def raise_version(self):
-        """One accepted build, removal or insertion."""
+        """One accepted build, removal, insertion or reading of an image."""
         self.version = (self.version + 1) % 2**32
 
     def get(self, slot, word):
@@ -290,28 +291,127 @@ def read(s, slot, taken):
     return "%d 0 0 0" % no if no else "0 %d %d %d" % (s.key(slot) + (s.get(slot, VALUE),))
 
 
-# Looking up
+# Images: a map as bytes, docs/IMAGE.md
+
+def table(n):
+    """The table of contents that follows from the count, or nothing if a number of it does not fit 4 bytes."""
+    rows = 1, 44, 24 * n, 2, 44 + 24 * n, 12 * n, 3, 44 + 36 * n, (n + 7) // 8
+    return struct.pack("<9I", *rows) if max(rows) <= U else b""
+
+
+def image_length(n):
+    return 44 + 36 * n + (n + 7) // 8
+
+
+def image_of(s):
+    """The bytes of a store that passes."""
+    slots = range(s.count)
+    colours = bytearray((s.count + 7) // 8)
+    for slot in slots:
+        colours[slot // 8] |= s.red(slot) << slot % 8
+    entries = b"".join(struct.pack("<3Q", *s.words[8 * slot:8 * slot + 3]) for slot in slots)
+    links = b"".join(struct.pack("<3I", *s.words[8 * slot + 5:8 * slot + 8]) for slot in slots)
+    return struct.pack("<2I", s.count, s.root) + table(s.count) + entries + links + bytes(colours)
+
+
+def write_image(s, out):
+    """To the front of the list `out`."""
+    no = refuse_store(s) or (9 if len(out) < image_length(s.count) else 0)
+    image = b"" if no else image_of(s)
+    out[:len(image)] = image
+    return "%d %d" % (no, len(image))
+
+
+def is_laid_out(image):
+    if len(image) < 44:
+        return False
+    n = struct.unpack_from("<I", image)[0]
+    return image[8:44] == table(n) and len(image) == image_length(n) and (n % 8 == 0 or image[-1] >> n % 8 == 0)
+
+
+def work_out(s, slot, seen):
+    """The hulls of a subtree, children first. A link that leads to no slot, or to one that was visited, ends the way."""
+    if slot >= s.count or slot in seen:
+        return
+    seen.add(slot)
+    below = [c for c in (s.get(slot, LEFT), s.get(slot, RIGHT)) if c != U]
+    for child in below:
+        work_out(s, child, seen)
+    if all(child < s.count for child in below):
+        s.rehull(slot)
+
+
+def store_in(image):
+    """The store in an image that is laid out, with room for its entries alone; each hull is the entry's own interval."""
+    n, root = struct.unpack_from("<2I", image)
+    words = []
+    for slot in range(n):
+        start, end, value = struct.unpack_from("<3Q", image, 44 + 24 * slot)
+        words += start, end, value, start, end, *struct.unpack_from("<3I", image, 44 + 24 * n + 12 * slot)
+    return Store(n, root, words, list(image[44 + 36 * n:]))
+
+
+def judge(image, capacity):
+    """The refusal's number, 0 if there is none, and the store in the image then, with the hulls worked out."""
+    if not is_laid_out(image):
+        return 12, None
+    found = store_in(image)
+    if found.count > capacity:
+        return 1, None
+    work_out(found, found.root, set())
+    return (0, found) if found.passes() else (2, None)
+
+
+def read_image(s, version, image):
+    """In the place of a map of that version, into the memory of `s`."""
+    s.count, s.root, s.version = 0, U, version
+    no, found = judge(bytes(image), s.capacity())
+    if no == 0:
+        s.count, s.root = found.count, found.root
+        s.words[:8 * s.count] = found.words
+        for slot in range(s.count):
+            s.paint(slot, found.red(slot))
+        s.raise_version()
+    return "%d %d %d %d" % (no, s.count, s.root, s.version)
+
+
+# Looking up. A query is ("o", bounds), ("r", rule, bounds) or ("e", start, end); the bounds are the last four.
 
 def allowed_left(q, hull_end):
-    return q[1] == 2 or hull_end >= q[2]
+    return q[-4] == 2 or hull_end >= q[-3]
 
 
 def allowed_right(q, hull_start):
-    return q[3] == 2 or (hull_start <= q[4] if q[3] == 0 else hull_start < q[4])
+    return q[-2] == 2 or (hull_start <= q[-1] if q[-2] == 0 else hull_start < q[-1])
+
+
+def holds_address(q, a):
+    low, x, high, y = q[-4:]
+    return (low == 2 or a > x or a == x and low == 0) and (high == 2 or a < y or a == y and high == 0)
+
+
+def whole(q, *intervals):
+    """Whether some address from 0 to 2^64 - 1 lies in the range and in the intervals. If one does, so does one of these few: the
+    bounds, their neighbours, and the ends of the intervals."""
+    few = [x + d for x in (q[-3], q[-1]) for d in (-1, 0, 1)] + [a for start, end in intervals for a in (start, end - 1)]
+    return any(0 <= a < 2**64 and holds_address(q, a) and all(start <= a < end for start, end in intervals) for a in few)
+
+
+def intersects(q, interval):
+    if q[:2] == ("r", 2):
+        return whole(q, interval)
+    return (q[-4] == 2 or interval[1] > q[-3]) and allowed_right(q, interval[0])
 
 
 def hit(s, q, slot):
-    if q[0] == "e":
-        return s.key(slot) == q[1:]
-    start, end = s.key(slot)
-    return (q[1] == 2 or end > q[2]) and allowed_right(q, start)
+    return s.key(slot) == q[1:] if q[0] == "e" else intersects(q, s.key(slot))
 
 
 def goes(s, q, slot, side):
     child = s.get(slot, side)
     if child == U:
         return False
-    if q[0] == "o":
+    if q[0] != "e":
         return allowed_left(q, s.get(child, HI)) if side == LEFT else allowed_right(q, s.get(child, LO))
     inside = s.get(child, LO) <= q[1] and q[2] <= s.get(child, HI)
     return inside and (q[1:] <= s.key(slot) if side == LEFT else q[1:] >= s.key(slot))
@@ -319,7 +419,7 @@ def goes(s, q, slot, side):
 
 def first(s, q):
     """The start: the root, or the highest equal node by a search through all of the tree, level by level."""
-    if q[0] == "o":
+    if q[0] != "e":
         return s.root
     level = [s.root] if s.root != U else []
     while level:
@@ -379,9 +479,12 @@ def after(s, q, top, slot):
 def refuse_query(q):
     if q[0] == "e":
         return 5 if q[1] >= q[2] else 0
-    if q[1] == 2 or q[3] == 2:
+    if q[0] == "r" and q[1] != 1:
+        return 0 if q[1] == 2 and whole(q) else 4
+    low, x, high, y = q[-4:]
+    if low == 2 or high == 2:
         return 0
-    return 4 if q[2] > q[4] or q[2] == q[4] and (q[1], q[3]) != (0, 0) else 0
+    return 4 if x > y or x == y and (low, high) != (0, 0) else 0
 
 
 def lookup(s, q, cursor, limit):
@@ -441,12 +544,12 @@ def plain(s, q, room):
 
 
 def enters(s, q, slot, side):
-    """Whether the fast lookup enters a child: it exists, its hull goes past lo, and hi admits its hull's start. For an interval the
+    """Whether the fast lookup enters a child: it exists, and its hull intersects the range as an entry does. For an interval the
     pruned lookup's rule tests both ends already."""
     child = s.get(slot, side)
     if q[0] == "e" or child == U:
         return goes(s, q, slot, side)
-    return (q[1] == 2 or s.get(child, HI) > q[2]) and allowed_right(q, s.get(child, LO))
+    return intersects(q, s.hull(child))
 
 
 def entered_fast(s, q, slot):
@@ -462,6 +565,33 @@ def find_all(s, q, room):
     hits = [slot for slot in nodes if hit(s, q, slot)]
     output = (hits + [777777] * room)[:room]
     return " ".join(map(str, (no, len(hits), len(nodes), room) + tuple(output)))
+
+
+# An address asked of an image, by document 02, item 7.
+
+def held_in(image, address):
+    """The image's refusal, 0 for none, and the values of the entries that hold the address, in tree order."""
+    no, s = judge(bytes(image), 65535)
+
+    def below(link):
+        if link == U:
+            return []
+        start, end = s.key(link)
+        return below(s.get(link, LEFT)) + [s.get(link, VALUE)] * (start <= address < end) + below(s.get(link, RIGHT))
+    return no, [] if no else below(s.root)
+
+
+def image_count(image, address):
+    return len(held_in(image, address)[1])
+
+
+def image_refusal(image, address, k):
+    no, values = held_in(image, address)
+    return no or 3 * (k >= len(values))
+
+
+def image_value(image, address, k):
+    return 0 if image_refusal(image, address, k) else held_in(image, address)[1][k]
 
 
 # Bits and stacks
@@ -500,3 +630,44 @@ def stack(name, levels, word):
         new = {"sleft": state | 2, "smatch": 1, "sright": 3}[name]
         word = word & ~(3 << low) | new << low
     return "0 %d %d %d" % (answer, levels, word)
+
+
+# Maps in which no two ranges overlap
+
+def met(x, y):
+    """Two intervals hold an address in common."""
+    return x[0] < y[1] and y[0] < x[1]
+
+
+def check_disjoint(s):
+    """The number of that map's check: after the store's own, all pairs of entries are compared."""
+    return refuse_store(s) or (14 if any(met(s.key(a), s.key(b)) for a in range(s.count) for b in range(a)) else 0)
+
+
+def point(s, address):
+    """The one entry that holds an address, of all entries; and how many nodes the way down to it compares."""
+    no = check_disjoint(s)
+    if no:
+        return "%d %d 0" % (no, U)
+    held = [slot for slot in range(s.count) if s.get(slot, START) <= address < s.get(slot, END)]
+    at, entered = s.root, 0
+    while at != U:
+        entered += 1
+        if at in held:
+            break
+        at = s.get(at, LEFT if address < s.get(at, START) else RIGHT)
+    assert [at] == (held or [U])
+    return "0 %d %d" % (at, entered)
+
+
+def insert_disjoint(s, start, end, value):
+    no = check_disjoint(s) or (5 if start >= end else 0)
+    meeting = [] if no else [slot for slot in in_order(s, s.root) if met(s.key(slot), (start, end))]
+    if meeting:
+        return "13 %d %d %d" % (s.count, s.root, meeting[0])
+    return "%d %d %d %d" % (no, s.count, s.root, U) if no else insert(s, start, end, value)
+
+
+def remove_disjoint(s, slot):
+    no = check_disjoint(s)
+    return "%d 0 %d %d" % (no, s.count, s.root) + " %d" % U * 6 if no else remove(s, slot)

@@ -2,7 +2,7 @@
 """Lines for `drive` about the plain lookup. Each query is made by a drain from the fresh cursor to
 its end, and then by the plain lookup, into outputs of every size that matters. Every refusal and
 each pair of refusals is tried. In crates/drive/stdin the lines of tests/find_lines.py come after
-these, and those of tests/ticket_lines.py last. tests/find_lines.py makes the same queries by the
+these. tests/find_lines.py makes the same queries by the
 fast lookup: `name` is the request and `look` makes one query."""
 import random
 

@@ -17,9 +17,9 @@ import sys
 TOP = pathlib.Path(__file__).resolve().parent.parent
 
 # Here every public function is a public call.
-CALLS = {'iset', 'iset_c', 'iset_c_open', 'slotlist_core', 'lines'}
+CALLS = {'iset', 'disjoint', 'image_host', 'iset_c', 'iset_c_open', 'iset_c_disjoint', 'iset_c_image', 'iset_c_ruled', 'slotlist_core', 'image_text', 'lines'}
 # But these modules hold what one crate of exports takes from the other: inner functions.
-INNER = {('iset_c', 'answer'), ('iset_c', 'range')}
+INNER = {('iset_c', 'answer'), ('iset_c', 'call'), ('iset_c', 'range'), ('iset_c_open', 'call'), ('iset_c_disjoint', 'answer')}
 # Here the public calls are those that return one of these types, and `new`. The others are inner
 # functions, as in all other crates.
 ANSWERS = {'bitvec': {'Answer'}, 'stack': {'Answer', 'Outcome', 'After'}}

@@ -2,7 +2,8 @@
 """Lines for `drive` about the check and the build: the stores of document 01, copies of them that
 break one clause each, and lists. They are one part of crates/drive/stdin. After it come the lines
 of tests/lookups.py, tests/insert_lines.py, tests/reach_lines.py, tests/plain_lines.py,
-tests/find_lines.py and tests/ticket_lines.py."""
+tests/find_lines.py, tests/ticket_lines.py, tests/image_lines.py, tests/host_lines.py,
+tests/disjoint_lines.py and tests/ruled_lines.py."""
 import model
 
 U = model.U

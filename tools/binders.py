@@ -99,6 +99,9 @@ MEANINGS = {
     'image_rule/Sought': """
         a address; e entry; k index of the hit asked for; x seen so far; E entries (by slot);
         L children (by side and slot); n count; s slot; l slots""",
+    'image_host': """
+        I image (its bytes); a address; k index of the hit asked for; L children (by side and slot);
+        n count; s slot; m map; W words; C colours; c reading (what the reader left); d drain""",
     'builder/Build': """
         S triples; a start of the span; b end of the span; f levels left for the span;
         d interval to extend; e entry; h hull; p parent; w words of the span; m number;
@@ -122,7 +125,15 @@ MEANINGS = {
         a:2 old slot; b byte; b:2 new slot""",
     'examples/Stores': 't store; s slot; e entry; S triples; k link; q range; h height',
     'examples/Table': 'a start; b end; v value; k count; s slot',
+    'disjoint': """
+        k number of a refusal; x address; l:[Call] calls; y refusal; g answer of the code;
+        P proof that the store passes""",
+    'disjoint/Place': 'a start; b end; s slot that was met',
+    'disjoint/Point': 'a spot; k number of a refusal; x address',
+    'disjoint/Sequence': 'S:State state; x call; l:[Call] calls',
+    'disjoint/Demands': 'S:State state; a slot; x address',
     'disjoint_core': 'a address',
+    'iset_c_disjoint/Replies': 'A places of the answer; a answer of the call; R reply; x address',
     'disjoint_rule': """
         W words; n count; s slot; m slots to test; r:Bool rest of the test; r root; x interval;
         a:Interval interval; b:Interval next interval; l:[Interval] intervals; l slots; a slot; b other slot""",
@@ -131,6 +142,13 @@ MEANINGS = {
     'first_rule': """
         D way down; W words; n count; k link; d slot further down; l nodes further down; s slot;
         p passes (the test of an end); m:ℕ→Bool admits (the test of a start); a slot behind the link; q range; r root""",
+    'image_text': 'I image (its bytes); n count; r root; s slot; m slots to print; k link; v red (whether the slot is)',
+    'image_text/Text': 'a left link; b right link; c parent; e entry',
+    'image_text/Words': """
+        w:Word word; d digit; b byte; v value; x longer value or other name; o name; s bytes""",
+    'image_text/Reading': """
+        s:State state; s:[ℕ] text; t stage; i place of a word in the text; o name; k slot;
+        j place of the word among the slot's; b byte""",
     'iset': """
         S:[ℕ] triples; s slot; e entry; x interval; q:Query query; q:Span range; q range; c cursor;
         k number of a refusal; y refusal; a answer; g answer of the code; t tree; p test of a slot;

@@ -1,4 +1,4 @@
-//! A plain Rust writer and reader of images, with the tests that the library's calls make.
+//! A plain Rust writer, reader and lookup of images, with the tests that the library's calls make.
 use super::{rust_check, Seen, U};
 use core::slice::{from_raw_parts, from_raw_parts_mut};
 
@@ -91,13 +91,11 @@ impl Image<'_> {
     }
 }
 
-/// The image's root, or 2^32 where the image is refused.
-#[no_mangle]
-pub unsafe extern "C" fn rust_read_image(words: *mut u64, w: usize, bytes: *mut u8, b: usize, image: *const u8, size: usize) -> u64 {
-    let refused = 1 << 32;
-    let image = from_raw_parts(image, size);
+/// The map of an image and its root, if the bytes are laid out as one.
+fn parsed(image: &[u8]) -> Option<(Image<'_>, u64)> {
+    let size = image.len();
     if size < 44 {
-        return refused;
+        return None;
     }
     let mut head = [0; 11];
     for (number, place) in head.iter_mut().zip(image.chunks_exact(4)) {
@@ -106,17 +104,55 @@ pub unsafe extern "C" fn rust_read_image(words: *mut u64, w: usize, bytes: *mut 
     let n = head[0] as usize;
     let long = 44 + 36 * n + (n + 7) / 8;
     if n > 65536 || head != heading(n, head[1]) || size != long || n % 8 != 0 && image[size - 1] >> (n % 8) != 0 {
-        return refused;
+        return None;
     }
     let (entries, rest) = image[44..].split_at(24 * n);
     let (links, colours) = rest.split_at(12 * n);
-    let map = Image { entries, links, colours, count: n as u64 };
-    let good = match map.subtree(head[1] as u64, U, 33) {
-        None => false,
-        Some(None) => n == 0,
-        Some(Some(seen)) => seen.size == n as u64 && !seen.red,
+    Some((Image { entries, links, colours, count: n as u64 }, head[1] as u64))
+}
+
+impl Image<'_> {
+    /// The check of the whole map.
+    fn good(&self, root: u64) -> bool {
+        match self.subtree(root, U, 33) {
+            None => false,
+            Some(None) => self.count == 0,
+            Some(Some(seen)) => seen.size == self.count && !seen.red,
+        }
+    }
+
+    /// How many entries below a link hold an address.
+    fn holding(&self, link: u64, address: u64) -> u64 {
+        if link >= self.count {
+            return 0;
+        }
+        let s = link as usize;
+        let left = self.holding(self.link(s, 0), address);
+        let here = self.number(s, 0) <= address && address < self.number(s, 1);
+        left + here as u64 + self.holding(self.link(s, 1), address)
+    }
+}
+
+/// How many entries of an image hold an address: with the library's tests, or without any but the
+/// layout.
+#[no_mangle]
+pub unsafe extern "C" fn rust_image_count(image: *const u8, size: usize, address: u64, tested: bool) -> u64 {
+    match parsed(from_raw_parts(image, size)) {
+        Some((map, root)) if !tested || map.count < 65536 && map.good(root) => map.holding(root, address),
+        _ => 0,
+    }
+}
+
+/// The image's root, or 2^32 where the image is refused.
+#[no_mangle]
+pub unsafe extern "C" fn rust_read_image(words: *mut u64, w: usize, bytes: *mut u8, b: usize, image: *const u8, size: usize) -> u64 {
+    let refused = 1 << 32;
+    let (map, root) = match parsed(from_raw_parts(image, size)) {
+        Some(found) => found,
+        None => return refused,
     };
-    if n > (w / 8).min(8 * b).min(65535) || !good {
+    let n = map.count as usize;
+    if n > (w / 8).min(8 * b).min(65535) || !map.good(root) {
         return refused;
     }
     let (words, bytes) = (from_raw_parts_mut(words, w), from_raw_parts_mut(bytes, b));
@@ -127,10 +163,10 @@ pub unsafe extern "C" fn rust_read_image(words: *mut u64, w: usize, bytes: *mut 
         }
     }
     if n > 0 {
-        map.hulls(words, head[1] as u64);
+        map.hulls(words, root);
     }
     for s in 0..n {
         bytes[s / 8] = bytes[s / 8] & !(1 << (s % 8)) | (map.red(s) as u8) << (s % 8);
     }
-    head[1] as u64
+    root
 }

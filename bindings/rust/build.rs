@@ -1,5 +1,5 @@
-//! Links libiset.a and libiset_open.a, which `./archive` writes, from the folder that ISET_LIB_DIR
-//! names. Without it the crate compiles and is checked, and programs do not link.
+//! Links the archives that `./archive` writes, from the folder that ISET_LIB_DIR names. Without it
+//! the crate compiles and is checked, and programs do not link.
 fn main() {
     println!("cargo::rustc-check-cfg=cfg(iset_linked)");
     println!("cargo::rustc-check-cfg=cfg(iset_no_core_error)");
@@ -7,7 +7,7 @@ fn main() {
     let Ok(folder) = std::env::var("ISET_LIB_DIR") else {
         println!(
             "cargo::warning=ISET_LIB_DIR is not set: programs will not link. \
-             It names the folder of libiset.a and libiset_open.a, which ./archive writes."
+             It names the folder of the archives, libiset*.a, that ./archive writes."
         );
         return;
     };
@@ -18,7 +18,13 @@ fn main() {
         );
     }
     println!("cargo::rustc-link-search=native={folder}");
-    for archive in ["iset", "iset_open"] {
+    for archive in [
+        "iset",
+        "iset_open",
+        "iset_ruled",
+        "iset_image",
+        "iset_disjoint",
+    ] {
         println!("cargo::rerun-if-changed={folder}/lib{archive}.a");
         println!("cargo::rustc-link-lib=static={archive}");
     }

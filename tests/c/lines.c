@@ -1,21 +1,31 @@
-// Requests of the program drive, docs/DRIVE.md, through the calls of include/iset_open.h: a line
-// in, a line out. Every store passes the check.
+// Requests of the program drive, docs/DRIVE.md, through the calls of include/iset_open.h,
+// include/iset_ruled.h, include/iset_disjoint.h and include/iset_image.h: a line in, a line out.
+// Every store passes the check. If a request has an opened call and a public one in iset_ruled.h or
+// iset_disjoint.h, both are made, and have to do the same.
 #include <inttypes.h>
 #include <stdio.h>
 #include <stdlib.h>
 #include <string.h>
 
+#include "iset_disjoint.h"
+#include "iset_image.h"
 #include "iset_open.h"
+#include "iset_ruled.h"
 
 #define WORDS 32768
 #define BYTES 512
 #define PLACES 4096
+#define IMAGE 16384
 
-// the store of the last line `store`, and the copy that a request works on
-static uint64_t nodes[WORDS], copy[WORDS], out[PLACES], count, root;
+// the store of the last line `store`, the copy that a request works on and another one, and the
+// bytes of the last line `bytes`
+static uint64_t nodes[WORDS], copy[WORDS], twin[WORDS], out[PLACES], out_twin[PLACES], count, root;
 static uint32_t version;
-static uint8_t colours[BYTES], colours_copy[BYTES];
-static size_t words, bytes;
+static uint8_t colours[BYTES], colours_copy[BYTES], colours_twin[BYTES], image[IMAGE], given[IMAGE];
+static size_t words, bytes, given_len;
+
+#define STORE count, root, copy, words, colours_copy, bytes
+#define CHANGED(nodes, colours) count, root, version, nodes, words, colours, bytes
 
 static uint64_t number(void) {
     uint64_t x;
@@ -33,6 +43,17 @@ static void store(void) {
         printf("lines: a store does not pass the check\n");
         exit(1);
     }
+}
+
+static void bytes_given(void) {
+    given_len = number();
+    for (size_t i = 0; i < given_len; i++) given[i] = (uint8_t)number();
+}
+
+static void same(int is_so, const char *what) {
+    if (is_so) return;
+    printf("lines: the opened and the public %s differ\n", what);
+    exit(1);
 }
 
 static void put(uint64_t no, const uint64_t *answer, size_t n) {
@@ -59,59 +80,78 @@ static void put_changes(void) {
 // the version, at its end, are in no line.
 static void remove_slot(void) {
     uint64_t a[ISET_REMOVE_ANSWER] = {0, count, root, ISET_U, ISET_U, ISET_U, ISET_U, ISET_U, ISET_U}, slot = number();
-    put(iset_open_remove(count, root, version, copy, words, colours_copy, bytes, slot, a, ISET_REMOVE_ANSWER), a, 9);
+    put(iset_open_remove(CHANGED(copy, colours_copy), slot, a, ISET_REMOVE_ANSWER), a, 9);
     put_changes();
 }
 
 static void insert(void) {
     uint64_t a[ISET_INSERT_ANSWER] = {count, root, ISET_U}, start = number(), end = number(), value = number();
-    put(iset_open_insert(count, root, version, copy, words, colours_copy, bytes, start, end, value, a, ISET_INSERT_ANSWER), a, 3);
+    put(iset_open_insert(CHANGED(copy, colours_copy), start, end, value, a, ISET_INSERT_ANSWER), a, 3);
     put_changes();
 }
 
 static void read_slot(void) {
     uint64_t a[ISET_READ_ANSWER] = {0, 0, 0}, slot = number(), taken = number();
-    put(iset_open_read(count, root, version, copy, words, colours_copy, bytes, slot, (uint32_t)taken, a, ISET_READ_ANSWER), a, 3);
+    put(iset_open_read(CHANGED(copy, colours_copy), slot, (uint32_t)taken, a, ISET_READ_ANSWER), a, 3);
     put_changes();
 }
 
-// q: the kinds and numbers of two bounds, or start and end; c: a cursor
-static int exact(uint64_t *q) {
+// q: the kinds and numbers of two bounds, and in q[4] the rule, or start and end; c: a cursor
+static char query(uint64_t *q) {
     char kind;
     if (scanf(" %c", &kind) != 1) exit(1);
+    if (kind == 'r') q[4] = number();
     for (int i = 0; i < (kind == 'e' ? 2 : 4); i++) q[i] = number();
-    return kind == 'e';
+    return kind;
 }
 
+#define RANGE q[0], q[1], q[2], q[3]
+#define CURSOR c[0], c[1], c[2]
+
 static void fresh(void) {
-    uint64_t a[3] = {ISET_U, 0, 0}, q[4];
-    exact(q);
-    put(iset_open_fresh_exact(count, root, copy, words, colours_copy, bytes, q[0], q[1], a, 3), a, 3);
+    uint64_t a[3] = {ISET_U, 0, 0}, q[5];
+    query(q);
+    put(iset_open_fresh_exact(STORE, q[0], q[1], a, 3), a, 3);
     printf("\n");
 }
 
 static void step(void) {
-    uint64_t q[4];
-    int is_exact = exact(q);
+    uint64_t q[5], no;
+    char kind = query(q);
     uint64_t c[3] = {number()};
     c[1] = number(), c[2] = number();
-    uint64_t a[5] = {ISET_U, c[0], c[1], c[2], 0};
-    put(is_exact ? iset_open_step_exact(count, root, copy, words, colours_copy, bytes, q[0], q[1], c[0], c[1], c[2], a, 5)
-                 : iset_open_step(count, root, copy, words, colours_copy, bytes, q[0], q[1], q[2], q[3], c[0], c[1], c[2], a, 5),
-        a, 5);
+    uint64_t a[5] = {ISET_U, c[0], c[1], c[2], 0}, b[5] = {ISET_U, c[0], c[1], c[2], 0};
+    if (kind == 'e') no = iset_open_step_exact(STORE, q[0], q[1], CURSOR, a, 5);
+    else if (kind == 'o') no = iset_open_step(STORE, RANGE, CURSOR, a, 5);
+    else {
+        no = iset_open_step_ruled(STORE, q[4], RANGE, CURSOR, a, 5);
+        same(iset_step_ruled(STORE, q[4], RANGE, CURSOR, b, 5) == no && memcmp(a, b, sizeof a) == 0, "step");
+    }
+    put(no, a, 5);
     put_changes();
 }
 
+static void fill(uint64_t places) {
+    for (size_t i = 0; i < places; i++) out[i] = out_twin[i] = 777777;
+}
+
+static int same_output(uint64_t places) {
+    return memcmp(out, out_twin, places * sizeof *out) == 0;
+}
+
 static void drain(void) {
-    uint64_t q[4];
-    int is_exact = exact(q);
+    uint64_t q[5], no;
+    char kind = query(q);
     uint64_t c[3] = {number()};
     c[1] = number(), c[2] = number();
-    uint64_t limit = number(), places = number(), a[5] = {0, 0, c[0], c[1], c[2]};
-    for (size_t i = 0; i < places; i++) out[i] = 777777;
-    uint64_t no =
-        is_exact ? iset_open_drain_exact(count, root, copy, words, colours_copy, bytes, q[0], q[1], c[0], c[1], c[2], limit, out, places, a, 5)
-                 : iset_open_drain(count, root, copy, words, colours_copy, bytes, q[0], q[1], q[2], q[3], c[0], c[1], c[2], limit, out, places, a, 5);
+    uint64_t limit = number(), places = number(), a[5] = {0, 0, c[0], c[1], c[2]}, b[5] = {0, 0, c[0], c[1], c[2]};
+    fill(places);
+    if (kind == 'e') no = iset_open_drain_exact(STORE, q[0], q[1], CURSOR, limit, out, places, a, 5);
+    else if (kind == 'o') no = iset_open_drain(STORE, RANGE, CURSOR, limit, out, places, a, 5);
+    else {
+        no = iset_open_drain_ruled(STORE, q[4], RANGE, CURSOR, limit, out, places, a, 5);
+        same(iset_drain_ruled(STORE, q[4], RANGE, CURSOR, limit, out_twin, places, b, 5) == no && memcmp(a, b, sizeof a) == 0 && same_output(places), "drain");
+    }
     put(no, a, 5);
     printf(" ");
     put(places, out, places);
@@ -120,34 +160,108 @@ static void drain(void) {
 
 // a lookup that finds all hits at once, by the plain or by the fast one
 static void at_once(int fast) {
-    uint64_t q[4];
-    int is_exact = exact(q);
-    uint64_t places = number(), a[2] = {0, 0}, no;
-    for (size_t i = 0; i < places; i++) out[i] = 777777;
-#define STORE count, root, copy, words, colours_copy, bytes
-    if (is_exact) no = (fast ? iset_open_find_all_exact : iset_open_plain_exact)(STORE, q[0], q[1], out, places, a, 2);
-    else no = (fast ? iset_open_find_all : iset_open_plain)(STORE, q[0], q[1], q[2], q[3], out, places, a, 2);
+    uint64_t q[5];
+    char kind = query(q);
+    uint64_t places = number(), a[2] = {0, 0}, b[2] = {0, 0}, no;
+    fill(places);
+    if (kind == 'e') no = (fast ? iset_open_find_all_exact : iset_open_plain_exact)(STORE, q[0], q[1], out, places, a, 2);
+    else if (kind == 'o') no = (fast ? iset_open_find_all : iset_open_plain)(STORE, RANGE, out, places, a, 2);
+    else {
+        no = (fast ? iset_open_find_all_ruled : iset_open_plain_ruled)(STORE, q[4], RANGE, out, places, a, 2);
+        uint64_t public_no = (fast ? iset_find_all_ruled : iset_plain_ruled)(STORE, q[4], RANGE, out_twin, places, b, 2);
+        same(public_no == no && memcmp(a, b, sizeof a) == 0 && same_output(places), fast ? "find_all" : "plain");
+    }
     put(no, a, 2);
     printf(" ");
     put(places, out, places);
     put_changes();
 }
 
+static void plain(void) { at_once(0); }
+
+static void find_all(void) { at_once(1); }
+
+static void write_image(void) {
+    uint64_t places = number(), a[1] = {0};
+    memset(image, 238, places);
+    put(iset_open_write_image(STORE, image, places, a, 1), a, 1);
+    printf(" %" PRIu64, places);
+    for (size_t i = 0; i < places; i++) printf(" %d", image[i]);
+    put_changes();
+}
+
+static void check_disjoint(void) {
+    put(iset_disjoint_check(STORE), NULL, 0);
+    put_changes();
+}
+
+// whether an opened call may be made
+static int is_disjoint(void) { return iset_disjoint_check(count, root, nodes, words, colours, bytes) == ISET_OK; }
+
+static int same_store(void) {
+    return memcmp(copy, twin, words * sizeof *copy) == 0 && memcmp(colours_copy, colours_twin, bytes) == 0;
+}
+
+static void point(void) {
+    uint64_t a[ISET_POINT_ANSWER] = {ISET_U, 0}, b[ISET_POINT_ANSWER] = {ISET_U, 0}, address = number();
+    uint64_t no = iset_disjoint_point(STORE, address, a, ISET_POINT_ANSWER);
+    if (is_disjoint())
+        same(iset_open_disjoint_point(STORE, address, b, ISET_POINT_ANSWER) == no && memcmp(a, b, sizeof a) == 0, "point");
+    put(no, a, 2);
+    put_changes();
+}
+
+static void insert_disjoint(void) {
+    uint64_t a[ISET_INSERT_ANSWER] = {count, root, ISET_U}, b[ISET_INSERT_ANSWER] = {count, root, ISET_U};
+    uint64_t start = number(), end = number(), value = number();
+    uint64_t no = iset_disjoint_insert(CHANGED(copy, colours_copy), start, end, value, a, ISET_INSERT_ANSWER);
+    if (is_disjoint()) {
+        uint64_t opened = iset_open_disjoint_insert(CHANGED(twin, colours_twin), start, end, value, b, ISET_INSERT_ANSWER);
+        same(opened == no && memcmp(a, b, sizeof a) == 0 && same_store(), "insertion");
+    }
+    put(no, a, 3);
+    put_changes();
+}
+
+static void remove_disjoint(void) {
+    uint64_t a[ISET_REMOVE_ANSWER] = {0, count, root, ISET_U, ISET_U, ISET_U, ISET_U, ISET_U, ISET_U}, b[ISET_REMOVE_ANSWER], slot = number();
+    memcpy(b, a, sizeof b);
+    uint64_t no = iset_disjoint_remove(CHANGED(copy, colours_copy), slot, a, ISET_REMOVE_ANSWER);
+    if (is_disjoint()) {
+        uint64_t opened = iset_open_disjoint_remove(CHANGED(twin, colours_twin), slot, b, ISET_REMOVE_ANSWER);
+        same(opened == no && memcmp(a, b, sizeof a) == 0 && same_store(), "removal");
+    }
+    put(no, a, 9);
+    put_changes();
+}
+
+static void host(void) {
+    uint64_t address = number(), k = number();
+    uint64_t a[2] = {iset_image_value(given, given_len, address, k), iset_image_refusal(given, given_len, address, k)};
+    put(iset_image_count(given, given_len, address), a, 2);
+    put_changes();
+}
+
+static const struct {
+    const char *name;
+    void (*made)(void);
+} requests[] = {
+    {"store", store}, {"bytes", bytes_given}, {"remove", remove_slot}, {"insert", insert}, {"read", read_slot}, {"fresh", fresh},
+    {"step", step}, {"drain", drain}, {"plain", plain}, {"find", find_all}, {"write", write_image}, {"checkd", check_disjoint},
+    {"point", point}, {"insertd", insert_disjoint}, {"removed", remove_disjoint}, {"chost", host},
+};
+
 int main(void) {
     char name[16];
     while (scanf("%15s", name) == 1) {
         memcpy(copy, nodes, sizeof copy);
+        memcpy(twin, nodes, sizeof twin);
         memcpy(colours_copy, colours, sizeof colours_copy);
-        if (strcmp(name, "store") == 0) store();
-        else if (strcmp(name, "remove") == 0) remove_slot();
-        else if (strcmp(name, "insert") == 0) insert();
-        else if (strcmp(name, "read") == 0) read_slot();
-        else if (strcmp(name, "fresh") == 0) fresh();
-        else if (strcmp(name, "step") == 0) step();
-        else if (strcmp(name, "drain") == 0) drain();
-        else if (strcmp(name, "plain") == 0) at_once(0);
-        else if (strcmp(name, "find") == 0) at_once(1);
-        else return 1;
+        memcpy(colours_twin, colours, sizeof colours_twin);
+        size_t k = 0, n = sizeof requests / sizeof *requests;
+        while (k < n && strcmp(name, requests[k].name) != 0) k++;
+        if (k == n) return 1;
+        requests[k].made();
     }
     return 0;
 }

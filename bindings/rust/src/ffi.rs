@@ -1,10 +1,12 @@
-//! The C functions: those of libiset.a, as include/iset.h declares them, and those of
-//! libiset_open.a, as include/iset_open.h does. [`Map`](crate::Map) and [`Store`](crate::Store)
-//! call them safely.
+//! The C functions: those of libiset.a, as include/iset.h declares them, those of libiset_open.a, as
+//! include/iset_open.h does, those of libiset_ruled.a, as include/iset_ruled.h does, those of
+//! libiset_image.a, as include/iset_image.h does, and those of libiset_disjoint.a, as
+//! include/iset_disjoint.h does. [`Map`](crate::Map), [`Store`](crate::Store), [`image`](crate::image), [`DisjointMap`](crate::DisjointMap) and
+//! [`DisjointStore`](crate::DisjointStore) call them safely.
 //!
 //! Each returns 0, or the number of a [`Refusal`](crate::Refusal); only [`iset_slot_after`] returns
-//! a slot. Treat every number but 0 as a refusal. The order of an answer's numbers is given in
-//! include/iset.h.
+//! a slot, [`iset_image_count`] a count and [`iset_image_value`] a value. Treat every number but 0
+//! as a refusal. The order of an answer's numbers is given in include/iset.h.
 //!
 //! # Safety
 //!
@@ -80,6 +82,15 @@ exports! {
 
     /// Gives the cursor at which an overlap lookup begins. The answer has 3 numbers.
     fn iset_fresh(count: u64, root: u64, answer: *mut u64, answer_len: usize);
+
+    /// Returns how many entries of an image hold an address, 0 if the image is refused.
+    fn iset_image_count(image: *const u8, image_len: usize, address: u64);
+
+    /// Returns the value of the k-th of them in tree order, counted from 0, and 0 if refused.
+    fn iset_image_value(image: *const u8, image_len: usize, address: u64, k: u64);
+
+    /// Returns the number of `iset_image_value`'s refusal.
+    fn iset_image_refusal(image: *const u8, image_len: usize, address: u64, k: u64);
 }
 
 pairs! {
@@ -131,6 +142,15 @@ pairs! {
         answer: *mut u64, answer_len: usize,
     );
 
+    /// Finds the next entry after a cursor that intersects a range by a rule. The answer has 5 numbers.
+    StepRuled: fn iset_step_ruled, iset_open_step_ruled(
+        count: u64, root: u64,
+        nodes: *const u64, nodes_len: usize, colours: *const u8, colours_len: usize,
+        rule: u64, lo_kind: u64, lo: u64, hi_kind: u64, hi: u64,
+        slot: u64, levels: u64, bits: u64,
+        answer: *mut u64, answer_len: usize,
+    );
+
     /// Finds the next entry after a cursor that is equal to an interval. The answer has 5 numbers.
     StepExact: fn iset_step_exact, iset_open_step_exact(
         count: u64, root: u64,
@@ -145,6 +165,15 @@ pairs! {
         count: u64, root: u64,
         nodes: *const u64, nodes_len: usize, colours: *const u8, colours_len: usize,
         lo_kind: u64, lo: u64, hi_kind: u64, hi: u64,
+        slot: u64, levels: u64, bits: u64, limit: u64,
+        out: *mut u64, out_len: usize, answer: *mut u64, answer_len: usize,
+    );
+
+    /// Finds entries that intersect a range by a rule, up to a limit. The answer has 5 numbers.
+    DrainRuled: fn iset_drain_ruled, iset_open_drain_ruled(
+        count: u64, root: u64,
+        nodes: *const u64, nodes_len: usize, colours: *const u8, colours_len: usize,
+        rule: u64, lo_kind: u64, lo: u64, hi_kind: u64, hi: u64,
         slot: u64, levels: u64, bits: u64, limit: u64,
         out: *mut u64, out_len: usize, answer: *mut u64, answer_len: usize,
     );
@@ -166,6 +195,14 @@ pairs! {
         out: *mut u64, out_len: usize, answer: *mut u64, answer_len: usize,
     );
 
+    /// Finds all entries that intersect a range by a rule, without pruning. The answer has 2 numbers.
+    PlainRuled: fn iset_plain_ruled, iset_open_plain_ruled(
+        count: u64, root: u64,
+        nodes: *const u64, nodes_len: usize, colours: *const u8, colours_len: usize,
+        rule: u64, lo_kind: u64, lo: u64, hi_kind: u64, hi: u64,
+        out: *mut u64, out_len: usize, answer: *mut u64, answer_len: usize,
+    );
+
     /// Finds all entries that are equal to an interval, without pruning. The answer has 2 numbers.
     PlainExact: fn iset_plain_exact, iset_open_plain_exact(
         count: u64, root: u64,
@@ -182,11 +219,86 @@ pairs! {
         out: *mut u64, out_len: usize, answer: *mut u64, answer_len: usize,
     );
 
+    /// Finds all entries that intersect a range by a rule, at once. The answer has 2 numbers.
+    FindAllRuled: fn iset_find_all_ruled, iset_open_find_all_ruled(
+        count: u64, root: u64,
+        nodes: *const u64, nodes_len: usize, colours: *const u8, colours_len: usize,
+        rule: u64, lo_kind: u64, lo: u64, hi_kind: u64, hi: u64,
+        out: *mut u64, out_len: usize, answer: *mut u64, answer_len: usize,
+    );
+
     /// Finds all entries that are equal to an interval, at once. The answer has 2 numbers.
     FindAllExact: fn iset_find_all_exact, iset_open_find_all_exact(
         count: u64, root: u64,
         nodes: *const u64, nodes_len: usize, colours: *const u8, colours_len: usize,
         start: u64, end: u64,
         out: *mut u64, out_len: usize, answer: *mut u64, answer_len: usize,
+    );
+}
+
+pub(crate) type Point = unsafe extern "C" fn(
+    u64,
+    u64,
+    *const u64,
+    usize,
+    *const u8,
+    usize,
+    u64,
+    *mut u64,
+    usize,
+) -> u64;
+
+// Of disjoint maps. The opened ones may be used as include/iset_disjoint.h says.
+exports! {
+    /// Checks the store, and that no two of its entries intersect: 0 if so.
+    fn iset_disjoint_check(
+        count: u64, root: u64,
+        nodes: *const u64, nodes_len: usize, colours: *const u8, colours_len: usize,
+    );
+
+    /// Finds the entry that holds an address. The answer has 2 numbers.
+    fn iset_disjoint_point(
+        count: u64, root: u64,
+        nodes: *const u64, nodes_len: usize, colours: *const u8, colours_len: usize,
+        address: u64, answer: *mut u64, answer_len: usize,
+    );
+
+    /// [`iset_disjoint_point`] without the check of the store.
+    fn iset_open_disjoint_point(
+        count: u64, root: u64,
+        nodes: *const u64, nodes_len: usize, colours: *const u8, colours_len: usize,
+        address: u64, answer: *mut u64, answer_len: usize,
+    );
+
+    /// Adds one entry that intersects none. The answer has 5 numbers. It is written with 13 too.
+    fn iset_disjoint_insert(
+        count: u64, root: u64, version: u32,
+        nodes: *mut u64, nodes_len: usize, colours: *mut u8, colours_len: usize,
+        start: u64, end: u64, value: u64,
+        answer: *mut u64, answer_len: usize,
+    );
+
+    /// [`iset_disjoint_insert`] without the check of the store.
+    fn iset_open_disjoint_insert(
+        count: u64, root: u64, version: u32,
+        nodes: *mut u64, nodes_len: usize, colours: *mut u8, colours_len: usize,
+        start: u64, end: u64, value: u64,
+        answer: *mut u64, answer_len: usize,
+    );
+
+    /// Removes the entry of a slot. The answer has 11 numbers.
+    fn iset_disjoint_remove(
+        count: u64, root: u64, version: u32,
+        nodes: *mut u64, nodes_len: usize, colours: *mut u8, colours_len: usize,
+        slot: u64,
+        answer: *mut u64, answer_len: usize,
+    );
+
+    /// [`iset_disjoint_remove`] without the check of the store.
+    fn iset_open_disjoint_remove(
+        count: u64, root: u64, version: u32,
+        nodes: *mut u64, nodes_len: usize, colours: *mut u8, colours_len: usize,
+        slot: u64,
+        answer: *mut u64, answer_len: usize,
     );
 }

@@ -2,7 +2,8 @@
 use core::ops::Bound;
 
 use crate::{
-    ffi, Cursor, Drained, Entry, Inserted, Map, Query, Refusal, Removed, Step, Tally, Ticket, U,
+    ffi, Cursor, Drained, Entry, Inserted, Map, NotPlaced, Query, Refusal, Removed, Spot, Step,
+    Tally, Ticket, U,
 };
 
 /// The calls of one kind, public or opened.
@@ -13,12 +14,16 @@ pub(crate) struct Calls {
     write_image: ffi::WriteImage,
     fresh_exact: ffi::FreshExact,
     step: ffi::Step,
+    step_ruled: ffi::StepRuled,
     step_exact: ffi::StepExact,
     drain: ffi::Drain,
+    drain_ruled: ffi::DrainRuled,
     drain_exact: ffi::DrainExact,
     plain: ffi::Plain,
+    plain_ruled: ffi::PlainRuled,
     plain_exact: ffi::PlainExact,
     find_all: ffi::FindAll,
+    find_all_ruled: ffi::FindAllRuled,
     find_all_exact: ffi::FindAllExact,
 }
 
@@ -30,12 +35,16 @@ pub(crate) static PUBLIC: Calls = Calls {
     write_image: ffi::iset_write_image,
     fresh_exact: ffi::iset_fresh_exact,
     step: ffi::iset_step,
+    step_ruled: ffi::iset_step_ruled,
     step_exact: ffi::iset_step_exact,
     drain: ffi::iset_drain,
+    drain_ruled: ffi::iset_drain_ruled,
     drain_exact: ffi::iset_drain_exact,
     plain: ffi::iset_plain,
+    plain_ruled: ffi::iset_plain_ruled,
     plain_exact: ffi::iset_plain_exact,
     find_all: ffi::iset_find_all,
+    find_all_ruled: ffi::iset_find_all_ruled,
     find_all_exact: ffi::iset_find_all_exact,
 };
 
@@ -47,12 +56,16 @@ pub(crate) static OPENED: Calls = Calls {
     write_image: ffi::iset_open_write_image,
     fresh_exact: ffi::iset_open_fresh_exact,
     step: ffi::iset_open_step,
+    step_ruled: ffi::iset_open_step_ruled,
     step_exact: ffi::iset_open_step_exact,
     drain: ffi::iset_open_drain,
+    drain_ruled: ffi::iset_open_drain_ruled,
     drain_exact: ffi::iset_open_drain_exact,
     plain: ffi::iset_open_plain,
+    plain_ruled: ffi::iset_open_plain_ruled,
     plain_exact: ffi::iset_open_plain_exact,
     find_all: ffi::iset_open_find_all,
+    find_all_ruled: ffi::iset_open_find_all_ruled,
     find_all_exact: ffi::iset_open_find_all_exact,
 };
 
@@ -172,9 +185,14 @@ impl LentMut<'_> {
     }
 
     pub fn remove(&mut self, calls: &Calls, slot: u64) -> Result<Removed, Refusal> {
+        self.take(calls.remove, slot)
+    }
+
+    /// A removal by a call, of a disjoint map too.
+    pub fn take(&mut self, call: ffi::Remove, slot: u64) -> Result<Removed, Refusal> {
         let mut answer = [0; 11];
         // SAFETY: as in `build`.
-        told(unsafe { call!(dated calls.remove, self, as_mut_ptr; slot; answer) })?;
+        told(unsafe { call!(dated call, self, as_mut_ptr; slot; answer) })?;
         let [value, count, root, a, a_now, b, b_now, c, c_now, reach, version] = answer;
         self.map = map(count, root, version);
         Ok(Removed {
@@ -187,11 +205,18 @@ impl LentMut<'_> {
     }
 
     pub fn insert(&mut self, calls: &Calls, entry: [u64; 3]) -> Result<Inserted, Refusal> {
+        Ok(self.place(calls.insert, entry)?)
+    }
+
+    /// An insertion by a call, into a disjoint map too. There the answer of a refusal may be
+    /// written, and then names a slot.
+    pub fn place(&mut self, call: ffi::Insert, entry: [u64; 3]) -> Result<Inserted, NotPlaced> {
         let [start, end, value] = entry;
-        let mut answer = [0; 5];
+        let mut answer = [0, 0, U, 0, 0];
         // SAFETY: as in `build`.
-        told(unsafe { call!(dated calls.insert, self, as_mut_ptr; start, end, value; answer) })?;
+        let number = unsafe { call!(dated call, self, as_mut_ptr; start, end, value; answer) };
         let [count, root, slot, reach, version] = answer;
+        told(number).map_err(|why| NotPlaced { why, slot })?;
         self.map = map(count, root, version);
         Ok(Inserted {
             map: self.map,
@@ -205,6 +230,21 @@ impl Lent<'_> {
     pub fn check(self) -> Result<(), Refusal> {
         // SAFETY: the slices are live during the call, which only reads them.
         told(unsafe { call!(ffi::iset_check, self, as_ptr;;) })
+    }
+
+    pub fn check_disjoint(self) -> Result<(), Refusal> {
+        // SAFETY: as in `check`.
+        told(unsafe { call!(ffi::iset_disjoint_check, self, as_ptr;;) })
+    }
+
+    /// The entry that holds an address, in a disjoint map.
+    #[inline]
+    pub fn point(self, call: ffi::Point, address: u64) -> Result<Spot, Refusal> {
+        let mut answer = [0; 2];
+        // SAFETY: as in `begin`.
+        told(unsafe { call!(call, self, as_ptr; address; answer) })?;
+        let [slot, entered] = answer;
+        Ok(Spot { slot, entered })
     }
 
     /// The entry of a ticket.
@@ -232,7 +272,7 @@ impl Lent<'_> {
     /// Where a lookup begins.
     pub fn begin(self, calls: &Calls, query: Query) -> Result<Cursor, Refusal> {
         let (start, end) = match query {
-            Query::Overlap(..) => return Ok(self.map.fresh()),
+            Query::Overlap(..) | Query::Ruled(..) => return Ok(self.map.fresh()),
             Query::Exact { start, end } => (start, end),
         };
         let mut answer = [0; 3];
@@ -251,6 +291,14 @@ impl Lent<'_> {
                 let ((a, lo), (b, hi)) = (numbers(lo), numbers(hi));
                 // SAFETY: as in `begin`.
                 unsafe { call!(calls.step, self, as_ptr; a, lo, b, hi, slot, levels, bits; answer) }
+            }
+            Query::Ruled(rule, lo, hi) => {
+                let (rule, (a, lo), (b, hi)) = (rule as u64, numbers(lo), numbers(hi));
+                // SAFETY: as in `begin`.
+                unsafe {
+                    call!(calls.step_ruled, self, as_ptr; rule, a, lo, b, hi, slot, levels, bits;
+                        answer)
+                }
             }
             Query::Exact { start, end } => {
                 // SAFETY: as in `begin`.
@@ -290,6 +338,14 @@ impl Lent<'_> {
                         out, answer)
                 }
             }
+            Query::Ruled(rule, lo, hi) => {
+                let (rule, (a, lo), (b, hi)) = (rule as u64, numbers(lo), numbers(hi));
+                // SAFETY: as in `begin`; the output is borrowed by `&mut` too.
+                unsafe {
+                    call!(calls.drain_ruled, self, as_ptr;
+                        rule, a, lo, b, hi, slot, levels, bits, limit; out, answer)
+                }
+            }
             Query::Exact { start, end } => {
                 // SAFETY: as in `begin`; the output is borrowed by `&mut` too.
                 unsafe {
@@ -308,11 +364,23 @@ impl Lent<'_> {
     }
 
     pub fn plain(self, calls: &Calls, query: Query, out: &mut [u64]) -> Result<Tally, Refusal> {
-        self.at_once(calls.plain, calls.plain_exact, query, out)
+        self.at_once(
+            calls.plain,
+            calls.plain_ruled,
+            calls.plain_exact,
+            query,
+            out,
+        )
     }
 
     pub fn find_all(self, calls: &Calls, query: Query, out: &mut [u64]) -> Result<Tally, Refusal> {
-        self.at_once(calls.find_all, calls.find_all_exact, query, out)
+        self.at_once(
+            calls.find_all,
+            calls.find_all_ruled,
+            calls.find_all_exact,
+            query,
+            out,
+        )
     }
 
     /// A lookup that finds all hits at once, by a call for each kind of query. The plain one and the
@@ -320,6 +388,7 @@ impl Lent<'_> {
     fn at_once(
         self,
         overlap: ffi::Plain,
+        ruled: ffi::PlainRuled,
         exact: ffi::PlainExact,
         query: Query,
         out: &mut [u64],
@@ -330,6 +399,11 @@ impl Lent<'_> {
                 let ((a, lo), (b, hi)) = (numbers(lo), numbers(hi));
                 // SAFETY: as in `begin`; the output is borrowed by `&mut` too.
                 unsafe { call!(overlap, self, as_ptr; a, lo, b, hi; out, answer) }
+            }
+            Query::Ruled(rule, lo, hi) => {
+                let (rule, (a, lo), (b, hi)) = (rule as u64, numbers(lo), numbers(hi));
+                // SAFETY: as in `begin`; the output is borrowed by `&mut` too.
+                unsafe { call!(ruled, self, as_ptr; rule, a, lo, b, hi; out, answer) }
             }
             Query::Exact { start, end } => {
                 // SAFETY: as in `begin`; the output is borrowed by `&mut` too.

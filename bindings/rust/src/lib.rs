@@ -13,8 +13,13 @@
 //! A [`Map`] is the count, the root and the version alone, by value. Its calls take any numbers and
 //! any contents, and test all of them each time. That takes a time that grows with the count.
 //!
+//! A [`DisjointStore`] and a [`DisjointMap`] are the same for a map in which no two ranges overlap:
+//! one lookup finds the only entry that holds an address, by one way down the tree.
+//!
 //! A [`Ticket`] is a slot that knows the version of its map: reading through it after a change is
 //! refused.
+//!
+//! The functions of [`image`] look an address up in a saved map, over its bytes alone.
 //!
 #![cfg_attr(iset_linked, doc = "```")]
 #![cfg_attr(not(iset_linked), doc = "```no_run")]
@@ -44,8 +49,10 @@
 #![warn(missing_docs)]
 
 mod answers;
+mod disjoint;
 pub mod ffi;
 mod hits;
+pub mod image;
 mod lent;
 mod map;
 mod query;
@@ -54,9 +61,10 @@ mod store;
 mod ticket;
 
 pub use answers::{Cursor, Drained, Inserted, Removed, Step, Tally};
+pub use disjoint::{DisjointMap, DisjointStore, NotPlaced, Spot};
 pub use hits::Hits;
 pub use map::Map;
-pub use query::Query;
+pub use query::{Query, Rule};
 pub use refusal::Refusal;
 pub use store::{Entries, Entry, Store, StoreRef};
 pub use ticket::Ticket;
@@ -100,6 +108,7 @@ const _: () = {
     shared::<Store<'static>>();
     shared::<StoreRef<'static>>();
     shared::<Entries<'static, 1>>();
+    shared::<(DisjointMap, DisjointStore<'static>, NotPlaced, Spot)>();
     shared::<Hits<'static>>();
     shared::<(Query, Entry, Refusal, Ticket)>();
     shared::<(Removed, Inserted, Cursor, Step, Drained, Tally)>();

@@ -42,6 +42,12 @@ pub enum Refusal {
     Stale,
     /// The bytes have not the layout or the length of an image.
     BadImage,
+    /// A stored entry intersects the new one: see [`DisjointMap`](crate::DisjointMap).
+    Overlap,
+    /// Two entries intersect: see [`DisjointMap`](crate::DisjointMap).
+    NotDisjoint,
+    /// A plan does not name each slot once. None of these calls returns it yet.
+    BadPlan,
     /// The answer slice has fewer places than the answer has numbers. This crate never passes such
     /// a slice.
     ShortAnswer,
@@ -54,7 +60,7 @@ pub enum Refusal {
 
 /// Each refusal with its number and its words, which are those of `iset_refusal_name` in
 /// include/iset.h.
-const ALL: [(Refusal, u64, &str); 14] = [
+const ALL: [(Refusal, u64, &str); 17] = [
     (Refusal::NoRoom, 1, "not enough room in the memory"),
     (Refusal::Broken, 2, "the store does not pass the check"),
     (Refusal::NoSuch, 3, "no entry in that slot"),
@@ -86,6 +92,17 @@ const ALL: [(Refusal, u64, &str); 14] = [
         Refusal::BadImage,
         12,
         "the bytes are not laid out as an image",
+    ),
+    (
+        Refusal::Overlap,
+        13,
+        "a stored entry intersects the new one",
+    ),
+    (Refusal::NotDisjoint, 14, "two entries intersect"),
+    (
+        Refusal::BadPlan,
+        15,
+        "the plan does not name each slot once",
     ),
     (Refusal::ShortAnswer, 101, "the answer is too short"),
     (Refusal::BadBound, 102, "a bound's kind is not 0, 1 or 2"),

@@ -4,7 +4,7 @@
 #![cfg(not(iset_linked))]
 use std::panic::{catch_unwind, AssertUnwindSafe};
 
-use iset_proved::{Cursor, Map, Query, Refusal, Store, StoreRef};
+use iset_proved::{image, Cursor, Map, Query, Refusal, Rule, Store, StoreRef};
 
 /// The functions take more arguments than are named here, and look at none of them.
 macro_rules! refusing {
@@ -19,13 +19,15 @@ macro_rules! refusing {
 refusing! {
     77: iset_build iset_remove iset_insert iset_read iset_fresh_exact iset_step iset_step_exact iset_drain
     iset_drain_exact iset_plain iset_plain_exact iset_find_all iset_find_all_exact iset_write_image
-    iset_read_image
+    iset_read_image iset_image_count iset_image_value iset_image_refusal iset_step_ruled iset_drain_ruled
+    iset_plain_ruled iset_find_all_ruled
 }
 
 refusing! {
     78: iset_open_remove iset_open_insert iset_open_read iset_open_fresh_exact iset_open_step
     iset_open_step_exact iset_open_drain iset_open_drain_exact iset_open_plain iset_open_plain_exact
-    iset_open_find_all iset_open_find_all_exact iset_open_write_image
+    iset_open_find_all iset_open_find_all_exact iset_open_write_image iset_open_step_ruled
+    iset_open_drain_ruled iset_open_plain_ruled iset_open_find_all_ruled
 }
 
 /// The check passes the map of no entries, so that a store can be opened, and no other.
@@ -41,9 +43,14 @@ extern "C" fn iset_check(count: u64) -> u64 {
 /// By a public call, and by an opened one.
 const PUBLIC: Option<Refusal> = Some(Refusal::Unknown(77));
 const OPENED: Option<Refusal> = Some(Refusal::Unknown(78));
-const QUERIES: [Query; 2] = [
+const QUERIES: [Query; 3] = [
     Query::Overlap(core::ops::Bound::Unbounded, core::ops::Bound::Unbounded),
     Query::Exact { start: 1, end: 2 },
+    Query::Ruled(
+        Rule::Whole,
+        core::ops::Bound::Unbounded,
+        core::ops::Bound::Unbounded,
+    ),
 ];
 const FROM: Cursor = Cursor {
     slot: 0,
@@ -82,6 +89,8 @@ fn maps() {
         assert_eq!(hits.err(), OPENED);
     }
     assert_eq!((nodes, colours, out), ([0; 16], [0; 1], [0; 2]));
+    assert_eq!(image::count(&[], 0).err(), PUBLIC);
+    assert_eq!(image::value(&[], 0, 0).err(), PUBLIC);
 }
 
 /// Lookups that a sound archive never refuses have no `Result`. They panic rather than end early.

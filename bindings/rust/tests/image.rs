@@ -1,7 +1,7 @@
-//! A map saved as an image and loaded back. The tests need the archives: without ISET_LIB_DIR there
+//! A map saved as an image and loaded back, and addresses looked up in the image. The tests need the archives: without ISET_LIB_DIR there
 //! is nothing here to run.
 #![cfg(iset_linked)]
-use iset_proved::{image_len, Map, Refusal, Store};
+use iset_proved::{image, image_len, Map, Query, Refusal, Store};
 
 const SLOTS: usize = 40;
 
@@ -85,6 +85,47 @@ fn what_was_written_is_read_back() {
     }
 }
 
+/// The entries of an image below a link, in tree order: start, end, value.
+fn entries(image: &[u8], link: usize) -> Vec<[u64; 3]> {
+    let number = |at: usize| u32::from_le_bytes(image[at..at + 4].try_into().unwrap()) as usize;
+    let word = |at: usize| u64::from_le_bytes(image[at..at + 8].try_into().unwrap());
+    let count = number(0);
+    if link >= count {
+        return Vec::new();
+    }
+    let (entry, links) = (44 + 24 * link, 44 + 24 * count + 12 * link);
+    let mut all = entries(image, number(links));
+    all.push([word(entry), word(entry + 8), word(entry + 16)]);
+    all.extend(entries(image, number(links + 4)));
+    all
+}
+
+#[test]
+fn addresses_are_looked_up_in_the_bytes() {
+    let mut chance = Chance(14);
+    for _ in 0..50 {
+        let (map, nodes, colours) = made(&mut chance);
+        let mut saved = vec![0; image_len(map.count as usize)];
+        map.write_image(&nodes, &colours, &mut saved).unwrap();
+        let all = entries(&saved, map.root as usize);
+        assert_eq!(all.len() as u64, map.count);
+        let ends = all.iter().flat_map(|entry| [entry[0], entry[1]]);
+        let near = ends.flat_map(|end| [end.wrapping_sub(1), end, end + 1]);
+        for address in near.chain([0, u64::MAX]) {
+            let holds = |entry: &&[u64; 3]| entry[0] <= address && address < entry[1];
+            let values: Vec<u64> = all.iter().filter(holds).map(|entry| entry[2]).collect();
+            let count = values.len() as u64;
+            assert_eq!(image::count(&saved, address), Ok(count));
+            for (k, &value) in values.iter().enumerate() {
+                assert_eq!(image::value(&saved, address, k as u64), Ok(value));
+            }
+            for k in [count, count + 1, u64::MAX] {
+                assert_eq!(image::value(&saved, address, k), Err(Refusal::NoSuch));
+            }
+        }
+    }
+}
+
 #[test]
 fn a_flipped_bit_is_refused_or_comes_back() {
     let mut chance = Chance(12);
@@ -96,6 +137,8 @@ fn a_flipped_bit_is_refused_or_comes_back() {
         let at = chance.below(image.len() as u64 * 8) as usize;
         image[at / 8] ^= 1 << (at % 8);
 
+        let address = chance.below(110);
+        let count = image::count(&image, address);
         let (mut words, mut bits) = memory(&mut chance);
         let before = (words.clone(), bits.clone());
         match Map::new().read_image(&mut words, &mut bits, &image) {
@@ -103,10 +146,20 @@ fn a_flipped_bit_is_refused_or_comes_back() {
                 let mut again = vec![0; image.len()];
                 assert_eq!(back.write_image(&words, &bits, &mut again), Ok(image.len()));
                 assert_eq!(again, image);
+                let (query, mut out) = (Query::overlap(address..=address), [0; SLOTS]);
+                let from = back.begin(&words, &bits, query).unwrap();
+                let drained = back.drain(&words, &bits, query, from, 0, &mut out).unwrap();
+                assert_eq!(count, Ok(drained.hits));
+                for (k, &slot) in out[..drained.hits as usize].iter().enumerate() {
+                    let value = image::value(&image, address, k as u64);
+                    assert_eq!(value, Ok(words[slot as usize * 8 + 2]));
+                }
                 met[0] += 1;
             }
             Err(why) => {
                 assert_eq!((words, bits), before);
+                assert_eq!(count, Err(why));
+                assert_eq!(image::value(&image, address, 0), Err(why));
                 met[match why {
                     Refusal::BadImage => 1,
                     Refusal::Broken => 2,

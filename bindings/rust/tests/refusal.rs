@@ -13,7 +13,7 @@ fn header_words() -> Vec<&'static str> {
 
 #[test]
 fn words() {
-    let numbers: Vec<u64> = (1..=12).chain([101, 102]).collect();
+    let numbers: Vec<u64> = (1..=15).chain([101, 102]).collect();
     let words = numbers.iter().map(|&number| {
         let why = Refusal::from_number(number).unwrap();
         assert_eq!(why.number(), number);
@@ -30,7 +30,7 @@ fn words() {
 #[test]
 fn unknown_numbers_are_refusals() {
     assert_eq!(Refusal::from_number(0), None);
-    for number in [13, 15, 100, 103, u64::MAX] {
+    for number in [16, 18, 100, 103, u64::MAX] {
         let why = Refusal::from_number(number).unwrap();
         assert_eq!(why, Refusal::Unknown(number));
         assert_eq!(why.number(), number);

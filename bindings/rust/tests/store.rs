@@ -1,9 +1,9 @@
 //! `Store` and `StoreRef` beside a plain list of entries. They need the archives: without
 //! ISET_LIB_DIR there is nothing here to run.
 #![cfg(iset_linked)]
-use core::ops::Bound;
+use core::ops::{Bound, RangeBounds};
 
-use iset_proved::{Entry, Map, Query, Refusal, Store, StoreRef, U};
+use iset_proved::{Entry, Map, Query, Refusal, Rule, Store, StoreRef, U};
 
 const SLOTS: usize = 200;
 
@@ -116,6 +116,7 @@ fn look_up(store: &Store, plain: &Plain, chance: &mut Chance) {
         store.overlap(open).map(Vec::from_iter),
         1 + chance.below(5) as usize,
     );
+    by_rules(store, plain, chance);
     let (start, end) = (a, a + w);
     same_slots(
         store,
@@ -123,6 +124,25 @@ fn look_up(store: &Store, plain: &Plain, chance: &mut Chance) {
         store.exact(start..end).map(Vec::from_iter),
         1 + chance.below(5) as usize,
     );
+}
+
+/// A bound near an address.
+fn bound(chance: &mut Chance) -> Bound<u64> {
+    let a = chance.below(320);
+    [Bound::Included(a), Bound::Excluded(a), Bound::Unbounded][chance.below(3) as usize]
+}
+
+/// By rule 1 the slots are those without a rule. By rule 2 an entry is found if one of its addresses
+/// lies in the range, and a range without an address is refused.
+fn by_rules(store: &Store, plain: &Plain, chance: &mut Chance) {
+    let range = (bound(chance), bound(chance));
+    let places = 1 + chance.below(5) as usize;
+    let any = Query::Ruled(Rule::Any, range.0, range.1);
+    same_slots(store, any, store.overlap(range).map(Vec::from_iter), places);
+    let some = (0..400).any(|a| range.contains(&a));
+    let those = plain.those(|start, end| (start..end).any(|a| range.contains(&a)));
+    let found = some.then_some(those).ok_or(Refusal::BadRange);
+    same_slots(store, Query::whole(range), found, places);
 }
 
 #[test]

@@ -99,13 +99,13 @@ module _ (W C : List ℕ) (n r a : ℕ) (small : n ≤ 65535) (P : Passes W C n 
   -- nothing
   pub point-step : step W n (overlap W n (only a)) (fresh r) .slot ≡ point W n r a
   unfolding point
-  point-step = overlap-step W C n r (only a) small P ∙ ap (firstOr U) point-hits ∙ end-first (pointWay W a) W n 32 r
+  point-step = overlap-step W C n r 1 (only a) small P ∙ ap (firstOr U) point-hits ∙ end-first (pointWay W a) W n 32 r
 
   pub point-drains : (limit : ℕ) → 1 < limit
       → (drain W n (overlap W n (only a)) limit (fresh r) .slots ≡ found n (point W n r a))
       × (drain W n (overlap W n (only a)) limit (fresh r) .next ≡ ended)
   point-drains limit h =
-      rw (overlap-run W C n r (only a) small P limit (rw point-hits (few (ltb (point W n r a) n)))) (point-hits, refl)
+      rw (overlap-run W C n r 1 (only a) small P limit (rw point-hits (few (ltb (point W n r a) n)))) (point-hits, refl)
     where
       few : (b : Bool) → length (when b (point W n r a ∷ [])) < limit
       few true = omega arith

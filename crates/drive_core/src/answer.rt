@@ -16,22 +16,28 @@ pub(crate) fn bit_number(v: bool) -> u64 {
     if v { 1 } else { 0 }
 }
 
-// The first n numbers of a list.
-pub(crate) fn put_first(list: &[u64], n: usize, out: &mut [u8], to: usize) -> usize {
+// Prints n numbers of a list, from `base` on.
+pub(crate) fn put_part(list: &[u64], base: usize, n: usize, out: &mut [u8], to: usize) -> usize {
     let mut at = to;
     let mut i = 0;
     while i < n {
-        at = output::put_next(out, at, arena::word(list, 0, i));
+        at = output::put_next(out, at, arena::word(list, base, i));
         i += 1;
     }
     at
+}
+
+// Prints a LIST: how many numbers there are, then each of them.
+pub(crate) fn put_list(list: &[u64], base: usize, n: usize, out: &mut [u8], to: usize) -> usize {
+    let first = output::put_next(out, to, n as u64);
+    put_part(list, base, n, out, first)
 }
 
 // The numbers that an answer begins with: the refusal's, 0 if there is none, and the first n of the
 // others.
 pub(crate) fn put_numbers(no: u64, others: &[u64], n: usize, out: &mut [u8], to: usize) -> usize {
     let first = output::put_number(out, to, no);
-    put_first(others, n, out, first)
+    put_part(others, 0, n, out, first)
 }
 
 // An answer that has only its numbers. Such a request leaves nothing for `commit`, which takes what

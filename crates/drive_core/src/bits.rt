@@ -20,6 +20,18 @@ pub enum Call {
     FromElem,
 }
 
+// The calls in the order of their names (crate::call).
+pub(crate) fn call_at(place: usize) -> Call {
+    match place {
+        0 => Call::Get,
+        1 => Call::Set,
+        2 => Call::Push,
+        3 => Call::Pop,
+        4 => Call::SwapRemove,
+        _ => Call::FromElem,
+    }
+}
+
 // A call's length, and its place and its bit if it has them.
 struct Given {
     len: usize,
@@ -112,7 +124,7 @@ fn on_copy(call: Call, g: Given, words: &mut [u64], bytes: &mut [u8]) -> Answer 
 
 fn answered(call: Call, g: Given, words: &mut [u64], n: usize) -> Shown {
     let mut bytes = arena::byte_space();
-    let there = least(n, 512);
+    let there = least(n, 16384);
     let a = on_copy(call, g, words, &mut bytes[..there]);
     shown_of(a, given_length(call, g.len))
 }

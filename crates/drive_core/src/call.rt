@@ -4,6 +4,9 @@ use crate::given;
 use crate::lookups;
 use crate::lookups::query::Kind;
 use crate::map;
+use crate::map::apart;
+use crate::map::images;
+use crate::map::store;
 use crate::settings;
 use crate::stacks;
 use lines::input::Line;
@@ -22,55 +25,65 @@ pub enum Call {
     Ticket,
 }
 
-// The names, in the order of `call_at`. A name ends in a space if numbers follow it.
-// crates/drive/stdin makes every one of these requests, so a name in a wrong place shows in its
-// answer.
-fn place_of(name: &[u8]) -> usize {
-    given::which(
-        name,
-        b"store ;bytes ;commit;check;build ;remove ;insert ;fresh o ;step o ;drain o ;fresh e ;step e ;drain e ;bget ;bset ;bpush ;bpop ;bswap ;bfrom ;spush ;spop ;sleft ;smatch ;sright ;scanleft ;scanmatch ;scanright ;sempty ;last;plain o ;plain e ;find o ;find e ;version ;ticket ;read ;",
-    )
+// The calls by their names. A name ends in a space if numbers follow it. Each list of names has the
+// order of the `call_at` beside it. crates/drive/stdin makes every one of these requests, so a name
+// in a wrong place shows in its answer.
+fn store_call(name: &[u8]) -> Call {
+    let k = given::which(name, b"check;build ;remove ;insert ;read ;");
+    if k < 5 {
+        return Call::Map(map::Call::Store(store::call_at(k)));
+    }
+    let k = given::which(name, b"checkd;point ;insertd ;removed ;");
+    if k < 4 {
+        return Call::Map(map::Call::Apart(apart::call_at(k)));
+    }
+    let k = given::which(name, b"write ;load ;chost ;");
+    if k < 3 {
+        return Call::Map(map::Call::Image(images::call_at(k)));
+    }
+    Call::Unknown
 }
 
-fn call_at(place: usize) -> Call {
-    match place {
-        0 => Call::Setting(settings::Call::Store),
-        1 => Call::Setting(settings::Call::Bytes),
-        2 => Call::Setting(settings::Call::Commit),
-        3 => Call::Map(map::Call::Check),
-        4 => Call::Map(map::Call::Build),
-        5 => Call::Map(map::Call::Remove),
-        6 => Call::Map(map::Call::Insert),
-        7 => Call::Lookup(lookups::Call::Fresh, Kind::Overlap),
-        8 => Call::Lookup(lookups::Call::Step, Kind::Overlap),
-        9 => Call::Lookup(lookups::Call::Drain, Kind::Overlap),
-        10 => Call::Lookup(lookups::Call::Fresh, Kind::Exact),
-        11 => Call::Lookup(lookups::Call::Step, Kind::Exact),
-        12 => Call::Lookup(lookups::Call::Drain, Kind::Exact),
-        13 => Call::Bits(bits::Call::Get),
-        14 => Call::Bits(bits::Call::Set),
-        15 => Call::Bits(bits::Call::Push),
-        16 => Call::Bits(bits::Call::Pop),
-        17 => Call::Bits(bits::Call::SwapRemove),
-        18 => Call::Bits(bits::Call::FromElem),
-        19 => Call::Stack(stacks::Call::Push),
-        20 => Call::Stack(stacks::Call::Pop),
-        21 => Call::Stack(stacks::Call::GoLeft),
-        22 => Call::Stack(stacks::Call::MakeMatch),
-        23 => Call::Stack(stacks::Call::GoRight),
-        24 => Call::Stack(stacks::Call::CanGoLeft),
-        25 => Call::Stack(stacks::Call::CanMatch),
-        26 => Call::Stack(stacks::Call::CanGoRight),
-        27 => Call::Stack(stacks::Call::IsEmpty),
-        28 => Call::Last,
-        29 => Call::Lookup(lookups::Call::Plain, Kind::Overlap),
-        30 => Call::Lookup(lookups::Call::Plain, Kind::Exact),
-        31 => Call::Lookup(lookups::Call::FindAll, Kind::Overlap),
-        32 => Call::Lookup(lookups::Call::FindAll, Kind::Exact),
-        33 => Call::Setting(settings::Call::Version),
-        34 => Call::Ticket,
-        35 => Call::Map(map::Call::Read),
-        _ => Call::Unknown,
+fn lookup_call(name: &[u8]) -> Call {
+    let k = given::which(name, b"fresh o ;step o ;drain o ;plain o ;find o ;");
+    if k < 5 {
+        return Call::Lookup(lookups::call_at(k), Kind::Overlap);
+    }
+    let k = given::which(name, b"fresh r ;step r ;drain r ;plain r ;find r ;");
+    if k < 5 {
+        return Call::Lookup(lookups::call_at(k), Kind::Ruled);
+    }
+    let k = given::which(name, b"fresh e ;step e ;drain e ;plain e ;find e ;");
+    if k < 5 {
+        return Call::Lookup(lookups::call_at(k), Kind::Exact);
+    }
+    store_call(name)
+}
+
+fn byte_call(name: &[u8]) -> Call {
+    let k = given::which(name, b"bget ;bset ;bpush ;bpop ;bswap ;bfrom ;");
+    if k < 6 {
+        return Call::Bits(bits::call_at(k));
+    }
+    let k = given::which(
+        name,
+        b"spush ;spop ;sleft ;smatch ;sright ;scanleft ;scanmatch ;scanright ;sempty ;",
+    );
+    if k < 9 {
+        return Call::Stack(stacks::call_at(k));
+    }
+    lookup_call(name)
+}
+
+fn call_named(name: &[u8]) -> Call {
+    let k = given::which(name, b"store ;bytes ;commit;version ;");
+    if k < 4 {
+        return Call::Setting(settings::call_at(k));
+    }
+    match given::which(name, b"last;ticket ;") {
+        0 => Call::Last,
+        1 => Call::Ticket,
+        _ => byte_call(name),
     }
 }
 
@@ -100,7 +113,7 @@ fn call_with(call: Call, numbers: &[u64]) -> Call {
 fn named(line: Line, name: &[u8], numbers: &[u64]) -> Call {
     let n = least(line.name, name.len());
     let k = least(line.count, numbers.len());
-    call_with(call_at(place_of(&name[..n])), &numbers[..k])
+    call_with(call_named(&name[..n]), &numbers[..k])
 }
 
 // A comment may hold anything, also what would make another line wrong.

@@ -3,7 +3,7 @@
 use crate::answer;
 use crate::arena;
 use crate::arena::COLOURS;
-use crate::arena::NEW_BYTES;
+use crate::arena::NEW_COLOURS;
 use crate::arena::WORDS;
 use crate::state::Left;
 use crate::state::State;
@@ -12,7 +12,7 @@ use lines::output;
 
 pub(crate) fn begin(s: State, words: &mut [u64]) {
     arena::copy_words(words, WORDS, 0, s.words);
-    arena::copy_words(words, COLOURS, NEW_BYTES, s.colours);
+    arena::copy_words(words, COLOURS, NEW_COLOURS, s.colours);
 }
 
 // Prints the end of the line from `to` on. Keeps what the request left beside the copy: the map,
@@ -30,7 +30,7 @@ pub(crate) fn end(
     let b = s.colours;
     let sign = answer::put_sign(out, to);
     let nodes = answer::put_words(words, WORDS, 0, w, out, sign);
-    let colours = answer::put_words(words, COLOURS, NEW_BYTES, b, out, nodes);
+    let colours = answer::put_words(words, COLOURS, NEW_COLOURS, b, out, nodes);
     s.after(
         Left::Store {
             map,
@@ -40,19 +40,4 @@ pub(crate) fn end(
         },
         output::put_byte(out, colours, b'\n'),
     )
-}
-
-// Prints a line: an answer's numbers, and what differs.
-pub(crate) fn line(
-    s: State,
-    map: Map,
-    reach: u64,
-    no: u64,
-    others: &[u64],
-    n: usize,
-    words: &[u64],
-    out: &mut [u8],
-) -> State {
-    let to = answer::put_numbers(no, others, n, out, s.to);
-    end(s, map, reach, words, out, to)
 }

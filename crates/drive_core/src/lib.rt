@@ -24,10 +24,10 @@ ghost use mathlib.Core.Path.{_≡_};
 ghost use lib.ListN.{length};
 
 // Room for all that the requests work on (crate::arena).
-fn words_space() -> [u64; 67072]
-    ensures { λ r. ⌜ 67072 ≡ length r ⌝ }
+fn words_space() -> [u64; 99328]
+    ensures { λ r. ⌜ 99328 ≡ length r ⌝ }
 {
-    [0; 67072]
+    [0; 99328]
 }
 
 // Room for the numbers of the longest line, a store at its limits.
@@ -37,17 +37,25 @@ fn numbers_space() -> [u64; 40960]
     [0; 40960]
 }
 
+// The requests that work on the store or on the bytes.
+fn worked(s: State, call: Call, numbers: &[u64], words: &mut [u64], out: &mut [u8]) -> State {
+    match call {
+        Call::Map(c) => map::request(s, c, numbers, words, out),
+        Call::Lookup(c, kind) => lookups::request(s, c, kind, numbers, words, out),
+        Call::Bits(c) => bits::request(s, c, numbers, words, out),
+        _ => s,
+    }
+}
+
 fn answered(s: State, call: Call, numbers: &[u64], words: &mut [u64], out: &mut [u8]) -> State {
     match call {
         Call::Nothing => s,
         Call::Unknown => answer::what(s, out),
         Call::Setting(c) => settings::set(s, c, numbers, words),
-        Call::Map(c) => map::request(s, c, numbers, words, out),
-        Call::Lookup(c, kind) => lookups::request(s, c, kind, numbers, words, out),
-        Call::Bits(c) => bits::request(s, c, numbers, words, out),
         Call::Stack(c) => stacks::request(s, c, numbers, out),
         Call::Last => last::request(s, out),
         Call::Ticket => ticket::request(s, numbers, out),
+        _ => worked(s, call, numbers, words, out),
     }
 }
 

@@ -15,7 +15,6 @@ use crate::lookups::query::Kind;
 use crate::lookups::reply::Reply;
 use crate::state::State;
 use iset::Map;
-use lines::output;
 use words::numbers::least;
 ghost use mathlib.Core.Path.{_≡_};
 ghost use Prim.Native.Nat.{_≤_};
@@ -27,6 +26,17 @@ pub enum Call {
     Drain,
     Plain,
     FindAll,
+}
+
+// The calls in the order of their names (crate::call).
+pub(crate) fn call_at(place: usize) -> Call {
+    match place {
+        0 => Call::Fresh,
+        1 => Call::Step,
+        2 => Call::Drain,
+        3 => Call::Plain,
+        _ => Call::FindAll,
+    }
 }
 
 // How many numbers the call has after its query.
@@ -107,7 +117,7 @@ fn in_store(
     words: &[u64],
     hits: &mut [u64],
 ) -> Reply {
-    let mut colours = arena::byte_space();
+    let mut colours = arena::colour_space();
     arena::load(words, COLOURS, &mut colours);
     let b = least(s.colours, 512);
     let w = least(WORDS, words.len());
@@ -127,8 +137,7 @@ fn in_store(
 // If a call has an output, the whole output is printed after the numbers.
 fn put_hits(call: Call, hits: &[u64], out: &mut [u8], to: usize) -> usize {
     if has_output(call) {
-        let first = output::put_next(out, to, hits.len() as u64);
-        answer::put_first(hits, hits.len(), out, first)
+        answer::put_list(hits, 0, hits.len(), out, to)
     } else {
         to
     }

@@ -1,11 +1,13 @@
-// The settings: the store and its version, the bytes of the bit calls, and `commit`, which takes
+// The settings: the store and its version, the bytes of the bit calls and of images, and `commit`, which takes
 // over what the last request left.
 use crate::arena;
 use crate::arena::BYTES;
 use crate::arena::COLOURS;
 use crate::arena::MOST_BYTES;
+use crate::arena::MOST_COLOURS;
 use crate::arena::MOST_WORDS;
 use crate::arena::NEW_BYTES;
+use crate::arena::NEW_COLOURS;
 use crate::arena::WORDS;
 use crate::given;
 use crate::state::Left;
@@ -19,11 +21,21 @@ pub enum Call {
     Version,
 }
 
+// The calls in the order of their names (crate::call).
+pub(crate) fn call_at(place: usize) -> Call {
+    match place {
+        0 => Call::Store,
+        1 => Call::Bytes,
+        2 => Call::Commit,
+        _ => Call::Version,
+    }
+}
+
 // `COUNT ROOT LIST LIST`
 fn is_store(numbers: &[u64]) -> bool {
     let w = given::size(numbers, 2);
     let b = given::size(numbers, 3 + w);
-    (w <= MOST_WORDS) & (b <= MOST_BYTES) & given::ends_in_bytes(numbers, 4 + w, 4 + w + b)
+    (w <= MOST_WORDS) & (b <= MOST_COLOURS) & given::ends_in_bytes(numbers, 4 + w, 4 + w + b)
 }
 
 // `LIST`
@@ -72,7 +84,7 @@ fn commit(s: State, words: &mut [u64]) -> State {
             colours: b,
         } => {
             arena::copy_words(words, 0, WORDS, w);
-            arena::copy_words(words, NEW_BYTES, COLOURS, b);
+            arena::copy_words(words, NEW_COLOURS, COLOURS, b);
             s.with_store(map, w, b)
         }
         Left::Bytes(n) => {

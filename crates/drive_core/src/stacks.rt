@@ -21,6 +21,21 @@ pub enum Call {
     IsEmpty,
 }
 
+// The calls in the order of their names (crate::call).
+pub(crate) fn call_at(place: usize) -> Call {
+    match place {
+        0 => Call::Push,
+        1 => Call::Pop,
+        2 => Call::GoLeft,
+        3 => Call::MakeMatch,
+        4 => Call::GoRight,
+        5 => Call::CanGoLeft,
+        6 => Call::CanMatch,
+        7 => Call::CanGoRight,
+        _ => Call::IsEmpty,
+    }
+}
+
 // What is printed of an answer: the refusal's number, the result of a test, and the stack.
 struct Shown {
     no: u64,

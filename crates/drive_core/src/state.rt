@@ -2,7 +2,7 @@
 use iset::Map;
 
 // What the last request left in the arena's copy, for `commit`: a map with its node words and colour
-// bytes, or the bytes of the bit calls, by their number. `reach` is how many hulls changed, for
+// bytes, or the bytes of the bit calls or of an image, by their number. `reach` is how many hulls changed, for
 // `last`.
 pub enum Left {
     Nothing,
@@ -15,7 +15,7 @@ pub enum Left {
     Bytes(usize),
 }
 
-// The store's map, how many node words and colour bytes it has, how many bytes the bit calls have,
+// The store's map, how many node words and colour bytes it has, how many bytes the line `bytes` gave,
 // what the last request left, and the place of the next byte in the output's buffer.
 pub struct State {
     pub map: Map,

@@ -20,9 +20,10 @@ use Rattle.words.specs.declared.ix.Link.the-variants.{Slot, Nil}
 use Rattle.iter.specs.Drains.{filled}
 use Rattle.iter.specs.Exact.{exact, findFrom}
 use Rattle.words.specs.Lists.{filter}
+use Rattle.iter.specs.Ranges.{byRule}
 use Rattle.iter.specs.Overlap.{meets}
 use Rattle.iter.specs.declared.rules.Query.{Query}
-use Rattle.iter.specs.declared.rules.Query.the-variants.{Overlap, Exact}
+use Rattle.iter.specs.declared.rules.Query.the-variants.{Overlap, Ruled, Exact}
 use Rattle.iter.proofs.Bools.{and-false}
 use Rattle.iter.proofs.Laws.{child-there, child-gone}
 use Rattle.fast_rule.specs.Fast.{nears, shouldEnter, narrow, fastRules, startAt, entering, fastNodes, fastHits, fitted}
@@ -192,3 +193,14 @@ module _ (W : List ℕ) (n : ℕ) (query one : Query) (root : ℕ) (r : Tally) (
 
   pub either-out : new ≡ fitted (fastHits W n query root) out
   either-out = rw e (h .1)
+
+-- of a range by the rule of a number
+module _ (W : List ℕ) (n k : ℕ) (query : Query) (q p : Span) (root : ℕ) (r : Tally) (out new : List ℕ) (e : query ≡ Ruled k q) (f : p ≡ byRule k q)
+    (h : Found W n (Overlap p) root r out new) where
+  pub ruled-is : r ≡ tally W n query root
+  unfolding fastNodes fastHits fastRules startAt
+  ruled-is = rw e (rw f at h .0)
+
+  pub ruled-out : new ≡ fitted (fastHits W n query root) out
+  unfolding fastNodes fastHits fastRules startAt
+  ruled-out = rw e (rw f at h .1)

@@ -3,6 +3,7 @@
 // the intervals of its subtree. The lookup ends on any words: it goes down at most 32 nodes. In a
 // store that passes the check of crate audit no way down is longer, so that number never decides
 // there.
+use iter::ranges::by_rule;
 use iter::rules::Query;
 use iter::rules::find_index;
 use iter::rules::goes_exact;
@@ -324,6 +325,7 @@ pub fn find_all(nodes: &[u64], count: u64, root: u64, query: Query, out: &mut [u
 {
     match query {
         Query::Overlap(range) => find_overlap(nodes, count, root, range, out),
+        Query::Ruled(rule, range) => find_overlap(nodes, count, root, by_rule(rule, range), out),
         Query::Exact(x) => find_exact(nodes, count, root, x, out),
     }
 }

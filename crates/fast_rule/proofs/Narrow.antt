@@ -5,7 +5,7 @@ use mathlib.Core.Bool.{Bool, true, false, cond, false≢true}
 use mathlib.Core.List.{List}
 use Prim.Native.Nat.{ℕ, _≤_}
 use native.Mathlib.Omega.{arith}
-use lib.Dec.{leb}
+use lib.Dec.{eqb, leb}
 use borrow.Author.Tests.{ltb-true, lt-ltb, le-leb}
 use Rattle.words.specs.Ix.{onLink}
 use Rattle.words.specs.Nodes.{start, stop, lo, hi, kid}
@@ -16,11 +16,12 @@ use Rattle.words.specs.declared.interval.Span.{Span}
 use Rattle.tree.specs.Tree.{Tree, leaf, node, Shape}
 use Rattle.tree.specs.Hulls.{Hulls}
 use Rattle.tree_edit.proofs.Links.{on-slot}
+use Rattle.iter.specs.Ranges.{wholeFrom, byRule}
 use Rattle.iter.specs.Overlap.{meets, shouldGo}
 use Rattle.iter.proofs.Bools.{and-left, and-right}
 use Rattle.iter_laws.proofs.Script.{Linked, Fairs, Empty}
 use Rattle.iter_laws.proofs.Walks.{links}
-use Rattle.iter_laws.proofs.Bounds.{admits-before}
+use Rattle.iter_laws.proofs.Bounds.{admits-before, whole-reached}
 use Rattle.iter_laws.proofs.Within.{within}
 use Rattle.fast_rule.specs.Fast.{nears, shouldEnter, narrow}
 
@@ -81,3 +82,15 @@ module _ (W : List ℕ) (n : ℕ) (q : Span) where
       go true false i j =
           rw (i, passed-reached (q .lo) (hi W (kid W true s)) (and-left (passed (q .lo) (hi W (kid W true s))) (admits (q .hi) (lo W (kid W true s))) j))
       go false false i j = rw (i, and-right (passed (q .lo) (hi W (kid W false s))) (admits (q .hi) (lo W (kid W false s))) j)
+
+-- where the pruned lookup goes by the range of a rule, it goes by the range itself
+pub ruled-goes : (W : List ℕ) (n k : ℕ) (q : Span) (b : Bool) (s : ℕ) → shouldGo W n (byRule k q) b s ≡ true → shouldGo W n q b s ≡ true
+unfolding shouldGo onLink
+ruled-goes W n k q false s e = e
+ruled-goes W n k q true s e = go (eqb k 2) (leb n (kid W true s)) e
+  where
+    go : (t u : Bool) → cond u false (reached (cond t (wholeFrom (q .lo)) (q .lo)) (hi W (kid W true s))) ≡ true
+        → cond u false (reached (q .lo) (hi W (kid W true s))) ≡ true
+    go t true i = i
+    go true false i = whole-reached (q .lo) (hi W (kid W true s)) i
+    go false false i = i

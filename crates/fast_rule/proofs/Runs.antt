@@ -18,10 +18,11 @@ use Rattle.iter.specs.Cursors.{ended, fresh}
 use Rattle.iter.specs.Drains.{drain, calls}
 use Rattle.iter.specs.Exact.{equals, exact, findFrom}
 use Rattle.words.specs.Lists.{filter}
+use Rattle.iter.specs.Ranges.{byRule}
 use Rattle.iter.specs.Overlap.{meets}
 use Rattle.iter.specs.Queries.{rules}
 use Rattle.iter.specs.declared.rules.Query.{Query}
-use Rattle.iter.specs.declared.rules.Query.the-variants.{Overlap, Exact}
+use Rattle.iter.specs.declared.rules.Query.the-variants.{Overlap, Ruled, Exact}
 use Rattle.iter_laws.specs.Entered.{overlapRule, exactRule, entered}
 use Rattle.iter_laws.proofs.Script.{visits}
 use Rattle.iter_laws.proofs.Walks.{Walk, visits-are}
@@ -30,7 +31,7 @@ use Rattle.iter_laws.proofs.Overlaps.{overlap-walk}
 use Rattle.iter_laws.proofs.ExactRuns.{exact-start, below, all-below, walk-below, walk-none}
 use Rattle.fast_rule.specs.Fast.{narrow, fastRules, startAt, fastNodes, fastHits}
 use Rattle.fast_rule.proofs.Trees.{inOrder, entering-tree, hits-all, times-most, among, number}
-use Rattle.fast_rule.proofs.Narrow.{narrow-linked, narrow-fair, narrow-less}
+use Rattle.fast_rule.proofs.Narrow.{narrow-linked, narrow-fair, narrow-less, ruled-goes}
 
 -- the tree t that both lookups go through: the pruned one by its walk, with the entered rule E
 record Both (W : List ℕ) (n r : ℕ) (query : Query) (all : List ℕ) : Type 0 where
@@ -49,19 +50,19 @@ module _ (W C : List ℕ) (n r : ℕ) (small : n ≤ 65535) (P : Passes W C n r)
   abbrev pub asked : Query → List ℕ
   asked query = filter (rules W n query .match) (slots (P .tree))
 
-  overlap-both : (q : Span) → Both W n r (Overlap q) (asked (Overlap q))
+  ruled-both : (k : ℕ) (q : Span) → Both W n r (Ruled k q) (asked (Ruled k q))
   unfolding fastNodes fastHits fastRules startAt rules
-  overlap-both q =
-      let e = entering-tree W n (narrow W n q) small (narrow-linked W n q) (P .tree) 32 U r (P .shape) (tree-low W C n r P small) in
+  ruled-both k q =
+      let e = entering-tree W n (narrow W n (byRule k q)) small (narrow-linked W n (byRule k q)) (P .tree) 32 U r (P .shape) (tree-low W C n r P small) in
       record {
         E = overlapRule W q;
         p = U;
         t = P .tree;
-        walk = overlap-walk W C n r q small P;
+        walk = overlap-walk W C n r k q small P;
         found = refl;
         nodes = e;
-        hits = rw e (hits-all (narrow W n q) (P .tree) (narrow-fair W n q U r (P .tree) (P .shape) (P .hulls)));
-        less = narrow-less W n q;
+        hits = rw e (hits-all (narrow W n (byRule k q)) (P .tree) (narrow-fair W n (byRule k q) U r (P .tree) (P .shape) (P .hulls)));
+        less = λ b s h. ruled-goes W n k q b s (narrow-less W n (byRule k q) b s h);
         once = slot-once W C n r P;
       }
 
@@ -93,7 +94,9 @@ module _ (W C : List ℕ) (n r : ℕ) (small : n ≤ 65535) (P : Passes W C n r)
           }
 
   both : (query : Query) → Both W n r query (asked query)
-  both (Overlap q) = overlap-both q
+  unfolding fastNodes fastHits fastRules startAt rules
+  both (Overlap q) = let B = ruled-both 1 q in record { E = B .E; p = B .p; t = B .t; walk = B .walk; found = B .found; nodes = B .nodes; hits = B .hits; less = B .less; once = B .once }
+  both (Ruled k q) = ruled-both k q
   both (Exact x) = exact-both x
 
   -- the hits are exactly the slots whose entries intersect the range, or equal the interval, in
@@ -101,6 +104,10 @@ module _ (W C : List ℕ) (n r : ℕ) (small : n ≤ 65535) (P : Passes W C n r)
   pub fast-overlap : (q : Span) → fastHits W n (Overlap q) r ≡ filter (meets W q) (slots (P .tree))
   unfolding rules
   fast-overlap q = both (Overlap q) .hits
+
+  pub fast-ruled : (k : ℕ) (q : Span) → fastHits W n (Ruled k q) r ≡ filter (meets W (byRule k q)) (slots (P .tree))
+  unfolding rules
+  fast-ruled k q = both (Ruled k q) .hits
 
   pub fast-exact : (x : Interval) → fastHits W n (Exact x) r ≡ filter (equals W x) (slots (P .tree))
   unfolding rules

@@ -1,6 +1,6 @@
 -- The fast lookup: no cursor and no stack. It goes down by recursion, and tests both ends of a
 -- child's hull before it enters the child. The pruned lookup (crate iter) tests one end.
--- Letters: W words, n count, r root, s slot, b side (true: left), a slot, q range or query,
+-- Letters: W words, n count, r root, s slot, k link, b side (true: left), a slot, q range or query,
 --   x interval, Q rules of the lookup
 use mathlib.Core.Bool.{Bool, true, false, _&&_}
 use mathlib.Core.List.{List, [], _∷_, _++_}
@@ -11,11 +11,12 @@ use Rattle.words.specs.Nodes.{lo, hi, kid}
 use Rattle.words.specs.Intervals.{passed, admits}
 use Rattle.words.specs.declared.interval.Span.{Span}
 use Rattle.iter.specs.declared.rules.Query.{Query}
-use Rattle.iter.specs.declared.rules.Query.the-variants.{Overlap, Exact}
+use Rattle.iter.specs.declared.rules.Query.the-variants.{Overlap, Ruled, Exact}
 use Rattle.iter.specs.Drains.{filled}
 use Rattle.words.specs.Lists.{filter}
 use Rattle.iter.specs.Lists.{when}
 use Rattle.iter.specs.Walk.{Rules}
+use Rattle.iter.specs.Ranges.{byRule}
 use Rattle.iter.specs.Overlap.{meets}
 use Rattle.iter.specs.Exact.{exact, findFrom}
 
@@ -34,11 +35,13 @@ narrow W n q = record { go = shouldEnter W n q; match = meets W q }
 -- what the lookup goes by; the pruned rules of an exact lookup test both ends of a hull already
 unfoldable pub fastRules : (words : List ℕ) (count : ℕ) (query : Query) → Rules
 fastRules W n (Overlap q) = narrow W n q
+fastRules W n (Ruled k q) = narrow W n (byRule k q)
 fastRules W n (Exact x) = exact W n x
 
 -- where it begins: at the root r; for an exact lookup at the highest equal node, U if there is none
 unfoldable pub startAt : (words : List ℕ) (count : ℕ) (query : Query) (root : ℕ) → ℕ
 startAt W n (Overlap q) r = r
+startAt W n (Ruled k q) r = r
 startAt W n (Exact x) r = findFrom W n x r
 
 -- the nodes entered from slot s down, in tree order, with at most `height` of them on a way down

@@ -180,10 +180,10 @@ module _ (W C : List ℕ) (n r : ℕ) (small : n ≤ 65535) (P : Passes W C n r)
 
   -- so it is the slot of a step from the fresh cursor, and the first of a drain's with any limit
   pub first-step : firstIn q W n r ≡ step W n (overlap W n q) (fresh r) .slot
-  first-step = first-in ∙ sym (overlap-step W C n r q small P)
+  first-step = first-in ∙ sym (overlap-step W C n r 1 q small P)
 
   pub first-drain : (limit : ℕ) → 0 < limit → firstIn q W n r ≡ firstOr U (drain W n (overlap W n q) limit (fresh r) .slots)
-  first-drain limit h = rw (overlap-first W C n r q small P limit, first-take U limit (filter (meets W q) (slots (P .tree))) h) first-in
+  first-drain limit h = rw (overlap-first W C n r 1 q small P limit, first-take U limit (filter (meets W q) (slots (P .tree))) h) first-in
 
   -- if it names a slot, that entry intersects the range; if it names none, no entry does
   pub first-some : firstIn q W n r < n → intersects q (interval W (firstIn q W n r)) ≡ true

@@ -45,7 +45,7 @@ fn put_table(out: &mut [u8], count: u64)
 }
 
 // Writes count and root, and the table.
-fn put_header(out: &mut [u8], count: u64, root: u64)
+pub fn put_header(out: &mut [u8], count: u64, root: u64)
     requires { ⌜ (count ≤ 65535) × (44 ≤ length (now out)) ⌝ }
     ensures { λ _. ⌜ now (out .exit) ≡ sets (now (out .entry)) 0 (header count root) ⌝ }
 {

@@ -13,6 +13,7 @@ use Rattle.words.specs.Lists.{filter}
 use Rattle.words.specs.Nodes.{capacity, hi, lo, kid, par, hull, entry}
 use Rattle.words.specs.Intervals.{reached, admits, contains}
 use Rattle.words.specs.declared.interval.Interval.{Interval}
+use Rattle.words.specs.declared.interval.Span.{Span}
 use Rattle.words.specs.declared.node.Entry.{Entry}
 use Rattle.words.specs.declared.node.Field.the-variants.{Start, End, Value, HullStart, HullEnd, Child, Parent}
 use Rattle.audit.proofs.Unread.{whole-below}
@@ -31,12 +32,13 @@ use Rattle.iter.specs.Walk.{Rules, deeper, down, move, hits, ending, hitting, c
 use Rattle.iter.specs.Drains.{drain, limitOf}
 use Rattle.iter.specs.Forms.{onSide, formed, heldForm, formOf}
 use Rattle.iter.specs.Lists.{when}
+use Rattle.iter.specs.Ranges.{byRule}
 use Rattle.iter.specs.Overlap.{meets, shouldGo}
 use Rattle.iter.specs.Exact.{equals, toward, shouldGoExact, exact, find}
 use Rattle.iter.specs.Queries.{rules}
 use Rattle.iter.specs.declared.Cursor.{Cursor}
 use Rattle.iter.specs.declared.rules.Query.{Query}
-use Rattle.iter.specs.declared.rules.Query.the-variants.{Overlap, Exact}
+use Rattle.iter.specs.declared.rules.Query.the-variants.{Overlap, Ruled, Exact}
 use Rattle.words.proofs.Lists.{filter-append}
 use Rattle.iter_laws.proofs.Script.{Linked}
 use Rattle.iter_laws.proofs.Walks.{links}
@@ -77,16 +79,21 @@ build-below m W C X D S e f = rw (e, f) (go (eqb (buildNumber (length X) (length
 
 -- the rules of a lookup, at a slot below the count
 module _ (n : ℕ) (W X : List ℕ) (A : Agree n W X) where
-  same-go : (q : Query) (b : Bool) (s : ℕ) → s < n → rules W n q .go b s ≡ rules X n q .go b s
-  unfolding rules shouldGo shouldGoExact toward
-  same-go (Overlap q) true s l =
+  same-side : (q : Span) (b : Bool) (s : ℕ) → s < n → shouldGo W n q b s ≡ shouldGo X n q b s
+  unfolding shouldGo
+  same-side q true s l =
       rw (A .1 (Child true) s l)
       (link-same n {A = Bool} (λ i j. i ≡ j) (kid X true s) (λ a. reached (q .lo) (hi W a)) (λ a. reached (q .lo) (hi X a)) false false
       (λ h. rw (A .1 HullEnd (kid X true s) h)) refl)
-  same-go (Overlap q) false s l =
+  same-side q false s l =
       rw (A .1 (Child false) s l)
       (link-same n {A = Bool} (λ i j. i ≡ j) (kid X false s) (λ a. admits (q .hi) (lo W a)) (λ a. admits (q .hi) (lo X a)) false false
       (λ h. rw (A .1 HullStart (kid X false s) h)) refl)
+
+  same-go : (q : Query) (b : Bool) (s : ℕ) → s < n → rules W n q .go b s ≡ rules X n q .go b s
+  unfolding rules shouldGoExact toward
+  same-go (Overlap q) b s l = same-side q b s l
+  same-go (Ruled k q) b s l = same-side q b s l
   same-go (Exact x) true s l =
       rw (A .1 (Child true) s l, A .1 Start s l, A .1 End s l)
       (link-same n {A = Bool} (λ i j. i ≡ j) (kid X true s) (λ a. toward X x true s && contains (hull W a) x) (λ a. toward X x true s && contains (hull X a) x) false false
@@ -99,6 +106,7 @@ module _ (n : ℕ) (W X : List ℕ) (A : Agree n W X) where
   same-match : (q : Query) (s : ℕ) → s < n → rules W n q .match s ≡ rules X n q .match s
   unfolding rules meets equals
   same-match (Overlap q) s l = rw (A .1 Start s l, A .1 End s l)
+  same-match (Ruled k q) s l = rw (A .1 Start s l, A .1 End s l)
   same-match (Exact x) s l = rw (A .1 Start s l, A .1 End s l)
 
   -- the walk
@@ -195,27 +203,35 @@ module _ (n : ℕ) (W X : List ℕ) (A : Agree n W X) where
     abbrev G : Rules
     G = fastRules X n q
 
-    same-enter : (q : Query) (b : Bool) (s : ℕ) → s < n → fastRules W n q .go b s ≡ fastRules X n q .go b s
-    unfolding fastRules shouldEnter rules
-    same-enter (Overlap q) b s l =
+    same-near : (q : Span) (b : Bool) (s : ℕ) → s < n → shouldEnter W n q b s ≡ shouldEnter X n q b s
+    unfolding shouldEnter
+    same-near q b s l =
         rw (A .1 (Child b) s l)
         (link-same n {A = Bool} (λ i j. i ≡ j) (kid X b s) (nears W q) (nears X q) false false
         (λ h. rw (A .1 HullStart (kid X b s) h, A .1 HullEnd (kid X b s) h)) refl)
+
+    same-enter : (q : Query) (b : Bool) (s : ℕ) → s < n → fastRules W n q .go b s ≡ fastRules X n q .go b s
+    unfolding fastRules rules
+    same-enter (Overlap q) b s l = same-near q b s l
+    same-enter (Ruled k q) b s l = same-near (byRule k q) b s l
     same-enter (Exact x) b s l = same-go (Exact x) b s l
 
     same-asked : (q : Query) (s : ℕ) → s < n → fastRules W n q .match s ≡ fastRules X n q .match s
     unfolding fastRules rules
     same-asked (Overlap q) s l = same-match (Overlap q) s l
+    same-asked (Ruled k q) s l = same-match (Ruled k q) s l
     same-asked (Exact x) s l = same-match (Exact x) s l
 
     enters-slots : (q : Query) → Linked X n (fastRules X n q)
     unfolding fastRules shouldGoExact
     enters-slots (Overlap q) = narrow-linked X n q
+    enters-slots (Ruled k q) = narrow-linked X n (byRule k q)
     enters-slots (Exact x) = links X n (exact X n x) (λ b s a. toward X x b s && contains (hull X a) x) (λ b s. refl)
 
     same-begin : (q : Query) (r : ℕ) → startAt W n q r ≡ startAt X n q r
     unfolding startAt
     same-begin (Overlap q) r = refl
+    same-begin (Ruled k q) r = refl
     same-begin (Exact x) r = same-find x 32 r
 
     -- what f and g make of the nodes entered, part by part
@@ -264,6 +280,7 @@ module _ (m : Map) (W C X D : List ℕ) (s : SameBelow (m .count) W C X D) where
 
   same-beginning : (q : Query) → beginning m W q ≡ beginning m X q
   same-beginning (Overlap q) = refl
+  same-beginning (Ruled k q) = refl
   same-beginning (Exact x) = same-find n W X (s .words) x 32 (m .root)
 
   same-start : (q : Query) → startNumber m W C q ≡ startNumber m X D q

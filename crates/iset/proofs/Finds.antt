@@ -17,10 +17,10 @@ use Rattle.iter.specs.Drains.{calls}
 use Rattle.iter.specs.Queries.{rules}
 use Rattle.iter.specs.declared.Cursor.{Cursor}
 use Rattle.iter.specs.declared.rules.Query.{Query}
-use Rattle.iter.specs.declared.rules.Query.the-variants.{Overlap, Exact}
+use Rattle.iter.specs.declared.rules.Query.the-variants.{Overlap, Ruled, Exact}
 use Rattle.iter.proofs.Drains.{drain-count}
 use Rattle.fast_rule.specs.Fast.{startAt, fastNodes, fastHits, fitted}
-use Rattle.fast_rule.proofs.Runs.{fast-overlap, fast-exact, fast-once, fast-among, fast-entered}
+use Rattle.fast_rule.proofs.Runs.{fast-overlap, fast-ruled, fast-exact, fast-once, fast-among, fast-entered}
 use Rattle.iset.specs.Check.{checkRule}
 use Rattle.iset.specs.Effects.{output}
 use Rattle.iset.specs.Lookup.{startNumber, drainCall}
@@ -46,6 +46,7 @@ module _ (m : Map) (W C : List ℕ) (q : Query) (e : startNumber m W C q ≡ 0) 
   hits-of : (q : Query) → m .count ≤ 65535 → fastHits W (m .count) q (m .root) ≡ filter (rules W (m .count) q .match) (slots (P .tree))
   unfolding rules
   hits-of (Overlap q) small = fast-overlap W C (m .count) (m .root) small P q
+  hits-of (Ruled k q) small = fast-ruled W C (m .count) (m .root) small P k q
   hits-of (Exact x) small = fast-exact W C (m .count) (m .root) small P x
 
   hits-are : fastHits W (m .count) q (m .root) ≡ found
@@ -87,7 +88,7 @@ module _ (m : Map) (W C : List ℕ) (q : Query) (e : startNumber m W C q ≡ 0) 
         rw (← whole-nodes, ← (drain-count W (m .count) (rules W (m .count) q) (length places) (fresh (startAt W (m .count) q (m .root)))))
         (fast-entered W C (m .count) (m .root) (few m W C q e) P q (length places) enough)
 
-    find-run : OnceEach (m .count) (rules W (m .count) q .match) found → (out : List ℕ)
+    pub find-run : OnceEach (m .count) (rules W (m .count) q .match) found → (out : List ℕ)
         → FindAllRun m W C q c (rules W (m .count) q .match) (P .tree) out
     find-run o out =
         record {

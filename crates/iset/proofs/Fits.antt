@@ -22,13 +22,13 @@ use Rattle.iter.specs.declared.Cursor.{Cursor}
 use Rattle.iter.specs.declared.Form.{Form}
 use Rattle.iter.specs.declared.Form.the-variants as form
 use Rattle.iter.specs.declared.rules.Query.{Query}
-use Rattle.iter.specs.declared.rules.Query.the-variants.{Overlap, Exact}
+use Rattle.iter.specs.declared.rules.Query.the-variants.{Overlap, Ruled, Exact}
 use Rattle.iter_laws.proofs.OverlapRuns.{overlap-first}
 use Rattle.iter_laws.proofs.ExactRuns.{exact-first}
 use Rattle.iset.specs.Effects.{output}
 use Rattle.iset.specs.Check.{first, checkRule}
 use Rattle.iset.specs.Fits.{Fits, Request8}
-use Rattle.iset.specs.Lookup.{ordered, queryNumber, beginning, formNumber, startNumber, stepNumber, drainNumber, startCall, drainCall}
+use Rattle.iset.specs.Lookup.{ordered, accepts, queryNumber, beginning, formNumber, startNumber, stepNumber, drainNumber, startCall, drainCall}
 use Rattle.iset.specs.Refusals.{BadRange, BadInterval}
 use Rattle.iset.specs.declared.Map.{Map}
 use Rattle.iset.proofs.Checks.{cases}
@@ -51,6 +51,7 @@ module _ (m : Map) (W C : List ℕ) where
 
   query-low : (q : Query) → queryNumber q < 9
   query-low (Overlap q) = tested-low (ordered (q .lo) (q .hi)) 4 (omega arith)
+  query-low (Ruled k q) = tested-low (accepts k (q .lo) (q .hi)) 4 (omega arith)
   query-low (Exact x) = tested-low (proper x) 5 (omega arith)
 
   form-low : (f : Form) → formNumber f < 9
@@ -82,7 +83,7 @@ module _ (m : Map) (W C : List ℕ) where
   overlap-places sound q ranged P out =
       let e : startNumber m W C (Overlap q) ≡ 0 = range-started m W C sound q ranged in
       let z : drainNumber m W C (Overlap q) (fresh (m .root)) 0 (length out) ≡ 0 = zero-number (Overlap q) (fresh (m .root)) (length out) ∙ fresh-accepted m W C (Overlap q) e in
-      let f = overlap-first W C (m .count) (m .root) q (few m W C (Overlap q) e) P (length out) in
+      let f = overlap-first W C (m .count) (m .root) 1 q (few m W C (Overlap q) e) P (length out) in
       record { accepted = rw z refl; hits = rw z (ap length f); written = rw (z, f) refl }
 
   exact-places : checkRule m W C ≡ 0 → (x : Interval) → (BadInterval (x .start) (x .end) → ⊥) → (P : Passes W C (m .count) (m .root)) (out : List ℕ)

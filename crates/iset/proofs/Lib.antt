@@ -21,6 +21,7 @@ pub mod Tickets
 pub mod Rounds
 pub mod Plains
 pub mod Finds
+pub mod Rules
 pub mod BitRefusals
 pub mod Answers
 pub mod Below

@@ -7,7 +7,7 @@ use Prim.Native.Nat.{ℕ, _<_, _≤_}
 use native.Mathlib.Omega.{arith}
 use lib.ListN.{length}
 use lib.Dec.{ltb}
-use borrow.Author.Tests.{ltb-false, lt-ltb, le-ltb}
+use borrow.Author.Tests.{ltb-false, lt-ltb, le-ltb, eq-eqb, ne-eqb}
 use Rattle.words.specs.Nodes.{capacity, Holds}
 use Rattle.words.specs.Refusals.{refusalNumber}
 use Rattle.words.specs.Intervals.{admits, proper}
@@ -16,6 +16,7 @@ use Rattle.words.specs.declared.interval.Bound.the-variants.{Included, Excluded
 use Rattle.words.specs.declared.interval.Interval.{Interval}
 use Rattle.words.specs.declared.interval.Span.{Span}
 use Rattle.words.specs.declared.refusal.Refusal.{Refusal}
+use Rattle.iter.specs.Ranges.{anyWhole}
 use Rattle.iter.specs.Cursors.{fresh}
 use Rattle.iter.specs.Exact.{findFrom}
 use Rattle.iter.specs.Forms.{formOf}
@@ -29,11 +30,11 @@ use Rattle.iter.specs.declared.Form.the-variants.{Bad}
 use Rattle.iter.specs.declared.drain.Drained.{Drained}
 use Rattle.iter.specs.declared.seek.Step.{Step}
 use Rattle.iter.specs.declared.rules.Query.{Query}
-use Rattle.iter.specs.declared.rules.Query.the-variants.{Overlap, Exact}
+use Rattle.iter.specs.declared.rules.Query.the-variants.{Overlap, Ruled, Exact}
 use Rattle.iter.proofs.Ways.{form-placed}
 use Rattle.iset.specs.Effects.{Output, output}
 use Rattle.iset.specs.Check.{checkNumber, checkRule, countNumber}
-use Rattle.iset.specs.Lookup.{ordered, queryNumber, beginning, formNumber, startNumber, stepNumber, drainNumber, StartAnswer, refusedStart, stepDone, refusedStep, DrainAnswer, drainDone, refusedDrain, openStartNumber, openStepNumber, openDrainNumber}
+use Rattle.iset.specs.Lookup.{ordered, accepts, queryNumber, beginning, formNumber, startNumber, stepNumber, drainNumber, StartAnswer, refusedStart, stepDone, refusedStep, DrainAnswer, drainDone, refusedDrain, openStartNumber, openStepNumber, openDrainNumber}
 use Rattle.iset.specs.declared.Map.{Map}
 use Rattle.iset.specs.declared.Checked.{Checked}
 use Rattle.iset.specs.declared.Checked.the-variants.{Sound, Refused}
@@ -168,6 +169,20 @@ module _ (k : ℕ) (t : Checked) (z : Refusal) (e : checkNumber t ≡ k) (q : t 
 
 pub query-range : (q : Query) (x : Span) (b : Bool) (k : ℕ) → q ≡ Overlap x → b ≡ ordered (x .lo) (x .hi) → k ≡ cond b 0 4 → k ≡ queryNumber q
 query-range q x b k e t h = rw (e, ← t) h
+
+pub query-ruled : (q : Query) (i : ℕ) (x : Span) (b : Bool) (k : ℕ) → q ≡ Ruled i x → b ≡ accepts i (x .lo) (x .hi) → k ≡ cond b 0 4 → k ≡ queryNumber q
+query-ruled q i x b k e t h = rw (e, ← t) h
+
+-- a range by the number of its rule
+module _ (k : ℕ) (lo hi : Bound) where
+  pub by-one : (r : Bool) → k ≡ 1 → r ≡ ordered lo hi → r ≡ accepts k lo hi
+  by-one r e f = rw (eq-eqb k 1 e) f
+
+  pub by-two : (r : Bool) → (k ≡ 1 → ⊥) → k ≡ 2 → r ≡ anyWhole lo hi → r ≡ accepts k lo hi
+  by-two r d e f = rw (ne-eqb k 1 d, eq-eqb k 2 e) f
+
+  pub by-none : (k ≡ 1 → ⊥) → (k ≡ 2 → ⊥) → false ≡ accepts k lo hi
+  by-none d e = rw (ne-eqb k 1 d, ne-eqb k 2 e)
 
 pub query-interval : (q : Query) (x : Interval) (b : Bool) (k : ℕ) → q ≡ Exact x → b ≡ proper x → k ≡ cond b 0 5 → k ≡ queryNumber q
 query-interval q x b k e t h = rw (e, ← t) h

@@ -71,7 +71,7 @@ module _ (m : Map) (W C : List ℕ) (q : Query) (e : startNumber m W C q ≡ 0) 
   pub plain-slots : handedOut (plainCall m W C q out) ≡ found
   plain-slots = rw plain-told (first-places found out)
 
-  plain-run : (c : Cursor) (named : List Ask → List ℕ) → ((l : List Ask) → Lookup m W C q c found (named l) l)
+  pub plain-run : (c : Cursor) (named : List Ask → List ℕ) → ((l : List Ask) → Lookup m W C q c found (named l) l)
       → OnceEach (m .count) (rules W (m .count) q .match) found → PlainRun m W C q c (rules W (m .count) q .match) (P .tree) out
   plain-run c named L o =
       record {

@@ -20,6 +20,7 @@ use Rattle.words.specs.Nodes.{capacity}
 use Rattle.words.specs.declared.interval.Bound.{Bound}
 use Rattle.words.specs.declared.interval.Bound.the-variants.{Included, Excluded, Unbounded}
 use Rattle.words.specs.declared.interval.Interval.{Interval}
+use Rattle.words.specs.declared.interval.Span.{Span}
 use Rattle.words.specs.declared.node.Entry.{Entry}
 use Rattle.tree.specs.Tree.{leaf}
 use Rattle.tree.specs.Order.{NotAfter}
@@ -28,6 +29,7 @@ use Rattle.tree.proofs.Orders.{le-sound, le-complete}
 use Rattle.tree_rm_rule.specs.Pairs.{none}
 use Rattle.builder.specs.Input.{startOf, endOf, intervalOf, count, every, properAt, inOrder, allProper, sorted}
 use Rattle.builder_laws.proofs.Tests.{every-sound}
+use Rattle.iter.specs.Ranges.{firstFrom, anyWhole}
 use Rattle.iter.specs.Cursors.{ended}
 use Rattle.iter.specs.Drains.{limitOf}
 use Rattle.iter.specs.Forms.{formOf}
@@ -35,8 +37,9 @@ use Rattle.iter.specs.declared.Cursor.{Cursor}
 use Rattle.iter.specs.declared.Form.{Form}
 use Rattle.iter.specs.declared.Form.the-variants as form
 use Rattle.iter.specs.declared.rules.Query.{Query}
-use Rattle.iter.specs.declared.rules.Query.the-variants.{Overlap, Exact}
+use Rattle.iter.specs.declared.rules.Query.the-variants.{Overlap, Ruled, Exact}
 use Rattle.iter_laws.specs.Place.{Held}
+use Rattle.iter_laws.proofs.Whole.{any-holds, holds-any}
 use Rattle.iter_laws.proofs.OverlapRuns.{overlap-fresh-form, overlap-ended-form, overlap-held-form, overlap-bad-form}
 use Rattle.iter_laws.proofs.ExactRuns.{exact-start, exact-fresh-form, exact-ended-form, exact-held-form, exact-bad-form, exact-none-held}
 use Rattle.iter_laws.proofs.Forms.{fresh-form, ended-form, bad-form}
@@ -45,11 +48,11 @@ use Rattle.iset.specs.Build.{buildNumber, BuildAnswer, buildAnswer, buil
 use Rattle.iset.specs.Check.{checkRule, first}
 use Rattle.iset.specs.Remove.{removeNumber, RemoveAnswer, removeAnswer, removeCall}
 use Rattle.iset.specs.Insert.{entryOf, insertNumber, InsertAnswer, insertAnswer, insertCall}
-use Rattle.iset.specs.Lookup.{ordered, queryNumber, beginning, formNumber, startNumber, stepNumber, drainNumber, StartAnswer, startCall, StepAnswer, stepCall, DrainAnswer, drainAnswer, drainCall}
+use Rattle.iset.specs.Lookup.{ordered, accepts, queryNumber, beginning, formNumber, startNumber, stepNumber, drainNumber, StartAnswer, startCall, StepAnswer, stepCall, DrainAnswer, drainAnswer, drainCall}
 use Rattle.iset.specs.Tallies.{TallyAnswer, tallyAnswer, refusedTally}
 use Rattle.iset.specs.Plain.{plainNumber, plainCall}
 use Rattle.iset.specs.Find.{findAllCall}
-use Rattle.iset.specs.Refusals.{Rows, accept, refuse, Exactly, NoSuch, Stale, BadRange, BadInterval, BadCursor, ShortOutput, checkRows, buildRows, removeRows, insertRows, readRows, startRows, stepRows, drainRows, plainRows, findAllRows}
+use Rattle.iset.specs.Refusals.{Rows, accept, refuse, Exactly, NoSuch, Stale, BadRange, BadRuled, BadInterval, NoForm, BadCursor, ShortOutput, checkRows, buildRows, removeRows, insertRows, readRows, startRows, stepRows, drainRows, plainRows, findAllRows}
 use Rattle.iset.specs.Ticket.{age, ticketNumber, readNumber, ReadAnswer, readCall}
 use Rattle.iset.specs.declared.Map.{Map}
 use Rattle.iset.specs.declared.ticket.Ticket.{Ticket}
@@ -326,17 +329,36 @@ disordered (Excluded a) (Excluded b) e = ltb-false a b e
 disordered (Excluded a) Unbounded e = absurd (true≢false e)
 disordered Unbounded y e = absurd (true≢false e)
 
+-- a range by the rule of a number
+module _ (k : ℕ) (q : Span) where
+  accepted-not : accepts k (q .lo) (q .hi) ≡ true → BadRuled k q → ⊥
+  accepted-not e b = go (eqb k 1) refl (eqb k 2) refl e
+    where
+      go : (t : Bool) → eqb k 1 ≡ t → (u : Bool) → eqb k 2 ≡ u → cond t (ordered (q .lo) (q .hi)) (cond u (anyWhole (q .lo) (q .hi)) false) ≡ true → ⊥
+      go true i u j p = ordered-not (q .lo) (q .hi) p (b .0 (eqb-true k 1 i))
+      go false i true j p = b .1 (eqb-true k 2 j) (firstFrom (q .lo)) (any-holds (q .lo) (q .hi) p)
+      go false i false j p = true≢false (sym p)
+
+  pub not-accepted : accepts k (q .lo) (q .hi) ≡ false → BadRuled k q
+  not-accepted e = (
+    λ i. disordered (q .lo) (q .hi) (rw i at e),
+    λ i a h. true≢false (sym (holds-any (q .lo) (q .hi) a h) ∙ (rw i at e)),
+  )
+
 -- A lookup's range or interval, and its cursor.
 module _ (m : Map) (W C : List ℕ) where
   -- the rows of a query alone
   abbrev queryRow : Query → Rows
   queryRow (Overlap q) = refuse 4 (BadRange (q .lo) (q .hi)) accept
+  queryRow (Ruled k q) = refuse 4 (BadRuled k q) accept
   queryRow (Exact x) = refuse 5 (BadInterval (x .start) (x .end)) accept
 
   query-row : (q : Query) → Exactly (queryRow q) (queryNumber q)
   query-row (Overlap q) =
       passed-row 4 (BadRange (q .lo) (q .hi)) accept 0 (ordered (q .lo) (q .hi)) (omega arith)
       (ordered-not (q .lo) (q .hi)) (disordered (q .lo) (q .hi)) (λ t. refl)
+  query-row (Ruled k q) =
+      passed-row 4 (BadRuled k q) accept 0 (accepts k (q .lo) (q .hi)) (omega arith) (accepted-not k q) (not-accepted k q) (λ t. refl)
   query-row (Exact x) =
       passed-row 5 (BadInterval (x .start) (x .end)) accept 0 (ltb (x .start) (x .end)) (omega arith)
       (λ t p. omega (arith, ltb-true (x .start) (x .end) t)) (ltb-false (x .start) (x .end)) (λ t. refl)
@@ -348,6 +370,7 @@ module _ (m : Map) (W C : List ℕ) where
     where
       apart : (q : Query) → Apart (checkRows m W C) (queryRow q)
       apart (Overlap q) = omega arith
+      apart (Ruled k q) = omega arith
       apart (Exact x) = omega arith
 
   -- the fresh cursor of an exact lookup
@@ -369,15 +392,17 @@ module _ (m : Map) (W C : List ℕ) where
       passed-row 9 (places < m .count) accept 0 (leb (m .count) places) (omega arith)
       (λ t p. omega (arith, leb-true (m .count) places t)) (leb-false (m .count) places) (λ t. refl)
 
+  plain-any : (q : Query) (places : ℕ) → Apart (followed (checkRows m W C) (queryRow q)) (refuse 9 (places < m .count) accept)
+      → Exactly (followed (followed (checkRows m W C) (queryRow q)) (refuse 9 (places < m .count) accept)) (plainNumber m W C q places)
+  plain-any q places a =
+      rw (plain-order m W C q places)
+      (first-then (followed (checkRows m W C) (queryRow q)) (refuse 9 (places < m .count) accept) (startNumber m W C q)
+      (cond (leb (m .count) places) 0 9) a (start-row q) (λ e. places-row places))
+
   plain-row : (q : Query) (places : ℕ) → Exactly (plainRows m W C q places) (plainNumber m W C q places)
-  plain-row (Overlap q) places =
-      rw (plain-order m W C (Overlap q) places)
-      (first-then (followed (checkRows m W C) (queryRow (Overlap q))) (refuse 9 (places < m .count) accept) (startNumber m W C (Overlap q))
-      (cond (leb (m .count) places) 0 9) (omega arith) (start-row (Overlap q)) (λ e. places-row places))
-  plain-row (Exact x) places =
-      rw (plain-order m W C (Exact x) places)
-      (first-then (followed (checkRows m W C) (queryRow (Exact x))) (refuse 9 (places < m .count) accept) (startNumber m W C (Exact x))
-      (cond (leb (m .count) places) 0 9) (omega arith) (start-row (Exact x)) (λ e. places-row places))
+  plain-row (Overlap q) places = plain-any (Overlap q) places (omega arith)
+  plain-row (Ruled k q) places = plain-any (Ruled k q) places (omega arith)
+  plain-row (Exact x) places = plain-any (Exact x) places (omega arith)
 
   plain-no : (q : Query) (out : List ℕ) → plainCall m W C q out .answer .no ≡ plainNumber m W C q (length out)
   unfolding plainCall
@@ -394,6 +419,7 @@ module _ (m : Map) (W C : List ℕ) where
   -- the fast lookup: the query alone
   find-all-row : (q : Query) → Exactly (findAllRows m W C q) (startNumber m W C q)
   find-all-row (Overlap q) = start-row (Overlap q)
+  find-all-row (Ruled k q) = start-row (Ruled k q)
   find-all-row (Exact x) = start-row (Exact x)
 
   find-all-no : (q : Query) (out : List ℕ) → findAllCall m W C q out .answer .no ≡ startNumber m W C q
@@ -417,17 +443,23 @@ module _ (m : Map) (W C : List ℕ) where
     by-form form.Ended B x y z b = ((λ i. absurd (omega arith), λ p. absurd (z refl p)), λ n. refl)
     by-form form.Bad B x y z b = ((λ i. b refl, λ p. refl), λ n. absurd (n (b refl)))
 
+    -- the query is `Overlap q`, or `Ruled k q` for some k
+    range-row : (query : Query) (q : Span) → startNumber m W C query ≡ 0
+        → Exactly (refuse 7 (NoForm m W C c) accept) (formNumber (formOf W (m .count) (m .root) c))
+    range-row query q e =
+        let P : Passes W C (m .count) (m .root) = tree-of m W C query e in
+        let f : m .count ≤ 65535 = few m W C query e in
+        by-form (formOf W (m .count) (m .root) c) (NoForm m W C c)
+        (λ i p. p .0 (overlap-fresh-form W C (m .count) (m .root) 1 q f P c .0 i))
+        (λ i p. p .2 P (overlap-held-form W C (m .count) (m .root) 1 q f P c .0 i))
+        (λ i p. p .1 (overlap-ended-form W C (m .count) (m .root) 1 q f P c .0 i))
+        (λ i. let b = overlap-bad-form W C (m .count) (m .root) 1 q f P c i in
+        (b .0, b .1, λ P′. overlap-bad-form W C (m .count) (m .root) 1 q f P′ c i .2))
+
     form-row : (q : Query) → startNumber m W C q ≡ 0
         → Exactly (refuse 7 (BadCursor m W C q c) accept) (formNumber (formOf W (m .count) (beginning m W q) c))
-    form-row (Overlap q) e =
-        let P : Passes W C (m .count) (m .root) = tree-of m W C (Overlap q) e in
-        let f : m .count ≤ 65535 = few m W C (Overlap q) e in
-        by-form (formOf W (m .count) (m .root) c) (BadCursor m W C (Overlap q) c)
-        (λ i p. p .0 (overlap-fresh-form W C (m .count) (m .root) q f P c .0 i))
-        (λ i p. p .2 P (overlap-held-form W C (m .count) (m .root) q f P c .0 i))
-        (λ i p. p .1 (overlap-ended-form W C (m .count) (m .root) q f P c .0 i))
-        (λ i. let b = overlap-bad-form W C (m .count) (m .root) q f P c i in
-        (b .0, b .1, λ P′. overlap-bad-form W C (m .count) (m .root) q f P′ c i .2))
+    form-row (Overlap q) e = range-row (Overlap q) q e
+    form-row (Ruled k q) e = range-row (Ruled k q) q e
     form-row (Exact x) e =
         let P : Passes W C (m .count) (m .root) = tree-of m W C (Exact x) e in
         let f : m .count ≤ 65535 = few m W C (Exact x) e in
@@ -446,15 +478,17 @@ module _ (m : Map) (W C : List ℕ) where
         (λ i. let b = exact-bad-form W C (m .count) (m .root) x f P k h c i in
         (b .0, b .1, λ P′ h′. exact-bad-form W C (m .count) (m .root) x f P′ k h′ c i .2)))
 
+    step-any : (q : Query) → Apart (followed (checkRows m W C) (queryRow q)) (refuse 7 (BadCursor m W C q c) accept)
+        → Exactly (followed (followed (checkRows m W C) (queryRow q)) (refuse 7 (BadCursor m W C q c) accept)) (stepNumber m W C q c)
+    step-any q a =
+        rw (step-order m W C q c)
+        (first-then (followed (checkRows m W C) (queryRow q)) (refuse 7 (BadCursor m W C q c) accept) (startNumber m W C q)
+        (formNumber (formOf W (m .count) (beginning m W q) c)) a (start-row q) (form-row q))
+
     step-row : (q : Query) → Exactly (stepRows m W C q c) (stepNumber m W C q c)
-    step-row (Overlap q) =
-        rw (step-order m W C (Overlap q) c)
-        (first-then (followed (checkRows m W C) (queryRow (Overlap q))) (refuse 7 (BadCursor m W C (Overlap q) c) accept) (startNumber m W C (Overlap q))
-        (formNumber (formOf W (m .count) (m .root) c)) (omega arith) (start-row (Overlap q)) (form-row (Overlap q)))
-    step-row (Exact x) =
-        rw (step-order m W C (Exact x) c)
-        (first-then (followed (checkRows m W C) (queryRow (Exact x))) (refuse 7 (BadCursor m W C (Exact x) c) accept) (startNumber m W C (Exact x))
-        (formNumber (formOf W (m .count) (beginning m W (Exact x)) c)) (omega arith) (start-row (Exact x)) (form-row (Exact x)))
+    step-row (Overlap q) = step-any (Overlap q) (omega arith)
+    step-row (Ruled k q) = step-any (Ruled k q) (omega arith)
+    step-row (Exact x) = step-any (Exact x) (omega arith)
 
     step-no : (q : Query) → stepCall m W C q c .no ≡ stepNumber m W C q c
     unfolding stepCall
@@ -480,15 +514,17 @@ module _ (m : Map) (W C : List ℕ) where
           (λ t. short-is limit places .1 (ltb-true places (limitOf limit places) t))
           (λ t p. omega (arith, ltb-false places (limitOf limit places) t, short-is limit places .0 p)) (λ t. refl)
 
+      drain-any : (q : Query) (places : ℕ) → Apart (stepRows m W C q c) (refuse 9 (ShortOutput limit places) accept)
+          → Exactly (followed (stepRows m W C q c) (refuse 9 (ShortOutput limit places) accept)) (drainNumber m W C q c limit places)
+      drain-any q places a =
+          rw (drain-order m W C q c limit places)
+          (first-then (stepRows m W C q c) (refuse 9 (ShortOutput limit places) accept) (stepNumber m W C q c)
+          (cond (ltb places (limitOf limit places)) 9 0) a (step-row q) (λ e. room-row places))
+
       drain-row : (q : Query) (places : ℕ) → Exactly (drainRows m W C q c limit places) (drainNumber m W C q c limit places)
-      drain-row (Overlap q) places =
-          rw (drain-order m W C (Overlap q) c limit places)
-          (first-then (stepRows m W C (Overlap q) c) (refuse 9 (ShortOutput limit places) accept) (stepNumber m W C (Overlap q) c)
-          (cond (ltb places (limitOf limit places)) 9 0) (omega arith) (step-row (Overlap q)) (λ e. room-row places))
-      drain-row (Exact x) places =
-          rw (drain-order m W C (Exact x) c limit places)
-          (first-then (stepRows m W C (Exact x) c) (refuse 9 (ShortOutput limit places) accept) (stepNumber m W C (Exact x) c)
-          (cond (ltb places (limitOf limit places)) 9 0) (omega arith) (step-row (Exact x)) (λ e. room-row places))
+      drain-row (Overlap q) places = drain-any (Overlap q) places (omega arith)
+      drain-row (Ruled k q) places = drain-any (Ruled k q) places (omega arith)
+      drain-row (Exact x) places = drain-any (Exact x) places (omega arith)
 
       drain-no : (q : Query) (out : List ℕ) → drainCall m W C q c limit out .answer .no ≡ drainNumber m W C q c limit (length out)
       unfolding drainCall

@@ -23,7 +23,8 @@ use Rattle.tree.proofs.Checked.{tree-low}
 use Rattle.iter.specs.Lists.{when}
 use Rattle.iter.specs.Cursors.{fresh}
 use Rattle.iter.specs.Forms.{formOf}
-use Rattle.iter.specs.Overlap.{meets}
+use Rattle.iter.specs.Ranges.{byRule}
+use Rattle.iter.specs.Overlap.{meets, ruled}
 use Rattle.iter.specs.Exact.{equals}
 use Rattle.iter.specs.Walk.{Rules, Answer, fuel, call}
 use Rattle.iter.specs.Walk as walk
@@ -34,7 +35,7 @@ use Rattle.iter.specs.declared.Cursor.{Cursor}
 use Rattle.iter.specs.declared.Form.{Form}
 use Rattle.iter.specs.declared.Form.the-variants as form
 use Rattle.iter.specs.declared.rules.Query.{Query}
-use Rattle.iter.specs.declared.rules.Query.the-variants.{Overlap, Exact}
+use Rattle.iter.specs.declared.rules.Query.the-variants.{Overlap, Ruled, Exact}
 use Rattle.iter.proofs.Drains.{drain-count, drain-split}
 use Rattle.iter_laws.specs.Entered.{entered, overlapRule, exactRule}
 use Rattle.iter_laws.proofs.Walks.{Walk}
@@ -44,11 +45,11 @@ use Rattle.iter_laws.proofs.Overlaps.{overlap-walk}
 use Rattle.iter_laws.proofs.OverlapRuns.{overlap-each, overlap-bound}
 use Rattle.iter_laws.proofs.ExactRuns.{exact-start, exact-each, walk-below, all-below, walk-none}
 use Rattle.iset.specs.Check.{checkRule}
-use Rattle.iset.specs.Lookup.{ordered, queryNumber, beginning, formNumber, startNumber, stepNumber, drainNumber, startCall, stepCall, drainCall}
-use Rattle.iset.specs.Runs.{Ask, step, drain, Given, given, Run, run, short, wanted, total, Sound, AllSound, Hold, NoneRefused, Lookup, OverlapRun, Begins, at-highest, no-equal, ExactRun}
-use Rattle.iset.specs.Refusals.{BadRange, BadInterval}
+use Rattle.iset.specs.Lookup.{ordered, accepts, queryNumber, beginning, formNumber, startNumber, stepNumber, drainNumber, startCall, stepCall, drainCall}
+use Rattle.iset.specs.Runs.{Ask, step, drain, Given, given, Run, run, short, wanted, total, Sound, AllSound, Hold, NoneRefused, Lookup, RangeRun, OverlapRun, Begins, at-highest, no-equal, ExactRun}
+use Rattle.iset.specs.Refusals.{BadRange, BadRuled, BadInterval}
 use Rattle.iset.specs.declared.Map.{Map}
-use Rattle.iset.proofs.Refusals.{disordered}
+use Rattle.iset.proofs.Refusals.{disordered, not-accepted}
 use Rattle.iset.proofs.Lookups.{step-accepts, not-bad}
 use Rattle.iset.proofs.Found.{tree-of, few, fresh-accepted}
 use Rattle.iset.proofs.Orders.{start-order, step-order, drain-order}
@@ -208,35 +209,66 @@ module _ (m : Map) (W C : List ℕ) (sound : checkRule m W C ≡ 0) where
       go true e = refl
       go false e = absurd (d (disordered (q .lo) (q .hi) e))
 
+  pub ruled-started : (k : ℕ) (q : Span) → (BadRuled k q → ⊥) → startNumber m W C (Ruled k q) ≡ 0
+  ruled-started k q d = started (Ruled k q) (go (accepts k (q .lo) (q .hi)) refl)
+    where
+      go : (b : Bool) → accepts k (q .lo) (q .hi) ≡ b → _≡_ {A = ℕ} (cond b 0 4) 0
+      go true e = refl
+      go false e = absurd (d (not-accepted k q e))
+
   pub interval-started : (x : Interval) → (BadInterval (x .start) (x .end) → ⊥) → startNumber m W C (Exact x) ≡ 0
   interval-started x d = started (Exact x) (rw (lt-ltb (x .start) (x .end) (omega arith)))
 
+-- the queries for the entries of a range: by rule 1, and by the rule of a number
+pub data ForRange : Query → ℕ → Span → Type 0 where
+  by-default : (q : Span) → ForRange (Overlap q) 1 q
+  by-number : (k : ℕ) (q : Span) → ForRange (Ruled k q) k q
+
 -- overlap lookup
-module _ (m : Map) (W C : List ℕ) (q : Span) (e : startNumber m W C (Overlap q) ≡ 0) (P : Passes W C (m .count) (m .root)) where
-  overlap-w : Walk W (m .count) (rules W (m .count) (Overlap q)) (overlapRule W q) U (m .root) (P .tree)
+module _ (m : Map) (W C : List ℕ) (P : Passes W C (m .count) (m .root)) where
+  range-w : (query : Query) (k : ℕ) (q : Span) → ForRange query k q → startNumber m W C query ≡ 0
+      → Walk W (m .count) (rules W (m .count) query) (overlapRule W q) U (beginning m W query) (P .tree)
   unfolding rules
-  overlap-w = overlap-walk W C (m .count) (m .root) q (few m W C (Overlap q) e) P
+  range-w _ _ _ (by-default q) e = overlap-walk W C (m .count) (m .root) 1 q (few m W C (Overlap q) e) P
+  range-w _ _ _ (by-number k q) e = overlap-walk W C (m .count) (m .root) k q (few m W C (Ruled k q) e) P
 
-  overlap-lookup : (l : List Ask)
-      → Lookup m W C (Overlap q) (fresh (m .root)) (filter (meets W q) (tree.slots (P .tree))) (entered (overlapRule W q) (P .tree)) l
-  unfolding rules
-  overlap-lookup l = looked m W C (Overlap q) e (overlapRule W q) U (P .tree) overlap-w l
+  module _ (query : Query) (k : ℕ) (q : Span) (R : ForRange query k q) (e : startNumber m W C query ≡ 0) (l : List Ask) where
+    range-lookup : Lookup m W C query (fresh (m .root)) (filter (meets W (byRule k q)) (tree.slots (P .tree))) (entered (overlapRule W q) (P .tree)) l
+    unfolding rules
+    range-lookup = go query k q R e
+      where
+        go : (query : Query) (k : ℕ) (q : Span) → ForRange query k q → startNumber m W C query ≡ 0
+            → Lookup m W C query (fresh (m .root)) (filter (meets W (byRule k q)) (tree.slots (P .tree))) (entered (overlapRule W q) (P .tree)) l
+        go _ _ _ (by-default q) e = looked m W C (Overlap q) e (overlapRule W q) U (P .tree) (range-w (Overlap q) 1 q (by-default q) e) l
+        go _ _ _ (by-number k q) e = looked m W C (Ruled k q) e (overlapRule W q) U (P .tree) (range-w (Ruled k q) k q (by-number k q) e) l
 
--- Demand 3, of the public calls.
+    entered-is : run m W C query (fresh (m .root)) l .entered ≡ drains.drain W (m .count) (ruled W (m .count) k q) (total l) (fresh (m .root)) .entered
+    unfolding rules
+    entered-is = go query k q R e
+      where
+        go : (query : Query) (k : ℕ) (q : Span) → ForRange query k q → startNumber m W C query ≡ 0
+            → run m W C query (fresh (m .root)) l .entered ≡ drains.drain W (m .count) (ruled W (m .count) k q) (total l) (fresh (m .root)) .entered
+        go _ _ _ (by-default q) e =
+            ap (λ (r : Run). r .entered) (run-is m W C (Overlap q) e (overlapRule W q) U (P .tree) (range-w (Overlap q) 1 q (by-default q) e) l (fresh (m .root))
+            (fresh-accepted m W C (Overlap q) e))
+        go _ _ _ (by-number k q) e =
+            ap (λ (r : Run). r .entered) (run-is m W C (Ruled k q) e (overlapRule W q) U (P .tree) (range-w (Ruled k q) k q (by-number k q) e) l (fresh (m .root))
+            (fresh-accepted m W C (Ruled k q) e))
+
+    -- Demand 3, of the public calls.
+    pub range-runs : RangeRun m W C query k q (P .tree) l
+    range-runs =
+        let f : m .count ≤ 65535 = few m W C query e in
+        record {
+          lookup = range-lookup;
+          once-each = overlap-each W C (m .count) (m .root) k q f P;
+          bound = rw (← (range-lookup .counted), entered-is) (overlap-bound W C (m .count) (m .root) k q f P (total l));
+          low = tree-low W C (m .count) (m .root) P f;
+        }
+
 pub overlap-runs : (m : Map) (W C : List ℕ) (q : Span) → checkRule m W C ≡ 0 → (BadRange (q .lo) (q .hi) → ⊥)
     → (P : Passes W C (m .count) (m .root)) (l : List Ask) → OverlapRun m W C q (P .tree) l
-unfolding rules
-overlap-runs m W C q sound ranged P l =
-    let e : startNumber m W C (Overlap q) ≡ 0 = range-started m W C sound q ranged in
-    let f : m .count ≤ 65535 = few m W C (Overlap q) e in
-    let L = overlap-lookup m W C q e P l in
-    let is = run-is m W C (Overlap q) e (overlapRule W q) U (P .tree) (overlap-w m W C q e P) l (fresh (m .root)) (fresh-accepted m W C (Overlap q) e) in
-    record {
-      lookup = L;
-      once-each = overlap-each W C (m .count) (m .root) q f P;
-      bound = rw (← (L .counted), is) (overlap-bound W C (m .count) (m .root) q f P (total l));
-      low = tree-low W C (m .count) (m .root) P f;
-    }
+overlap-runs m W C q sound ranged P l = range-runs m W C P (Overlap q) 1 q (by-default q) (range-started m W C sound q ranged) l
 
 -- exact lookup: it "starts at the highest equal node"
 pub exact-fresh : (m : Map) (W C : List ℕ) (x : Interval) → startNumber m W C (Exact x) ≡ 0 → startCall m W C x .cursor ≡ fresh (beginning m W (Exact x))
@@ -291,7 +323,11 @@ pub cursor-accepted : (m : Map) (W C : List ℕ) (q : Query) (c : Cursor) (x : A
 cursor-accepted m W C (Overlap q) c x e =
     let s : startNumber m W C (Overlap q) ≡ 0 = step-accepts m W C (Overlap q) c e .0 in
     let P = tree-of m W C (Overlap q) s in
-    next-accepted m W C (Overlap q) s (overlapRule W q) U (P .tree) (overlap-w m W C q s P) x c e
+    next-accepted m W C (Overlap q) s (overlapRule W q) U (P .tree) (range-w m W C P (Overlap q) 1 q (by-default q) s) x c e
+cursor-accepted m W C (Ruled k q) c x e =
+    let s : startNumber m W C (Ruled k q) ≡ 0 = step-accepts m W C (Ruled k q) c e .0 in
+    let P = tree-of m W C (Ruled k q) s in
+    next-accepted m W C (Ruled k q) s (overlapRule W q) U (P .tree) (range-w m W C P (Ruled k q) k q (by-number k q) s) x c e
 cursor-accepted m W C (Exact i) c x e =
     let s : startNumber m W C (Exact i) ≡ 0 = step-accepts m W C (Exact i) c e .0 in
     from-tree m W C i s (tree-of m W C (Exact i) s) (λ p t B w z. next-accepted m W C (Exact i) s (exactRule W i) p t w x c e)

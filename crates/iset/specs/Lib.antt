@@ -16,6 +16,7 @@ pub mod AtOnce
 pub mod PlainRuns
 pub mod FindRuns
 pub mod Refusals
+pub mod Ruled
 pub mod Versions
 pub mod Saved
 pub mod Below

@@ -1,8 +1,8 @@
 -- "overlap step 1, 2, 4, 7; exact step 1, 2, 5, 7; drain as its step, then 9": the check, then what
 -- an opened lookup tests
 -- Letters: m map, W words, C colours, a lower number or answer, b higher number, h hit?, s step,
---   d drained, y high bound or refusal, x interval, q range or query, c cursor, k number of a
---   refusal
+--   d drained, y high bound or refusal, x low or interval, q range or query, c cursor, k rule or
+--   number of a refusal
 use mathlib.Core.Bool.{Bool, true, false, cond}
 use mathlib.Core.List.{List}
 use Prim.Native.Nat.{ℕ}
@@ -14,6 +14,7 @@ use Rattle.words.specs.Intervals.{proper}
 use Rattle.words.specs.declared.interval.Bound.{Bound}
 use Rattle.words.specs.declared.interval.Bound.the-variants.{Included, Excluded, Unbounded}
 use Rattle.words.specs.declared.interval.Interval.{Interval}
+use Rattle.iter.specs.Ranges.{anyWhole}
 use Rattle.iter.specs.Cursors.{fresh, ended}
 use Rattle.iter.specs.Exact.{findFrom}
 use Rattle.iter.specs.Forms.{formOf}
@@ -25,7 +26,7 @@ use Rattle.iter.specs.declared.Cursor.{Cursor}
 use Rattle.iter.specs.declared.Form.{Form}
 use Rattle.iter.specs.declared.Form.the-variants as form
 use Rattle.iter.specs.declared.rules.Query.{Query}
-use Rattle.iter.specs.declared.rules.Query.the-variants.{Overlap, Exact}
+use Rattle.iter.specs.declared.rules.Query.the-variants.{Overlap, Ruled, Exact}
 use Rattle.iset.specs.Effects.{Output, output}
 use Rattle.iset.specs.Check.{first, countNumber, checkRule}
 use Rattle.iset.specs.declared.Map.{Map}
@@ -46,14 +47,21 @@ ordered (Excluded a) (Excluded b) = ltb a b
 ordered (Excluded a) Unbounded = true
 ordered Unbounded y = true
 
+-- document 02, item 11: not BadRange by the rule of a number, "4 also for rule 2 when no whole
+-- address lies in the range, and for any other rule number"
+abbrev pub accepts : (rule : ℕ) (low high : Bound) → Bool
+accepts k x y = cond (eqb k 1) (ordered x y) (cond (eqb k 2) (anyWhole x y) false)
+
 -- 4: BadRange; 5: "a given interval has start >= end"
 abbrev pub queryNumber : (query : Query) → ℕ
 queryNumber (Overlap q) = cond (ordered (q .lo) (q .hi)) 0 4
+queryNumber (Ruled k q) = cond (accepts k (q .lo) (q .hi)) 0 4
 queryNumber (Exact x) = cond (proper x) 0 5
 
 -- where a lookup begins: the root, or "the highest equal node, U if none"
 abbrev pub beginning : (map : Map) (words : List ℕ) (query : Query) → ℕ
 beginning m W (Overlap q) = m .root
+beginning m W (Ruled k q) = m .root
 beginning m W (Exact x) = findFrom W (m .count) x (m .root)
 
 -- 7: "cursor has no form below"

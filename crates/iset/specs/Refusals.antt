@@ -1,10 +1,10 @@
--- Document 01's table of refusals, document 02's items 1, 4, 5 and 6, and the fast lookup: for each
--- public call its rows, a refusal's number and when it is given, in the order in which the first is
--- given.
--- Letters: m map, W words, C colours, k number that is answered or limit, P condition or proof that
---   the store passes, a lower number, b higher number, y high bound, s slot or stack, i place of a
---   bit, h highest equal node, S triples, e entry, x interval, q range, c cursor, t ticket, I image
---   (its bytes)
+-- Document 01's table of refusals, document 02's items 1, 4, 5, 6 and 11, and the fast lookup: for
+-- each public call its rows, a refusal's number and when it is given, in the order in which the
+-- first is given.
+-- Letters: m map, W words, C colours, k number that is answered or rule or limit, P condition or
+--   proof that the store passes, a lower number, b higher number, y high bound, s slot or stack,
+--   i place of a bit, h highest equal node, S triples, e entry, x interval, q range, c cursor,
+--   t ticket, I image (its bytes)
 use mathlib.Core.Path.{_≡_}
 use mathlib.Core.Bool.{true}
 use mathlib.Core.Logic.{_↔_, _⊎_}
@@ -15,6 +15,7 @@ use Rattle.words.specs.Nodes.{capacity, bitsOf}
 use Rattle.words.specs.declared.interval.Bound.{Bound}
 use Rattle.words.specs.declared.interval.Bound.the-variants.{Included, Excluded, Unbounded}
 use Rattle.words.specs.declared.interval.Interval.{Interval}
+use Rattle.words.specs.declared.interval.Span.{Span}
 use Rattle.words.specs.declared.node.Entry.{Entry}
 use Rattle.tree.specs.Tree.{node}
 use Rattle.tree.specs.Order.{NotAfter}
@@ -24,7 +25,8 @@ use Rattle.stack.specs.declared.ActionStack.{ActionStack}
 use Rattle.iter.specs.Cursors.{fresh, ended}
 use Rattle.iter.specs.declared.Cursor.{Cursor}
 use Rattle.iter.specs.declared.rules.Query.{Query}
-use Rattle.iter.specs.declared.rules.Query.the-variants.{Overlap, Exact}
+use Rattle.iter.specs.declared.rules.Query.the-variants.{Overlap, Ruled, Exact}
+use Rattle.iter_laws.specs.Addresses.{InRange}
 use Rattle.iter_laws.specs.Place.{Held}
 use Rattle.iter_laws.specs.Highest.{Highest}
 use Rattle.image_rule.specs.Layout.{imageLength, countIn, rootIn, laidOut}
@@ -67,16 +69,25 @@ BadRange (Excluded a) (Excluded b) = b ≤ a
 BadRange (Excluded a) Unbounded = ⊥
 BadRange Unbounded y = ⊥
 
+-- document 02, item 11: 4 "also for rule 2 when no whole address lies in the range, and for any
+-- other rule number"
+abbrev pub BadRuled : (rule : ℕ) (range : Span) → Type 0
+BadRuled k q = (k ≡ 1 → BadRange (q .lo) (q .hi)) × (k ≡ 2 → (a : ℕ) → InRange q a → ⊥)
+
 -- 5: "a given interval has start >= end"
 abbrev pub BadInterval : (start stop : ℕ) → Type 0
 BadInterval start stop = stop ≤ start
 
--- 7: "cursor has no form below"; a lookup for an interval begins at the highest equal node, and has
--- no held form where there is none
+-- 7: "cursor has no form below"; a lookup for a range begins at the root, one for an interval
+-- begins at the highest equal node, and has no held form where there is none
+abbrev pub NoForm : (map : Map) (words colours : List ℕ) (cursor : Cursor) → Type 0
+NoForm m W C c =
+    (c ≡ fresh (m .root) → ⊥) × (c ≡ ended → ⊥) × ((P : Passes W C (m .count) (m .root)) → Held (P .tree) c → ⊥)
+
 abbrev pub BadCursor : (map : Map) (words colours : List ℕ) (query : Query) (cursor : Cursor)
     → Type 0
-BadCursor m W C (Overlap q) c =
-    (c ≡ fresh (m .root) → ⊥) × (c ≡ ended → ⊥) × ((P : Passes W C (m .count) (m .root)) → Held (P .tree) c → ⊥)
+BadCursor m W C (Overlap q) c = NoForm m W C c
+BadCursor m W C (Ruled k q) c = NoForm m W C c
 BadCursor m W C (Exact x) c =
     (c ≡ fresh (beginning m W (Exact x)) → ⊥) × (c ≡ ended → ⊥)
     × ((P : Passes W C (m .count) (m .root)) (h : Highest W x (P .tree) (beginning m W (Exact x)))
@@ -127,6 +138,8 @@ startRows m W C x = refuse 1 (NoRoom m W C) (refuse 2 (Broken m W C) (refuse 5 (
 abbrev pub stepRows : (map : Map) (words colours : List ℕ) (query : Query) (cursor : Cursor) → Rows
 stepRows m W C (Overlap q) c =
     refuse 1 (NoRoom m W C) (refuse 2 (Broken m W C) (refuse 4 (BadRange (q .lo) (q .hi)) (refuse 7 (BadCursor m W C (Overlap q) c) accept)))
+stepRows m W C (Ruled k q) c =
+    refuse 1 (NoRoom m W C) (refuse 2 (Broken m W C) (refuse 4 (BadRuled k q) (refuse 7 (BadCursor m W C (Ruled k q) c) accept)))
 stepRows m W C (Exact x) c =
     refuse 1 (NoRoom m W C) (refuse 2 (Broken m W C) (refuse 5 (BadInterval (x .start) (x .end)) (refuse 7 (BadCursor m W C (Exact x) c) accept)))
 
@@ -135,6 +148,9 @@ abbrev pub drainRows : (map : Map) (words colours : List ℕ) (query : Query) (c
     (limit places : ℕ) → Rows
 drainRows m W C (Overlap q) c limit places =
     refuse 1 (NoRoom m W C) (refuse 2 (Broken m W C) (refuse 4 (BadRange (q .lo) (q .hi)) (refuse 7 (BadCursor m W C (Overlap q) c)
+    (refuse 9 (ShortOutput limit places) accept))))
+drainRows m W C (Ruled k q) c limit places =
+    refuse 1 (NoRoom m W C) (refuse 2 (Broken m W C) (refuse 4 (BadRuled k q) (refuse 7 (BadCursor m W C (Ruled k q) c)
     (refuse 9 (ShortOutput limit places) accept))))
 drainRows m W C (Exact x) c limit places =
     refuse 1 (NoRoom m W C) (refuse 2 (Broken m W C) (refuse 5 (BadInterval (x .start) (x .end)) (refuse 7 (BadCursor m W C (Exact x) c)
@@ -145,6 +161,8 @@ drainRows m W C (Exact x) c limit places =
 abbrev pub plainRows : (map : Map) (words colours : List ℕ) (query : Query) (places : ℕ) → Rows
 plainRows m W C (Overlap q) places =
     refuse 1 (NoRoom m W C) (refuse 2 (Broken m W C) (refuse 4 (BadRange (q .lo) (q .hi)) (refuse 9 (places < m .count) accept)))
+plainRows m W C (Ruled k q) places =
+    refuse 1 (NoRoom m W C) (refuse 2 (Broken m W C) (refuse 4 (BadRuled k q) (refuse 9 (places < m .count) accept)))
 plainRows m W C (Exact x) places =
     refuse 1 (NoRoom m W C) (refuse 2 (Broken m W C) (refuse 5 (BadInterval (x .start) (x .end)) (refuse 9 (places < m .count) accept)))
 
@@ -152,6 +170,7 @@ plainRows m W C (Exact x) places =
 -- short output are counted and not written
 abbrev pub findAllRows : (map : Map) (words colours : List ℕ) (query : Query) → Rows
 findAllRows m W C (Overlap q) = refuse 1 (NoRoom m W C) (refuse 2 (Broken m W C) (refuse 4 (BadRange (q .lo) (q .hi)) accept))
+findAllRows m W C (Ruled k q) = refuse 1 (NoRoom m W C) (refuse 2 (Broken m W C) (refuse 4 (BadRuled k q) accept))
 findAllRows m W C (Exact x) = startRows m W C x
 
 -- document 02, item 6: writing an image, "1, 2, then 9 for a short output"

@@ -17,6 +17,7 @@ use Rattle.tree.specs.Tree.{Tree, leaf, node, height, times}
 use Rattle.tree.specs.Tree as tree
 use Rattle.iter.specs.Lists.{when}
 use Rattle.iter.specs.Cursors.{fresh, ended}
+use Rattle.iter.specs.Ranges.{byRule}
 use Rattle.iter.specs.Overlap.{meets}
 use Rattle.iter.specs.Exact.{equals}
 use Rattle.iter.specs.Walk.{fuel, call, after}
@@ -154,13 +155,17 @@ OnceEach n p found = (s : ℕ) → s < n → times s found ≡ cond (p s) 1 0
 -- Demand 3: "An overlap lookup from fresh to end on an unchanged checked store of height h hands
 -- out exactly the intersecting entries, in tree order, once each; the nodes it enters are exactly
 -- those the pruning rules name, at most h + t·h·(h-1)/2, t the entries that meet or touch; h ≤ 32".
--- The tree of the store is t.
-pub record OverlapRun (m : Map) (W C : List ℕ) (q : Span) (t : Tree) (l : List Ask) : Type 0 where
-  pub lookup : Lookup m W C (Overlap q) (fresh (m .root)) (filter (meets W q) (tree.slots t)) (entered (overlapRule W q) t) l
-  pub once-each : OnceEach (m .count) (meets W q) (filter (meets W q) (tree.slots t))
+-- The tree of the store is t. The query is `Overlap q` or, by the rule k, `Ruled k q`.
+pub record RangeRun (m : Map) (W C : List ℕ) (query : Query) (k : ℕ) (q : Span) (t : Tree) (l : List Ask) : Type 0 where
+  pub lookup : Lookup m W C query (fresh (m .root)) (filter (meets W (byRule k q)) (tree.slots t)) (entered (overlapRule W q) t) l
+  pub once-each : OnceEach (m .count) (meets W (byRule k q)) (filter (meets W (byRule k q)) (tree.slots t))
   -- at the end, and before it
-  pub bound : length (run m W C (Overlap q) (fresh (m .root)) l .nodes) ≤ height t + touching W q t * (height t * (height t - 1)) / 2
+  pub bound : length (run m W C query (fresh (m .root)) l .nodes) ≤ height t + touching W q t * (height t * (height t - 1)) / 2
   pub low : height t ≤ 32
+
+abbrev pub OverlapRun : (map : Map) (words colours : List ℕ) (range : Span) (tree : Tree)
+    (calls : List Ask) → Type 0
+OverlapRun m W C q t l = RangeRun m W C (Overlap q) 1 q t l
 
 -- "Exact lookup starts at the highest equal node, U if none": it starts at the slot k and goes
 -- through the tree u.

@@ -1,4 +1,5 @@
-// Looking up: finds the entries that intersect a range, or those that are equal to an interval. A
+// Looking up: finds the entries that intersect a range, or those that are equal to an interval. By
+// rule 1 an entry intersects as in the Rust crate, and by rule 2 if some whole address lies in both. A
 // lookup goes step by step or returns many entries at once. A cursor is its place between two
 // calls.
 use crate::Checked;
@@ -6,6 +7,7 @@ use crate::Map;
 use iter::Cursor;
 use iter::Form;
 use iter::drain::Drained;
+use iter::ranges::holds_whole;
 use iter::rules::Query;
 use iter::rules::find_index;
 use iter::seek::Step;
@@ -26,7 +28,7 @@ ghost use Rattle.iter.specs.Queries.{rules};
 ghost use Rattle.iter.specs.Answers.{answer, isHit};
 ghost use Rattle.iset.specs.Effects.{output};
 ghost use Rattle.iset.specs.Check.{checkNumber};
-ghost use Rattle.iset.specs.Lookup.{ordered, queryNumber, beginning, formNumber, openStartNumber, openStepNumber, openDrainNumber, startAnswer, openStartCall, startCall, stepAnswer, openStepCall, stepCall, drainAnswer, openDrainCall, drainCall};
+ghost use Rattle.iset.specs.Lookup.{ordered, accepts, queryNumber, beginning, formNumber, openStartNumber, openStepNumber, openDrainNumber, startAnswer, openStartCall, startCall, stepAnswer, openStepCall, stepCall, drainAnswer, openDrainCall, drainCall};
 ghost use Rattle.words.specs.Nodes.{Holds};
 
 // What the calls return.
@@ -68,11 +70,29 @@ fn check_ordered(range: Span) -> bool
     }
 }
 
+// Whether a range is one by the rule of a number.
+fn is_accepted(rule: u64, range: Span) -> bool
+    ensures { λ r. ⌜ r ≡ accepts rule (range .lo) (range .hi) ⌝ }
+{
+    let lo = range.lo;
+    let hi = range.hi;
+    if rule == 1 {
+        return check_ordered(range);
+    }
+    if rule == 2 {
+        return holds_whole(lo, hi);
+    }
+    false
+}
+
 fn test_query(query: Query) -> Checked
     ensures { λ r. ⌜ checkNumber r ≡ queryNumber query ⌝ }
 {
     match query {
         Query::Overlap(range) => Checked::sound_if(check_ordered(range), Refusal::BadRange),
+        Query::Ruled(rule, range) => {
+            Checked::sound_if(is_accepted(rule, range), Refusal::BadRange)
+        }
         Query::Exact(x) => Checked::sound_if(x.is_proper(), Refusal::BadInterval),
     }
 }
@@ -142,6 +162,7 @@ impl Map {
     {
         match query {
             Query::Overlap(_) => self.root,
+            Query::Ruled(_, _) => self.root,
             Query::Exact(x) => find_index(nodes, self.count, x, self.root),
         }
     }

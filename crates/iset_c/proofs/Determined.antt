@@ -24,6 +24,10 @@ use Rattle.iset_c.proofs.save.iset_read_image.Reads as read-image-reads
 use Rattle.iset_c.proofs.save.iset_read_image.Kinds as read-image-kinds
 use Rattle.iset_c.proofs.lookup.iset_fresh.Reads as fresh-reads
 use Rattle.iset_c.proofs.lookup.iset_fresh.Kinds as fresh-kinds
+use Rattle.iset_c.proofs.call.step.Reads as call-step-reads
+use Rattle.iset_c.proofs.call.step.Kinds as call-step-kinds
+use Rattle.iset_c.proofs.call.drain.Reads as call-drain-reads
+use Rattle.iset_c.proofs.call.drain.Kinds as call-drain-kinds
 use Rattle.iset_c.proofs.lookup.iset_fresh_exact.Reads as fresh-exact-reads
 use Rattle.iset_c.proofs.lookup.iset_fresh_exact.Kinds as fresh-exact-kinds
 use Rattle.iset_c.proofs.lookup.iset_step.Reads as step-reads
@@ -199,3 +203,21 @@ pub find-all-exact-determined :
     × (now (s .1 .1 .1 .1 .1 .1 .1 .0) ≡ now (s′ .1 .1 .1 .1 .1 .1 .1 .0))
     × (now (s .1 .1 .1 .1 .1 .1 .0) ≡ now (s′ .1 .1 .1 .1 .1 .1 .0))
 find-all-exact-determined κs a r r′ s s′ p q = same-output p q
+
+-- what they share with the exports by a rule
+pub call-step-determined :
+    (κs : Lfts 3) (a : K.Dens κs call-step-kinds.ps) (r r′ : K.resT call-step-kinds.r κs .Denot)
+    (s s′ : AtExit (K.endedOf 3 call-step-kinds.ps call-step-kinds.r) κs)
+    → call-step-reads.Post κs a r s → call-step-reads.Post κs a r′ s′
+    → (r ≡ r′)
+    × (now (s .1 .1 .1 .1 .1 .0) ≡ now (s′ .1 .1 .1 .1 .1 .0))
+call-step-determined κs a r r′ s s′ p q = same-answer p q
+
+pub call-drain-determined :
+    (κs : Lfts 4) (a : K.Dens κs call-drain-kinds.ps) (r r′ : K.resT call-drain-kinds.r κs .Denot)
+    (s s′ : AtExit (K.endedOf 4 call-drain-kinds.ps call-drain-kinds.r) κs)
+    → call-drain-reads.Post κs a r s → call-drain-reads.Post κs a r′ s′
+    → (r ≡ r′)
+    × (now (s .1 .1 .1 .1 .1 .1 .1 .0) ≡ now (s′ .1 .1 .1 .1 .1 .1 .1 .0))
+    × (now (s .1 .1 .1 .1 .1 .1 .0) ≡ now (s′ .1 .1 .1 .1 .1 .1 .0))
+call-drain-determined κs a r r′ s s′ p q = same-output p q

@@ -8,6 +8,7 @@
 // for the numbers. The second is BadBound, if a bound's kind is not 0, 1 or 2. If anything is
 // refused, nothing lent has changed, the answer slice included.
 pub mod answer;
+pub mod call;
 pub mod find;
 pub mod lookup;
 pub mod range;

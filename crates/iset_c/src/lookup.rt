@@ -3,22 +3,18 @@
 use crate::BAD_BOUND;
 use crate::SHORT_ANSWER;
 use crate::answer::put_cursor;
-use crate::answer::put_drained;
-use crate::answer::put_step;
+use crate::call::drain;
+use crate::call::step;
 use crate::range::are_kinds;
 use crate::range::range;
 use iset::Cursor;
 use iset::Interval;
 use iset::Map;
 use iset::Query;
-use iset::lookup::Drain;
 use iset::lookup::Started;
-use iset::lookup::Stepped;
 ghost use mathlib.Core.Path.{_≡_};
 ghost use mathlib.Core.Bool.{true};
 ghost use mathlib.Core.List.{[], _∷_};
-ghost use Prim.Native.Nat.{_≤_};
-ghost use lib.ListN.{length};
 ghost use Rattle.iter.specs.Cursors.{fresh};
 ghost use Rattle.iset.specs.Maps.{mapOf};
 ghost use Rattle.iset_c.specs.Replies.{cursorOf, exit, freshReply, answerExit, startExit, stepExit, drainExit};
@@ -70,28 +66,6 @@ pub extern "C" fn iset_fresh_exact(
         Started::Refused(why) => why.number(),
         Started::Done(c) => {
             put_cursor(c, answer);
-            0
-        }
-    }
-}
-
-// A step of either kind of lookup.
-fn step(
-    map: Map,
-    nodes: &[u64],
-    colours: &[u8],
-    query: Query,
-    cursor: Cursor,
-    answer: &mut [u64],
-) -> u64
-    requires { ⌜ 5 ≤ length (now answer) ⌝ }
-    ensures { λ r. ⌜ exit r (now (answer .exit)) []
-        ≡ stepExit true (now (answer .entry)) map (now (nodes .entry)) (now (colours .entry)) query cursor ⌝ }
-{
-    match map.step(nodes, colours, query, cursor) {
-        Stepped::Refused(why) => why.number(),
-        Stepped::Done(s) => {
-            put_step(s, answer);
             0
         }
     }
@@ -170,30 +144,6 @@ pub extern "C" fn iset_step_exact(
         Cursor { slot, levels, bits },
         answer,
     )
-}
-
-// A drain of either kind of lookup.
-fn drain(
-    map: Map,
-    nodes: &[u64],
-    colours: &[u8],
-    query: Query,
-    cursor: Cursor,
-    limit: u64,
-    out: &mut [u64],
-    answer: &mut [u64],
-) -> u64
-    requires { ⌜ 5 ≤ length (now answer) ⌝ }
-    ensures { λ r. ⌜ exit r (now (answer .exit)) (now (out .exit) ∷ [])
-        ≡ drainExit true (now (answer .entry)) map (now (nodes .entry)) (now (colours .entry)) query cursor limit (now (out .entry)) ⌝ }
-{
-    match map.drain(nodes, colours, query, cursor, limit, out) {
-        Drain::Refused(why) => why.number(),
-        Drain::Done(d) => {
-            put_drained(d, answer);
-            0
-        }
-    }
 }
 
 // Steps from a cursor until the end, or until `limit` slots are in `out`. A limit of 0 means as

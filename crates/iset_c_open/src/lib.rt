@@ -1,6 +1,7 @@
 // The map for hosts in C and Rust that check a store once and then keep it to themselves. These are
 // the calls of crate iset_c without the store check, as include/iset_open.h declares them. Answers,
 // refusals and their order are those of crate iset_c, except that Broken is never returned.
+pub mod call;
 pub mod find;
 pub mod lookup;
 pub mod save;

@@ -1,25 +1,21 @@
 // Looking up in an opened store, one that passed the check and that only these calls have written
 // since. A cursor, a lookup's place between two calls, is three numbers: slot, levels and bits. A
 // bound is two numbers: its kind and its value.
+use crate::call::drain;
+use crate::call::step;
 use iset::Cursor;
 use iset::Interval;
 use iset::Map;
 use iset::Query;
-use iset::lookup::Drain;
 use iset::lookup::Started;
-use iset::lookup::Stepped;
 use iset_c::BAD_BOUND;
 use iset_c::SHORT_ANSWER;
 use iset_c::answer::put_cursor;
-use iset_c::answer::put_drained;
-use iset_c::answer::put_step;
 use iset_c::range::are_kinds;
 use iset_c::range::range;
 ghost use mathlib.Core.Path.{_≡_};
 ghost use mathlib.Core.Bool.{true};
 ghost use mathlib.Core.List.{[], _∷_};
-ghost use Prim.Native.Nat.{_≤_};
-ghost use lib.ListN.{length};
 ghost use Rattle.iset.specs.Maps.{mapOf};
 ghost use Rattle.iset_c.specs.Replies.{cursorOf, exit};
 ghost use Rattle.iset_c.specs.Ranges.{rangeOf, intervalOf, exactOf, kinds};
@@ -50,28 +46,6 @@ pub extern "C" fn iset_open_fresh_exact(
         Started::Refused(why) => why.number(),
         Started::Done(c) => {
             put_cursor(c, answer);
-            0
-        }
-    }
-}
-
-// A step of either kind of lookup.
-fn step(
-    map: Map,
-    nodes: &[u64],
-    colours: &[u8],
-    query: Query,
-    cursor: Cursor,
-    answer: &mut [u64],
-) -> u64
-    requires { ⌜ 5 ≤ length (now answer) ⌝ }
-    ensures { λ r. ⌜ exit r (now (answer .exit)) []
-        ≡ openStepExit true (now (answer .entry)) map (now (nodes .entry)) (now (colours .entry)) query cursor ⌝ }
-{
-    match map.open_step(nodes, colours, query, cursor) {
-        Stepped::Refused(why) => why.number(),
-        Stepped::Done(s) => {
-            put_step(s, answer);
             0
         }
     }
@@ -150,30 +124,6 @@ pub extern "C" fn iset_open_step_exact(
         Cursor { slot, levels, bits },
         answer,
     )
-}
-
-// A drain of either kind of lookup.
-fn drain(
-    map: Map,
-    nodes: &[u64],
-    colours: &[u8],
-    query: Query,
-    cursor: Cursor,
-    limit: u64,
-    out: &mut [u64],
-    answer: &mut [u64],
-) -> u64
-    requires { ⌜ 5 ≤ length (now answer) ⌝ }
-    ensures { λ r. ⌜ exit r (now (answer .exit)) (now (out .exit) ∷ [])
-        ≡ openDrainExit true (now (answer .entry)) map (now (nodes .entry)) (now (colours .entry)) query cursor limit (now (out .entry)) ⌝ }
-{
-    match map.open_drain(nodes, colours, query, cursor, limit, out) {
-        Drain::Refused(why) => why.number(),
-        Drain::Done(d) => {
-            put_drained(d, answer);
-            0
-        }
-    }
 }
 
 // Steps from a cursor until the end, or until `limit` slots are in `out`. A limit of 0 means as

@@ -17,6 +17,7 @@ use Rattle.words.specs.declared.ix.Link.the-variants.{Slot, Nil}
 use Rattle.words.proofs.Laws.{linked, unlinked}
 use Rattle.stack.specs.States.{top}
 use Rattle.stack.proofs.Levels.{four-two}
+use Rattle.iter.specs.Ranges.{byRule}
 use Rattle.iter.specs.Overlap.{shouldGo, shouldGoLeft, shouldGoRight, meets}
 use Rattle.iter.specs.Exact.{equals, toward, find}
 use Rattle.iter.specs.Queries.{rules}
@@ -26,7 +27,7 @@ use Rattle.iter.specs.declared.Cursor.{Cursor}
 use Rattle.iter.specs.declared.walk.Place.{Place}
 use Rattle.iter.proofs.Bools.{and-left, and-right}
 use Rattle.iter.specs.declared.rules.Query.{Query}
-use Rattle.iter.specs.declared.rules.Query.the-variants.{Overlap, Exact}
+use Rattle.iter.specs.declared.rules.Query.the-variants.{Overlap, Ruled, Exact}
 
 -- a link that was read and taken apart
 pub child-there : {A : Type 0} (r : A) (n w k a : ℕ) (l : Link) (f : ℕ → A) (z : A) → w ≡ k → l ≡ linkOf n w → l ≡ Slot a → r ≡ f a → r ≡ onLink n k f z
@@ -66,6 +67,10 @@ module _ (W : List ℕ) (n s : ℕ) (r : Bool) (q : Query) (i : Interval) (h : i
   pub match-overlap : (x : Span) → q ≡ Overlap x → r ≡ intersects x i → r ≡ rules W n q .match s
   unfolding rules meets
   match-overlap x e p = rw e (p ∙ ap (λ (j : Interval). intersects x j) h)
+
+  pub match-ruled : (k : ℕ) (x y : Span) → q ≡ Ruled k x → y ≡ byRule k x → r ≡ intersects y i → r ≡ rules W n q .match s
+  unfolding rules meets
+  match-ruled k x y e f p = rw e (p ∙ ap (λ (z : Span). intersects z i) f ∙ ap (λ (j : Interval). intersects (byRule k x) j) h)
 
   pub match-exact : (x : Interval) → q ≡ Exact x → r ≡ eq i x → r ≡ rules W n q .match s
   unfolding rules equals

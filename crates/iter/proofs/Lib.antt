@@ -3,6 +3,7 @@ pub mod Events
 pub mod Steps
 pub mod Drains
 pub mod Laws
+pub mod ByRule
 pub mod Plain
 pub mod Moves
 pub mod Calls

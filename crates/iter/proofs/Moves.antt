@@ -14,10 +14,8 @@ use Rattle.stack.proofs.Levels.{four, put-above, put-low, cleared-low, state-pu
 use Rattle.iter.specs.Cursors.{stackOf, upTo}
 use Rattle.iter.specs.Walk.{Rules, side, deeper, mark, down, move, hits, counts, Answer, ending, hitting, seek, fuel, step}
 use Rattle.iter.specs.Places.{Levelled, Placed, Known, at}
-use Rattle.iter.specs.Overlap.{overlap}
 use Rattle.iter.specs.Exact.{exact}
-use Rattle.iter.specs.Queries.{rules}
-use Rattle.iter.specs.Limits.{spanOf, asked}
+use Rattle.iter.specs.Limits.{limited, tested}
 use Rattle.iter.specs.Answers.{answer}
 use Rattle.iter.specs.declared.Cursor.{Cursor}
 use Rattle.words.specs.declared.interval.Interval.{Interval}
@@ -187,12 +185,12 @@ module _ (W : List ℕ) (n : ℕ) (Q : Rules) (f e : ℕ) (c : Cursor) (S : Answ
 
 -- a step, by what is asked for: d is its cursor again, and e what its first state counts
 module _ (W : List ℕ) (n e : ℕ) (t : Tests) (c d : Cursor) (A : Answer) (i : d ≡ c) (j : e ≡ counts n d) where
-  pub step-within : (l : Limits) → t ≡ Within l → A ≡ seek W n (overlap W n (spanOf l)) (fuel n) e d → A ≡ step W n (rules W n (asked t)) c
-  unfolding step rules
+  pub step-within : (l : Limits) → t ≡ Within l → A ≡ seek W n (limited W n l) (fuel n) e d → A ≡ step W n (tested W n t) c
+  unfolding step tested
   step-within l k p = rw (k, ← i, ← j) p
 
-  pub step-equal : (x : Interval) → t ≡ Equal x → A ≡ seek W n (exact W n x) (fuel n) e d → A ≡ step W n (rules W n (asked t)) c
-  unfolding step rules
+  pub step-equal : (x : Interval) → t ≡ Equal x → A ≡ seek W n (exact W n x) (fuel n) e d → A ≡ step W n (tested W n t) c
+  unfolding step tested
   step-equal x k p = rw (k, ← i, ← j) p
 
 -- the cursor that a step hands back is fit for the next one

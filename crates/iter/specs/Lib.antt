@@ -4,6 +4,7 @@ pub mod Walk
 pub mod Calls
 pub mod Drains
 pub mod Forms
+pub mod Ranges
 pub mod Overlap
 pub mod Exact
 pub mod Queries

@@ -8,7 +8,7 @@ ghost use Prim.Native.Nat.{_≤_};
 ghost use lib.ListN.{length};
 ghost use Rattle.iter.specs.Drains.{drain, filled};
 ghost use Rattle.iter.specs.Queries.{rules};
-ghost use Rattle.iter.specs.Limits.{asked};
+ghost use Rattle.iter.specs.Limits.{tested};
 ghost use Rattle.iter.specs.Places.{Placed};
 ghost use Rattle.iter.specs.Answers.{summary};
 ghost use Rattle.words.specs.Nodes.{Holds};
@@ -34,9 +34,9 @@ impl Cursor {
         out: &mut [u64],
     ) -> Drained
         requires { ⌜ Holds (now nodes) count × (count ≤ 65535) × (limit ≤ length (now out)) × Placed count self ⌝ }
-        ensures { λ r. ⌜ (r ≡ summary (drain (now (nodes .entry)) count (rules (now (nodes .entry)) count (asked tests)) limit self))
+        ensures { λ r. ⌜ (r ≡ summary (drain (now (nodes .entry)) count (tested (now (nodes .entry)) count tests) limit self))
             × (now (out .exit)
-            ≡ filled (drain (now (nodes .entry)) count (rules (now (nodes .entry)) count (asked tests)) limit self .slots) (now (out .entry))) ⌝ }
+            ≡ filled (drain (now (nodes .entry)) count (tested (now (nodes .entry)) count tests) limit self .slots) (now (out .entry))) ⌝ }
     {
         let mut cursor = self;
         let mut hits: u64 = 0;

@@ -4,6 +4,7 @@ pub mod drain;
 pub mod exact;
 pub mod forms;
 pub mod limits;
+pub mod ranges;
 pub mod rules;
 pub mod seek;
 pub mod walk;

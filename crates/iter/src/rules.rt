@@ -1,5 +1,6 @@
 // The rules of a walk: which children it visits, and which entries it looks for.
 use crate::limits::Limits;
+use crate::ranges::by_rule;
 use words::interval::Interval;
 use words::interval::Span;
 use words::ix::Link;
@@ -16,13 +17,15 @@ ghost use mathlib.Core.Bool.{true, false};
 ghost use Prim.Native.Nat.{_<_};
 ghost use Rattle.iter.specs.Overlap.{shouldGoLeft, shouldGoRight, shouldGo, meets};
 ghost use Rattle.iter.specs.Exact.{shouldGoExact, equals, findFrom};
-ghost use Rattle.iter.specs.Limits.{spanOf, testsOf};
+ghost use Rattle.iter.specs.Limits.{spanOf, entriesOf, testsOf};
 ghost use Rattle.iter.specs.Queries.{rules};
 ghost use Rattle.words.specs.Nodes.{Has, Holds};
 
-// What is looked for: the entries that intersect a range, or those equal to an interval.
+// What is looked for: the entries that intersect a range by rule 1, those that intersect it by the
+// rule of a number (ranges.rt), or those equal to an interval.
 pub enum Query {
     Overlap(Span),
+    Ruled(u64, Span),
     Exact(Interval),
 }
 
@@ -37,7 +40,8 @@ impl Tests {
         ensures { λ r. ⌜ r ≡ testsOf query ⌝ }
     {
         match query {
-            Query::Overlap(range) => Tests::Within(Limits::new(range)),
+            Query::Overlap(range) => Tests::Within(Limits::new(range, range)),
+            Query::Ruled(rule, range) => Tests::Within(Limits::new(range, by_rule(rule, range))),
             Query::Exact(x) => Tests::Equal(x),
         }
     }
@@ -112,7 +116,7 @@ pub fn goes_exact(nodes: &[u64], count: u64, query: Interval, index: u64, left_s
 // Whether the entry of the slot `index` is looked for.
 pub fn is_within(nodes: &[u64], limits: Limits, index: u64) -> bool
     requires { ⌜ Has (now nodes) index ⌝ }
-    ensures { λ r. ⌜ r ≡ meets (now (nodes .entry)) (spanOf limits) index ⌝ }
+    ensures { λ r. ⌜ r ≡ meets (now (nodes .entry)) (entriesOf limits) index ⌝ }
 {
     limits.passed_by(end_of(nodes, index)) & limits.admits_start(start_of(nodes, index))
 }
@@ -132,6 +136,7 @@ pub fn matches(nodes: &[u64], count: u64, query: Query, index: u64) -> bool
     let own = interval_of(nodes, index);
     match query {
         Query::Overlap(range) => own.intersects_range(range),
+        Query::Ruled(rule, range) => own.intersects_range(by_rule(rule, range)),
         Query::Exact(x) => own.eq(x),
     }
 }

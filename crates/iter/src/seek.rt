@@ -7,9 +7,7 @@ ghost use mathlib.Core.Path.{_≡_};
 ghost use Prim.Native.Nat.{_*_, _≤_};
 ghost use lib.Dec.{ltb};
 ghost use Rattle.iter.specs.Walk.{seek, step, fuel};
-ghost use Rattle.iter.specs.Queries.{rules};
-ghost use Rattle.iter.specs.Limits.{spanOf, asked};
-ghost use Rattle.iter.specs.Overlap.{overlap};
+ghost use Rattle.iter.specs.Limits.{limited, tested};
 ghost use Rattle.iter.specs.Places.{Placed, Known};
 ghost use Rattle.iter.specs.Answers.{answer, isHit};
 ghost use Rattle.words.specs.Nodes.{Holds};
@@ -37,7 +35,7 @@ impl Place {
     // Moves until a hit or the end. `before` is how many nodes were entered so far.
     fn move_to_next(self, nodes: &[u64], count: u64, limits: Limits, before: u64) -> Step
         requires { ⌜ Holds (now nodes) count × (count ≤ 65535) × Placed count (self .cursor) × Known count self × (before ≤ 1) ⌝ }
-        ensures { λ r. ⌜ (answer r ≡ seek (now (nodes .entry)) count (overlap (now (nodes .entry)) count (spanOf limits)) (fuel count) before (self .cursor))
+        ensures { λ r. ⌜ (answer r ≡ seek (now (nodes .entry)) count (limited (now (nodes .entry)) count limits) (fuel count) before (self .cursor))
             × (isHit r ≡ ltb (answer r .slot) count) ⌝ }
     {
         let mut place = self;
@@ -63,7 +61,7 @@ impl Place {
 impl Cursor {
     pub fn step(self, nodes: &[u64], count: u64, tests: Tests) -> Step
         requires { ⌜ Holds (now nodes) count × (count ≤ 65535) × Placed count self ⌝ }
-        ensures { λ r. ⌜ (answer r ≡ step (now (nodes .entry)) count (rules (now (nodes .entry)) count (asked tests)) self)
+        ensures { λ r. ⌜ (answer r ≡ step (now (nodes .entry)) count (tested (now (nodes .entry)) count tests) self)
             × (isHit r ≡ ltb (answer r .slot) count) ⌝ }
     {
         let place = self.place(count);

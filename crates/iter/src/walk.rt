@@ -23,8 +23,7 @@ ghost use Rattle.words.specs.Nodes.{par, Has, Holds};
 ghost use Rattle.stack.specs.States.{wasLeft, top};
 ghost use Rattle.iter.specs.Cursors.{stackOf, upTo};
 ghost use Rattle.iter.specs.Walk.{side, mark, down, deeper, move, hits, counts};
-ghost use Rattle.iter.specs.Overlap.{overlap};
-ghost use Rattle.iter.specs.Limits.{spanOf};
+ghost use Rattle.iter.specs.Limits.{limited};
 ghost use Rattle.iter.specs.Places.{Levelled, Placed, Known, at};
 
 // A cursor, and the state of its top level.
@@ -148,7 +147,7 @@ impl Cursor {
     // say so.
     fn goes_down(self, nodes: &[u64], count: u64, limits: Limits, left_side: bool) -> bool
         requires { ⌜ Holds (now nodes) count × (self .slot < count) ⌝ }
-        ensures { λ r. ⌜ r ≡ deeper (overlap (now (nodes .entry)) count (spanOf limits)) «left_side» self ⌝ }
+        ensures { λ r. ⌜ r ≡ deeper (limited (now (nodes .entry)) count limits) «left_side» self ⌝ }
     {
         (self.levels < 32) & goes_overlap(nodes, count, limits, self.slot, left_side)
     }
@@ -158,7 +157,7 @@ impl Place {
     // Makes one move of an overlap lookup.
     pub fn walk(self, nodes: &[u64], count: u64, limits: Limits) -> Place
         requires { ⌜ Holds (now nodes) count × (self .cursor .slot < count) × Levelled (self .cursor) × (self .state ≡ top (stackOf (self .cursor))) ⌝ }
-        ensures { λ r. ⌜ r ≡ at (move (now (nodes .entry)) (overlap (now (nodes .entry)) count (spanOf limits)) (self .cursor)) ⌝ }
+        ensures { λ r. ⌜ r ≡ at (move (now (nodes .entry)) (limited (now (nodes .entry)) count limits) (self .cursor)) ⌝ }
     {
         let cursor = self.cursor;
         if self.state == ENTERED {
@@ -198,7 +197,7 @@ impl Place {
     // Whether a live node is on top in state 10, and its entry is looked for.
     pub fn is_hit(self, nodes: &[u64], count: u64, limits: Limits) -> bool
         requires { ⌜ Holds (now nodes) count × Known count self ⌝ }
-        ensures { λ r. ⌜ r ≡ hits count (overlap (now (nodes .entry)) count (spanOf limits)) (self .cursor) ⌝ }
+        ensures { λ r. ⌜ r ≡ hits count (limited (now (nodes .entry)) count limits) (self .cursor) ⌝ }
     {
         if self.is_in(count, RETURNED) {
             is_within(nodes, limits, self.cursor.slot)

@@ -9,6 +9,7 @@ pub mod Later
 pub mod Forms
 pub mod Parts
 pub mod Bounds
+pub mod Whole
 pub mod Within
 pub mod Overlaps
 pub mod Count

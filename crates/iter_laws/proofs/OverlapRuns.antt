@@ -1,5 +1,6 @@
--- Demand 3, of overlap lookup on a store that passes the check.
-use mathlib.Core.Path.{_≡_, refl}
+-- Demand 3, of overlap lookup by any rule, on a store that passes the check. The list of hits goes by
+-- the rule k. The nodes entered and their bound are the same under every rule.
+use mathlib.Core.Path.{_≡_, refl, sym, _∙_}
 use mathlib.Core.Logic.{_↔_}
 use mathlib.Core.Bool.{Bool, cond}
 use mathlib.Core.List.{List, _++_}
@@ -17,7 +18,8 @@ use Rattle.iter.specs.Cursors.{ended, fresh}
 use Rattle.iter.specs.Walk.{Rules, counts, deeper, fuel, seek, step, after}
 use Rattle.iter.specs.Drains.{drain, calls}
 use Rattle.iter.specs.Forms.{formOf}
-use Rattle.iter.specs.Overlap.{meets, shouldGo, overlap}
+use Rattle.iter.specs.Ranges.{byRule}
+use Rattle.iter.specs.Overlap.{meets, shouldGo, ruled}
 use Rattle.iter.specs.declared.Cursor.{Cursor}
 use Rattle.iter.specs.declared.Form.the-variants as form
 use Rattle.iter.specs.Lists.{firstOr}
@@ -35,16 +37,16 @@ use Rattle.iter_laws.proofs.Count.{bound}
 halves : (d e h q : ℕ) → d ≤ e → 2 * e ≤ 2 * h + q → d ≤ h + q / 2
 halves d e h q i j = omega arith
 
-module _ (W C : List ℕ) (n r : ℕ) (q : Span) (small : n ≤ 65535) (P : Passes W C n r) where
+module _ (W C : List ℕ) (n r k : ℕ) (q : Span) (small : n ≤ 65535) (P : Passes W C n r) where
   abbrev Q : Rules
-  Q = overlap W n q
+  Q = ruled W n k q
 
   -- the slots of the intersecting entries, in tree order
   abbrev pub all : List ℕ
-  all = filter (meets W q) (slots (P .tree))
+  all = filter (meets W (byRule k q)) (slots (P .tree))
 
-  walk : Walk W n (overlap W n q) (overlapRule W q) U r (P .tree)
-  walk = overlap-walk W C n r q small P
+  walk : Walk W n (ruled W n k q) (overlapRule W q) U r (P .tree)
+  walk = overlap-walk W C n r k q small P
 
   -- from fresh to the end: exactly the intersecting entries, in tree order, and as many nodes
   -- entered as the entered rule says
@@ -53,8 +55,8 @@ module _ (W C : List ℕ) (n r : ℕ) (q : Span) (small : n ≤ 65535) (P : Pass
   overlap-run = fresh-run W n Q (overlapRule W q) U r (P .tree) walk
 
   -- each slot once if its entry intersects, and else not at all
-  pub overlap-each : (s : ℕ) → s < n → times s all ≡ cond (meets W q s) 1 0
-  overlap-each = each-once W C n r P (meets W q)
+  pub overlap-each : (s : ℕ) → s < n → times s all ≡ cond (meets W (byRule k q) s) 1 0
+  overlap-each = each-once W C n r P (meets W (byRule k q))
 
   -- those nodes, in order
   pub overlap-nodes : (limit : ℕ) → length all < limit → calls W n Q limit (fresh r) ≡ entered (overlapRule W q) (P .tree)
@@ -125,7 +127,7 @@ module _ (W C : List ℕ) (n r : ℕ) (q : Span) (small : n ≤ 65535) (P : Pass
 
     -- the slots of the intersecting entries after its slot
     abbrev pub after-it : List ℕ
-    after-it = filter (meets W q) (slots (h .right) ++ later (h .way))
+    after-it = filter (meets W (byRule k q)) (slots (h .right) ++ later (h .way))
 
     pub overlap-held : (limit : ℕ) → length after-it < limit
         → drain W n Q limit c
@@ -162,3 +164,9 @@ module _ (W C : List ℕ) (n r : ℕ) (q : Span) (small : n ≤ 65535) (P : Pass
     pub overlap-held-next : step W n Q c .slot < n
         → Held (P .tree) (step W n Q c .next) × (step W n Q c .next .slot ≡ step W n Q c .slot)
     overlap-held-next = step-held W n Q (overlapRule W q) U r (P .tree) walk c stands
+
+-- the rule changes no node that is entered
+module _ (W C : List ℕ) (n r : ℕ) (q : Span) (small : n ≤ 65535) (P : Passes W C n r) where
+  pub overlap-alike : (j k limit : ℕ) → length (all W C n r j q small P) < limit → length (all W C n r k q small P) < limit
+      → calls W n (ruled W n j q) limit (fresh r) ≡ calls W n (ruled W n k q) limit (fresh r)
+  overlap-alike j k limit h i = overlap-nodes W C n r j q small P limit h ∙ sym (overlap-nodes W C n r k q small P limit i)

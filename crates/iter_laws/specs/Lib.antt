@@ -1,3 +1,4 @@
+pub mod Addresses
 pub mod Place
 pub mod Entered
 pub mod Highest

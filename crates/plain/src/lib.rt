@@ -55,6 +55,7 @@ fn asks_for_all(query: Query) -> bool
 {
     match query {
         Query::Overlap(range) => has_no_bound(range),
+        Query::Ruled(_, range) => has_no_bound(range),
         Query::Exact(_) => false,
     }
 }

@@ -25,7 +25,8 @@ use Rattle.tree_edit.proofs.Rotations.{side-of}
 use Rattle.iter.specs.Cursors.{ended, fresh}
 use Rattle.iter.specs.Drains.{drain}
 use Rattle.iter.specs.Exact.{equals, exact, findFrom}
-use Rattle.iter.specs.Overlap.{meets, overlap}
+use Rattle.iter.specs.Ranges.{byRule}
+use Rattle.iter.specs.Overlap.{meets, ruled}
 use Rattle.iter_laws.proofs.OverlapRuns.{overlap-run}
 use Rattle.iter_laws.proofs.ExactRuns.{exact-run}
 use Rattle.plain_rule.specs.Tour.{ascend, nextOf, firstOf, tour, entries, plain}
@@ -109,12 +110,12 @@ module _ (W C : List ℕ) (n r : ℕ) (small : n ≤ 65535) (P : Passes W C n r)
       ∙ append-nil (slots (P .tree)))
 
   -- "its list of slots equals that of a fresh drain run to its end, overlap and exact"
-  pub overlap-agrees : (q : Span) (limit : ℕ) → length (plain n W (overlap W n q) r) < limit
-      → (drain W n (overlap W n q) limit (fresh r) .slots ≡ plain n W (overlap W n q) r) × (drain W n (overlap W n q) limit (fresh r) .next ≡ ended)
+  pub overlap-agrees : (k : ℕ) (q : Span) (limit : ℕ) → length (plain n W (ruled W n k q) r) < limit
+      → (drain W n (ruled W n k q) limit (fresh r) .slots ≡ plain n W (ruled W n k q) r) × (drain W n (ruled W n k q) limit (fresh r) .next ≡ ended)
   unfolding plain
-  overlap-agrees q limit h =
-      let k : length (filter (meets W q) (slots (P .tree))) < limit = rw entries-are at h in
-      rw (overlap-run W C n r q small P limit k, entries-are) (refl, refl)
+  overlap-agrees k q limit h =
+      let i : length (filter (meets W (byRule k q)) (slots (P .tree))) < limit = rw entries-are at h in
+      rw (overlap-run W C n r k q small P limit i, entries-are) (refl, refl)
 
   pub exact-agrees : (x : Interval) (limit : ℕ) → length (plain n W (exact W n x) r) < limit
       → (drain W n (exact W n x) limit (fresh (findFrom W n x r)) .slots ≡ plain n W (exact W n x) r)

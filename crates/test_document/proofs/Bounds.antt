@@ -50,4 +50,4 @@ module _ (t : State) (small : t .map .count ≤ 65535) (P : Passes (t .words) (t
   pub bounded : (q : Span) (limit : ℕ)
       → drain (t .words) (t .map .count) (overlap (t .words) (t .map .count) q) limit (fresh (t .map .root)) .entered ≤ boundOf t q
   unfolding boundOf touched
-  bounded q limit = rw read-tree (overlap-bound (t .words) (t .colours) (t .map .count) (t .map .root) q small P limit)
+  bounded q limit = rw read-tree (overlap-bound (t .words) (t .colours) (t .map .count) (t .map .root) 1 q small P limit)

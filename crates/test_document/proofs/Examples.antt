@@ -37,8 +37,15 @@ use Rattle.iset.specs.Find.{findAllCall}
 use Rattle.fast_rule.specs.Fast.{shouldEnter, fastRules, startAt, entering, fastNodes, fastHits}
 use Rattle.test_document.specs.Stores.{buildIn, _at_, _minus_, _plus_, treeAt, treeOf, touched, boundOf}
 use Rattle.iset.specs.Ticket.{age, ticketNumber, openReadNumber, readNumber, readCall}
+use Rattle.bitvec.specs.Calls.{bytesFor}
+use Rattle.little.specs.Numbers.{number, digits}
+use Rattle.image_rule.specs.Judge.{wholeAt, worked}
+use Rattle.image_rule.specs.Layout.{laidOut}
+use Rattle.image_rule.specs.Stored.{unpacked, painted as loadedBits, loadedWords, loadedColours}
+use Rattle.image_rule.specs.Written.{header, pieces, shades, imageOf}
+use Rattle.iset.specs.Image.{openWriteImageNumber, writeImageNumber, writeImageCall, readImageNumber, readImageCall}
 use Rattle.test_document.specs.Rows.{Each, outcome, stepsFrom, foundFrom, leftIn, tell}
-use Rattle.test_document.specs.Table.{storeA, storeA′, storeB, storeC, table}
+use Rattle.test_document.specs.Table.{lone, storeA, storeA′, storeB, storeC, table}
 use Rattle.tree_edit.specs.Rounds.{loop}
 
 -- What the rows compute with, layer by layer: to unfold one of these names is to unfold all that
@@ -95,15 +102,19 @@ ticketing : Unit {0}
 unfolding age ticketNumber openReadNumber readNumber readCall
 ticketing = record {}
 
+saving : Unit {0}
+unfolding bytesFor number digits wholeAt worked laidOut unpacked loadedBits loadedWords loadedColours header pieces shades imageOf openWriteImageNumber writeImageNumber writeImageCall readImageNumber readImageCall
+saving = record {}
+
 changing : Unit {0}
 unfolding buildNumber buildCall openRemoveNumber removeNumber removeCall fullNumber openInsertNumber roomThenCheck insertNumber insertCall
 changing = record {}
 
 telling : Unit {0}
-unfolding buildIn _at_ _minus_ _plus_ treeAt treeOf touched boundOf outcome stepsFrom foundFrom leftIn tell storeA storeA′ storeB storeC
+unfolding buildIn _at_ _minus_ _plus_ treeAt treeOf touched boundOf outcome stepsFrom foundFrom leftIn tell lone storeA storeA′ storeB storeC
 telling = record {}
 
 -- one `refl` a row, in the table's order
 pub examples : Each table
-unfolding reading checking building repairing naming removing inserting reaching walking looking touring entering-nodes ticketing changing telling
-examples = (refl, (refl, (refl, (refl, (refl, (refl, (refl, (refl, (refl, (refl, (refl, (refl, (refl, (refl, (refl, (refl, (refl, (refl, (refl, (refl, (refl, (refl, (refl, (refl, (refl, (refl, (refl, (refl, (refl, (refl, (refl, (refl, (refl, (refl, (refl, (refl, (refl, (refl, (refl, (refl, (refl, (refl, (refl, (refl, (refl, (refl, (refl, (refl, (refl, (refl, (refl, (refl, (refl, (refl, record {}))))))))))))))))))))))))))))))))))))))))))))))))))))))
+unfolding reading checking building repairing naming removing inserting reaching walking looking touring entering-nodes ticketing saving changing telling
+examples = (refl, (refl, (refl, (refl, (refl, (refl, (refl, (refl, (refl, (refl, (refl, (refl, (refl, (refl, (refl, (refl, (refl, (refl, (refl, (refl, (refl, (refl, (refl, (refl, (refl, (refl, (refl, (refl, (refl, (refl, (refl, (refl, (refl, (refl, (refl, (refl, (refl, (refl, (refl, (refl, (refl, (refl, (refl, (refl, (refl, (refl, (refl, (refl, (refl, (refl, (refl, (refl, (refl, (refl, (refl, (refl, (refl, (refl, (refl, (refl, (refl, (refl, (refl, record {})))))))))))))))))))))))))))))))))))))))))))))))))))))))))))))))

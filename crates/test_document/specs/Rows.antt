@@ -1,7 +1,7 @@
 -- A row of the table: what is asked of the public calls' rules, and what they tell.
--- Letters: t store, s slot, e entry, q query, c pair or cursor or call, x interval, S triples,
---   a old slot or pair or answer, d output or answer, k steps at most or slot, r row, b new slot or
---   pair or byte, l pairs
+-- Letters: m map, W words, C colours, t store, s slot, e entry, q query, c pair or cursor or call,
+--   x interval, S triples, a old slot or pair or answer, d output or answer, k steps at most or
+--   slot, r row, b new slot or pair or byte, l pairs
 use mathlib.Core.Path.{_≡_}
 use mathlib.Core.Bool.{false, cond}
 use mathlib.Core.List.{List, [], _∷_}
@@ -20,7 +20,7 @@ use Rattle.words.specs.declared.pair.Pairs.{Pairs}
 use Rattle.iter.specs.Cursors.{fresh}
 use Rattle.iter.specs.declared.Cursor.{Cursor}
 use Rattle.iter.specs.declared.rules.Query.{Query}
-use Rattle.iter.specs.declared.rules.Query.the-variants.{Overlap, Exact}
+use Rattle.iter.specs.declared.rules.Query.the-variants.{Overlap, Ruled, Exact}
 use Rattle.iset.specs.Effects.{Effect, Output}
 use Rattle.iset.specs.Build.{BuildAnswer, buildCall}
 use Rattle.iset.specs.Remove.{RemoveAnswer, removeCall}
@@ -31,6 +31,9 @@ use Rattle.iset.specs.Plain.{plainCall}
 use Rattle.iset.specs.Find.{findAllCall}
 use Rattle.iset.specs.Maps.{emptyMap}
 use Rattle.iset.specs.Ticket.{ReadAnswer, readCall}
+use Rattle.image_rule.specs.Layout.{imageLength}
+use Rattle.iset.specs.Image.{WriteAnswer, writeImageCall, readImageCall}
+use Rattle.iset.specs.declared.Map.{Map}
 use Rattle.iset.specs.declared.ticket.Ticket.{Ticket}
 use Rattle.iset.specs.Sequence.{State}
 use Rattle.test_document.specs.Stores.{buildIn, _plus_, treeOf, touched, boundOf}
@@ -64,8 +67,9 @@ pub data Step : Type 0 where
 
 -- What is asked. A build has so many words and so many bytes, all of them 0. `rootRight` asks for
 -- the root's right link, `slot` for the eight words of a slot. A lookup runs from its fresh cursor
--- to the end; a step is its first step; a drain is one call, from a cursor, with a limit and an
--- output.
+-- to the end, `ruled` by the rule of a number; a step is its first step; a drain is one call, from
+-- a cursor, with a limit and an output. `write` writes the image into so many places, `reload`
+-- reads what was written in the place of a map, into words and colours.
 pub data Call : Type 0 where
   build : (words bytes : ℕ) (triples : List ℕ) → Call
   remove : (store : State) (slot : ℕ) → Call
@@ -73,12 +77,15 @@ pub data Call : Type 0 where
   rootRight : (store : State) → Call
   slot : (store : State) (slot : ℕ) → Call
   overlap : (store : State) (lo hi : Bound) → Call
+  ruled : (store : State) (rule : ℕ) (lo hi : Bound) → Call
   step : (store : State) (lo hi : Bound) → Call
   drain : (store : State) (lo hi : Bound) (cursor : Cursor) (limit : ℕ) (out : List ℕ) → Call
   exact : (store : State) (interval : Interval) → Call
   plain : (store : State) (query : Query) (out : List ℕ) → Call
   findAll : (store : State) (query : Query) (out : List ℕ) → Call
   read : (store : State) (ticket : Ticket) → Call
+  write : (store : State) (places : ℕ) → Call
+  reload : (store : State) (map : Map) (words colours : List ℕ) → Call
 
 -- what a build or an insertion leaves; the tree says which node has which children
 pub record Left : Type 0 where
@@ -103,7 +110,8 @@ pub record Limits : Type 0 where
 -- removal the colour bytes. Of an overlap lookup: what is found, t and the bound; of its first
 -- step: the whole answer; of a drain, a plain lookup and a fast one: the answer and the output. Of
 -- an exact lookup: the answer of `fresh_exact`, and what is found from its cursor on. Of a reading
--- through a ticket: the whole answer.
+-- through a ticket, and of writing an image: the whole answer. Of reading an image: the answer, and
+-- what it leaves.
 pub data Told : Type 0 where
   built : (answer : BuildAnswer) (left : Left) → Told
   removed : (answer : RemoveAnswer) (colours : List ℕ) → Told
@@ -116,6 +124,8 @@ pub data Told : Type 0 where
   started : (answer : StartAnswer) (found : Found) → Told
   looked : (answer : TallyAnswer) (output : List ℕ) → Told
   given : (answer : ReadAnswer) → Told
+  saved : (answer : WriteAnswer) → Told
+  loaded : (answer : BuildAnswer) (words colours : List ℕ) → Told
 
 infix 68 _gives_
 pub data Row : Type 0 where
@@ -145,6 +155,11 @@ span lo hi = record { lo = lo; hi = hi }
 unfoldable pub leftIn : (store : State) → Left
 leftIn t = record { tree = treeOf t; bytes = t .colours; h = height (treeOf t); words = t .words }
 
+-- what a lookup for a range tells
+abbrev pub foundIn : (store : State) (lo hi : Bound) (query : Query) → Told
+foundIn t lo hi q =
+    found (foundFrom t q (fresh (t .map .root))) (record { t = touched t (span lo hi); bound = boundOf t (span lo hi) })
+
 -- what a lookup tells that finds all hits at once
 abbrev pub lookedBy : (output : Output TallyAnswer) → Told
 lookedBy d = looked (d .answer) (d .output)
@@ -158,10 +173,8 @@ tell (remove t s) =
 tell (insert t e) = inserted (insertCall (t .map) (t .words) (t .colours) e .answer) (leftIn (t plus e))
 tell (rootRight t) = link (kid (t .words) false (t .map .root))
 tell (slot t k) = holds (take (wordsOf 1) (drop (wordsOf k) (t .words)))
-tell (overlap t lo hi) =
-    found
-    (foundFrom t (Overlap (span lo hi)) (fresh (t .map .root)))
-    (record { t = touched t (span lo hi); bound = boundOf t (span lo hi) })
+tell (overlap t lo hi) = foundIn t lo hi (Overlap (span lo hi))
+tell (ruled t k lo hi) = foundIn t lo hi (Ruled k (span lo hi))
 tell (step t lo hi) = stepped (stepCall (t .map) (t .words) (t .colours) (Overlap (span lo hi)) (fresh (t .map .root)))
 tell (drain t lo hi c limit out) =
     let d : Output DrainAnswer = drainCall (t .map) (t .words) (t .colours) (Overlap (span lo hi)) c limit out in
@@ -172,6 +185,11 @@ tell (exact t x) =
 tell (plain t q out) = lookedBy (plainCall (t .map) (t .words) (t .colours) q out)
 tell (findAll t q out) = lookedBy (findAllCall (t .map) (t .words) (t .colours) q out)
 tell (read t c) = given (readCall (t .map) (t .words) (t .colours) c)
+tell (write t places) = saved (writeImageCall (t .map) (t .words) (t .colours) (replicate places 0) .answer)
+tell (reload t m W C) =
+    let d : Output WriteAnswer = writeImageCall (t .map) (t .words) (t .colours) (replicate (imageLength (t .map .count)) 0) in
+    let r : Effect BuildAnswer = readImageCall m W C (d .output) in
+    loaded (r .answer) (r .words) (r .colours)
 
 -- a row holds if the rules tell what it says; a table, if each of its rows holds
 abbrev pub Holds : (row : Row) → Type 0

@@ -20,7 +20,11 @@ use Rattle.iset.specs.Maps.{mapAt}
 use Rattle.iset.specs.Ticket.{ticketOf}
 use Rattle.iset.specs.Sequence.{State}
 use Rattle.test_document.specs.Stores.{buildIn, _at_, _minus_, _plus_}
-use Rattle.test_document.specs.Rows.{Row, _gives_, _to_, moved, colours, _entering_, hit, end, build, remove, insert, rootRight, slot, overlap, step, drain, exact, plain, read, findAll, span, built, removed, inserted, link, holds, found, stepped, drained, started, looked, given}
+use Rattle.test_document.specs.Rows.{Row, _gives_, _to_, moved, colours, _entering_, hit, end, refused, build, remove, insert, rootRight, slot, overlap, ruled, step, drain, exact, plain, read, findAll, write, reload, span, built, removed, inserted, link, holds, found, stepped, drained, started, looked, given, saved, loaded}
+
+-- the entry [3,6) alone
+unfoldable pub lone : State
+lone = buildIn 8 1 (3 ∷ 6 ∷ 7 ∷ [])
 
 -- "Store A, built from [10,20) 1, [10,30) 2, [25,40) 3, [40,50) 4, [45,60) 5", in 40 words and a
 -- byte
@@ -209,6 +213,21 @@ table =
     drained (record { no = 0; hits = 65; entered = 65; next = ended }) (from 0 65 ++ (7 ∷ [])) ∷
     drain storeC Unbounded Unbounded (fresh 32) 64 (replicate 66 7) gives
     drained (record { no = 0; hits = 64; entered = 64; next = held 63 5 511 }) (from 0 64 ++ (7 ∷ 7 ∷ [])) ∷
+    -- document 02, item 11: "With Excluded 5 as lower bound, [3,6) is reported", by rule 1 and not
+    -- by rule 2; "entered nodes and the touching count stay as they are under both"
+    ruled lone 1 (Excluded 5) Unbounded gives
+    found (record { steps = hit 0 entering 1 ∷ end entering 0 ∷ []; hits = 0 ∷ []; entered = 1 }) (record { t = 1; bound = 1 }) ∷
+    ruled lone 2 (Excluded 5) Unbounded gives found (record { steps = end entering 1 ∷ []; hits = []; entered = 1 }) (record { t = 1; bound = 1 }) ∷
+    ruled lone 2 (Excluded 4) Unbounded gives
+    found (record { steps = hit 0 entering 1 ∷ end entering 0 ∷ []; hits = 0 ∷ []; entered = 1 }) (record { t = 1; bound = 1 }) ∷
+    -- "Excluded at the greatest address as lower bound leaves nothing"; no whole address lies
+    -- between 4 and 5; and 3 is no rule
+    ruled lone 2 (Excluded 18446744073709551615) Unbounded gives
+    found (record { steps = refused (refusalNumber BadRange) entering 0 ∷ []; hits = []; entered = 0 }) (record { t = 0; bound = 1 }) ∷
+    ruled lone 2 (Excluded 4) (Excluded 5) gives
+    found (record { steps = refused (refusalNumber BadRange) entering 0 ∷ []; hits = []; entered = 0 }) (record { t = 1; bound = 1 }) ∷
+    ruled lone 3 (Included 4) (Included 5) gives
+    found (record { steps = refused (refusalNumber BadRange) entering 0 ∷ []; hits = []; entered = 0 }) (record { t = 1; bound = 1 }) ∷
     -- document 02, item 5: the plain lookup goes through all five entries, and has the one hit that
     -- the pruned one has
     plain storeA (Overlap (span (Included 20) (Excluded 25))) (7 ∷ 7 ∷ 7 ∷ 7 ∷ 7 ∷ 7 ∷ []) gives
@@ -247,4 +266,12 @@ table =
     -- "at its top it runs round to 0"
     remove (storeA at 4294967295) 4 gives removed (record { no = 0; value = 5; map = mapAt 4 2 0; pairs = moved []; reach = 2 }) (colours 1) ∷
     read (storeA at 4294967295 minus 4) (ticketOf ((storeA at 4294967295) .map) 2) gives given (record { no = refusalNumber Stale; entry = entry 0 0 0 }) ∷
+    -- document 02, item 6: "five entries take 225 bytes", and "9 for a short output"
+    write storeA 225 gives saved (record { no = 0; length = 225 }) ∷
+    write storeA 224 gives saved (record { no = refusalNumber ShortOutput; length = 0 }) ∷
+    -- "reading what was written gives the same map but for its version, .. all else in the target
+    -- staying": in the place of a map of version 6, with a word and three bits more than there are
+    -- entries
+    reload storeA (mapAt 0 U 6) (replicate 41 7) (246 ∷ []) gives
+    loaded (record { no = 0; map = mapAt 5 2 7 }) (storeA .words ++ (7 ∷ [])) (233 ∷ []) ∷
     []

@@ -6,7 +6,7 @@ use native.Mathlib.Omega.{arith}
 use lib.Dec.{eqb}
 use Rattle.words.specs.Refusals.{refusalNumber}
 use Rattle.words.specs.declared.refusal.Refusal.{Refusal}
-use Rattle.words.specs.declared.refusal.Refusal.the-variants.{NoRoom, Broken, NoSuch, BadRange, BadInterval, NotSorted, BadCursor, BadList, ShortOutput, BadBit, Stale, BadImage}
+use Rattle.words.specs.declared.refusal.Refusal.the-variants.{NoRoom, Broken, NoSuch, BadRange, BadInterval, NotSorted, BadCursor, BadList, ShortOutput, BadBit, Stale, BadImage, Overlap, NotDisjoint, BadPlan}
 
 -- the refusal of a number, one test after the other
 abbrev pub refusalAt : ℕ → Refusal
@@ -22,7 +22,10 @@ refusalAt k =
     cond (eqb k 10) BadBit (
     cond (eqb k 11) Stale (
     cond (eqb k 12) BadImage (
-    NoRoom)))))))))))
+    cond (eqb k 13) Overlap (
+    cond (eqb k 14) NotDisjoint (
+    cond (eqb k 15) BadPlan (
+    NoRoom))))))))))))))
 
 pub at-number : (y : Refusal) → refusalAt (refusalNumber y) ≡ y
 at-number NoRoom = refl
@@ -37,6 +40,9 @@ at-number ShortOutput = refl
 at-number BadBit = refl
 at-number Stale = refl
 at-number BadImage = refl
+at-number Overlap = refl
+at-number NotDisjoint = refl
+at-number BadPlan = refl
 
 pub number-pos : (y : Refusal) → 0 < refusalNumber y
 number-pos NoRoom = omega arith
@@ -51,3 +57,6 @@ number-pos ShortOutput = omega arith
 number-pos BadBit = omega arith
 number-pos Stale = omega arith
 number-pos BadImage = omega arith
+number-pos Overlap = omega arith
+number-pos NotDisjoint = omega arith
+number-pos BadPlan = omega arith

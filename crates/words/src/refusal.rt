@@ -16,10 +16,13 @@ pub enum Refusal {
     BadBit,
     Stale,
     BadImage,
+    Overlap,
+    NotDisjoint,
+    BadPlan,
 }
 
 impl Refusal {
-    // Returns the refusal's number, from 1 to 12. The number 0 means: not refused.
+    // Returns the refusal's number, from 1 to 15. The number 0 means: not refused.
     pub fn number(self) -> u64
         ensures { λ r. ⌜ r ≡ refusalNumber self ⌝ }
     {
@@ -36,6 +39,9 @@ impl Refusal {
             Refusal::BadBit => 10,
             Refusal::Stale => 11,
             Refusal::BadImage => 12,
+            Refusal::Overlap => 13,
+            Refusal::NotDisjoint => 14,
+            Refusal::BadPlan => 15,
         }
     }
 }

@@ -23,7 +23,7 @@ fn reply_of(a: Started) -> Reply {
 
 pub(crate) fn fresh(m: Map, kind: Kind, numbers: &[u64], nodes: &[u64], colours: &[u8]) -> Reply {
     match kind {
-        Kind::Overlap => reply(0, m.fresh()),
         Kind::Exact => reply_of(m.fresh_exact(nodes, colours, query::interval(numbers))),
+        _ => reply(0, m.fresh()),
     }
 }

@@ -8,18 +8,20 @@ use words::interval::Interval;
 use words::interval::Span;
 ghost use Prim.Native.Nat.{_≤_};
 
-// `o BOUND BOUND` or `e START END`
+// `o BOUND BOUND`, `r RULE BOUND BOUND` or `e START END`
 pub enum Kind {
     Overlap,
+    Ruled,
     Exact,
 }
 
 // How many numbers the query has.
 pub(crate) fn size(kind: Kind) -> usize
-    ensures { λ r. ⌜ r ≤ 4 ⌝ }
+    ensures { λ r. ⌜ r ≤ 5 ⌝ }
 {
     match kind {
         Kind::Overlap => 4,
+        Kind::Ruled => 5,
         Kind::Exact => 2,
     }
 }
@@ -30,24 +32,27 @@ fn is_bound(kind: u64, x: u64) -> bool {
     (kind < 2) | ((kind == 2) & (x == 0))
 }
 
-fn are_bounds(numbers: &[u64]) -> bool {
-    is_bound(given::number(numbers, 0), given::number(numbers, 1))
-        & is_bound(given::number(numbers, 2), given::number(numbers, 3))
+// Whether the numbers from place k on begin with two bounds.
+fn are_bounds(numbers: &[u64], k: usize) -> bool {
+    is_bound(arena::word(numbers, k, 0), arena::word(numbers, k, 1))
+        & is_bound(arena::word(numbers, k, 2), arena::word(numbers, k, 3))
 }
 
 // Whether the line begins with a query.
 pub(crate) fn fits(kind: Kind, numbers: &[u64]) -> bool {
     match kind {
-        Kind::Overlap => are_bounds(numbers),
+        Kind::Overlap => are_bounds(numbers, 0),
+        Kind::Ruled => are_bounds(numbers, 1),
         Kind::Exact => true,
     }
 }
 
-fn overlap(numbers: &[u64]) -> Query {
-    Query::Overlap(Span {
-        lo: Bound::of_kind(given::number(numbers, 0), given::number(numbers, 1)),
-        hi: Bound::of_kind(given::number(numbers, 2), given::number(numbers, 3)),
-    })
+// The range whose bounds begin at place k.
+fn range(numbers: &[u64], k: usize) -> Span {
+    Span {
+        lo: Bound::of_kind(arena::word(numbers, k, 0), arena::word(numbers, k, 1)),
+        hi: Bound::of_kind(arena::word(numbers, k, 2), arena::word(numbers, k, 3)),
+    }
 }
 
 pub(crate) fn interval(numbers: &[u64]) -> Interval {
@@ -59,7 +64,8 @@ pub(crate) fn interval(numbers: &[u64]) -> Interval {
 
 pub(crate) fn query(kind: Kind, numbers: &[u64]) -> Query {
     match kind {
-        Kind::Overlap => overlap(numbers),
+        Kind::Overlap => Query::Overlap(range(numbers, 0)),
+        Kind::Ruled => Query::Ruled(given::number(numbers, 0), range(numbers, 1)),
         Kind::Exact => Query::Exact(interval(numbers)),
     }
 }

@@ -12,18 +12,18 @@ pub(crate) fn fits(numbers: &[u64]) -> bool {
     (n <= 12288) & (numbers.len() == n + 1)
 }
 
-// A refused build shows the map of no entries, and leaves the version of the map that it was to
-// replace.
-fn reply_of(a: Built, m: Map) -> Reply {
+// A reply that prints the first n of the count, the root and the version. A refused build shows the
+// map of no entries, with the version of the map that it was to replace.
+pub(crate) fn reply_of(a: Built, m: Map, n: usize) -> Reply {
     match a {
-        Built::Done(map) => Reply::new(0, map, 0, 0, 2),
+        Built::Done(map) => Reply::new(0, map, map.version as u64, 0, n),
         Built::Refused(why) => {
             let none = Map {
                 count: 0,
                 root: U,
                 version: m.version,
             };
-            Reply::new(why.number(), none, 0, 0, 2)
+            Reply::new(why.number(), none, none.version as u64, 0, n)
         }
     }
 }
@@ -31,5 +31,5 @@ fn reply_of(a: Built, m: Map) -> Reply {
 pub(crate) fn build(m: Map, numbers: &[u64], nodes: &mut [u64], colours: &mut [u8]) -> Reply {
     let from = least(1, numbers.len());
     let n = least(given::size(numbers, 0), numbers.len() - from);
-    reply_of(m.build(nodes, colours, &numbers[from..from + n]), m)
+    reply_of(m.build(nodes, colours, &numbers[from..from + n]), m, 2)
 }

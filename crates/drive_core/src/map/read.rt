@@ -12,13 +12,7 @@ pub(crate) fn fits(numbers: &[u64]) -> bool {
 }
 
 fn read_of(no: u64, m: Map, e: Entry) -> Reply {
-    Reply {
-        no,
-        map: m,
-        reach: 0,
-        numbers: [e.start, e.end, e.value, 0, 0, 0, 0, 0, 0],
-        n: 3,
-    }
+    Reply::same(no, m, e.start, e.end, e.value, 3)
 }
 
 // A refused reading shows zeros.

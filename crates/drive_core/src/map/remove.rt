@@ -48,7 +48,7 @@ fn refused(no: u64, m: Map) -> Reply {
     }
 }
 
-fn reply_of(a: Removal, m: Map) -> Reply {
+pub(crate) fn reply_of(a: Removal, m: Map) -> Reply {
     match a {
         Removal::Done(answer) => removed(answer),
         Removal::Refused(why) => refused(why.number(), m),

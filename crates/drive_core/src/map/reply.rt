@@ -13,13 +13,24 @@ pub struct Reply {
 }
 
 impl Reply {
-    // A reply that prints the first n of the count, the root and the slot.
-    pub(crate) fn new(no: u64, map: Map, slot: u64, reach: u64, n: usize) -> Reply {
+    // A reply that prints the first n of the count, the root and one number more.
+    pub(crate) fn new(no: u64, map: Map, third: u64, reach: u64, n: usize) -> Reply {
         Reply {
             no,
             map,
             reach,
-            numbers: [map.count, map.root, slot, 0, 0, 0, 0, 0, 0],
+            numbers: [map.count, map.root, third, 0, 0, 0, 0, 0, 0],
+            n,
+        }
+    }
+
+    // A reply that prints the first n of three numbers. The map is as it was.
+    pub(crate) fn same(no: u64, map: Map, first: u64, second: u64, third: u64, n: usize) -> Reply {
+        Reply {
+            no,
+            map,
+            reach: 0,
+            numbers: [first, second, third, 0, 0, 0, 0, 0, 0],
             n,
         }
     }

@@ -12,7 +12,6 @@ named-spec =
     (λ c κs. search needs)
     (λ c. simp length-take (omega arith))
     (λ c κs. search needs)
-    (λ c κs. search needs)
     (λ c. simp length-take (omega arith))
     (λ c κs. search needs)
     (λ c. search needs))

@@ -4,4 +4,13 @@ use Rattle.iset.proofs.Map.begin.Statement.{statement}
 use Rattle.iset.proofs.Map.begin.Tie as tie
 
 pub begin-spec : {M : Type 1} → statement M
-begin-spec = tie.close (tie.spec (λ c. search needs) (λ c. search needs) (λ c κs. search needs) (λ c. search needs) (λ c. search begin-exact))
+begin-spec =
+    tie.close
+    (tie.spec
+    (λ c. search needs)
+    (λ c. search needs)
+    (λ c. search needs)
+    (λ c κs. search needs)
+    (λ c. search needs)
+    (λ c. search needs)
+    (λ c. search begin-exact))

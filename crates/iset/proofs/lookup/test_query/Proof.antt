@@ -1,4 +1,4 @@
-use Rattle.iset.proofs.Lookups.{query-range, query-interval}
+use Rattle.iset.proofs.Lookups.{query-range, query-ruled, query-interval}
 use borrow.Author.Needs.{needs}
 use Rattle.iset.proofs.lookup.test_query.Statement.{statement}
 use Rattle.iset.proofs.lookup.test_query.Tie as tie
@@ -13,5 +13,9 @@ test-query-spec =
     (λ c. search needs)
     (λ c κs. search needs)
     (λ c κs. search needs)
+    (λ c. search needs)
+    (λ c κs. search needs)
+    (λ c κs. search needs)
     (λ c. search query-range)
+    (λ c. search query-ruled)
     (λ c. search query-interval))

@@ -2,8 +2,7 @@ use mathlib.Core.Path.{_≡_, refl}
 use Prim.Native.Nat.{_-_, _≤_}
 use lib.ListN.{length, take, drop, length-set}
 use Rattle.iter.specs.Drains.{drain}
-use Rattle.iter.specs.Queries.{rules}
-use Rattle.iter.specs.Limits.{asked}
+use Rattle.iter.specs.Limits.{tested}
 use Rattle.iter.specs.Places.{Placed}
 use Rattle.iter.proofs.Moves.{step-placed}
 use Rattle.iter.proofs.Totals.{drain-total}
@@ -14,7 +13,7 @@ use Rattle.iter.proofs.Cursor.drain_by.Statement.{statement}
 use Rattle.iter.proofs.Cursor.drain_by.Tie as tie
 
 abbrev Inv-loop : tie.InvT-loop
-Inv-loop nodes count tests limit out₀ cursor₀ hits₀ entered₀ out cursor hits entered = (drain nodes count (rules nodes count (asked tests)) limit cursor₀ ≡ before (take hits out) entered (drain nodes count (rules nodes count (asked tests)) (limit - hits) cursor))
+Inv-loop nodes count tests limit out₀ cursor₀ hits₀ entered₀ out cursor hits entered = (drain nodes count (tested nodes count tests) limit cursor₀ ≡ before (take hits out) entered (drain nodes count (tested nodes count tests) (limit - hits) cursor))
     × Placed count cursor × (hits ≤ limit) × (drop hits out ≡ drop hits out₀) × (length out ≡ length out₀)
 
 abbrev μ-loop : tie.MeasureT-loop

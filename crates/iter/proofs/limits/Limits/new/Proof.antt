@@ -10,4 +10,11 @@ new-spec =
     (λ c κs. search needs)
     (λ c κs. search needs)
     (λ c κs. search needs)
-    (λ c. rw (c .before .before .before .low-of .ensures, c .before .before .is-below .ensures, c .before .top-of .ensures, c .is-above .ensures)))
+    (λ c κs. search needs)
+    (λ c. rw (
+      c .before .before .before .before .low-of .ensures,
+      c .before .before .before .low-of2 .ensures,
+      c .before .before .is-below .ensures,
+      c .before .top-of .ensures,
+      c .is-above .ensures,
+    )))

@@ -1,4 +1,4 @@
-use Rattle.iter.proofs.Plain.{tests-within, tests-equal}
+use Rattle.iter.proofs.Plain.{tests-within, tests-ruled, tests-equal}
 use borrow.Author.Needs.{needs}
 use Rattle.iter.proofs.rules.Tests.new.Statement.{statement}
 use Rattle.iter.proofs.rules.Tests.new.Tie as tie
@@ -10,5 +10,9 @@ new-spec =
     (λ c. search needs)
     (λ c κs. search needs)
     (λ c. search needs)
+    (λ c κs. search needs)
+    (λ c κs. search needs)
+    (λ c. search needs)
     (λ c. search tests-within)
+    (λ c. search tests-ruled)
     (λ c. search tests-equal))

@@ -1,8 +1,7 @@
 use mathlib.Core.Path.{_≡_, refl}
 use Prim.Native.Nat.{_+_, _≤_}
 use Rattle.iter.specs.Walk.{seek}
-use Rattle.iter.specs.Overlap.{overlap}
-use Rattle.iter.specs.Limits.{spanOf}
+use Rattle.iter.specs.Limits.{limited}
 use Rattle.iter.specs.Places.{Placed, Known}
 use Rattle.iter.proofs.Laws.{levelled, state-known}
 use Rattle.iter.proofs.Moves.{place-placed, place-known, seek-out, seek-hit, seek-on, seek-none, hit-told, end-told}
@@ -12,7 +11,7 @@ use Rattle.iter.proofs.walk.Place.move_to_next.Statement.{statement}
 use Rattle.iter.proofs.walk.Place.move_to_next.Tie as tie
 
 abbrev Inv-loop : tie.InvT-loop
-Inv-loop nodes count limits before place₀ entered₀ moves₀ place entered moves = (seek nodes count (overlap nodes count (spanOf limits)) moves₀ entered₀ (place₀ .cursor) ≡ seek nodes count (overlap nodes count (spanOf limits)) moves entered (place .cursor))
+Inv-loop nodes count limits before place₀ entered₀ moves₀ place entered moves = (seek nodes count (limited nodes count limits) moves₀ entered₀ (place₀ .cursor) ≡ seek nodes count (limited nodes count limits) moves entered (place .cursor))
     × Placed count (place .cursor) × Known count place × (entered + moves ≤ 262142)
 
 abbrev μ-loop : tie.MeasureT-loop

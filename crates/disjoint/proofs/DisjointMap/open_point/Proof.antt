@@ -1,0 +1,13 @@
+use Rattle.disjoint.proofs.Laws.{point-over, point-in}
+use borrow.Author.Needs.{needs}
+use Rattle.disjoint.proofs.DisjointMap.open_point.Statement.{statement}
+use Rattle.disjoint.proofs.DisjointMap.open_point.Tie as tie
+
+pub open-point-spec : {M : Type 1} → statement M
+open-point-spec =
+    tie.close
+    (tie.spec
+    (λ c κs. search needs)
+    (λ c. search point-over)
+    (λ c κs. search needs)
+    (λ c. search point-in))

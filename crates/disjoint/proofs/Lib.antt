@@ -1,0 +1,10 @@
+pub mod Checks
+pub mod Pointing
+pub mod Placings
+pub mod Takings
+pub mod Opened
+pub mod Sequence
+pub mod Laws
+pub mod Determined
+pub mod Demands
+pub mod Three

@@ -1,0 +1,40 @@
+// Looks up the entry that holds an address.
+use crate::DisjointMap;
+use disjoint_core::point::Spot;
+use disjoint_core::point::point_below;
+use iset::Checked;
+use words::node::capacity;
+use words::refusal::Refusal;
+ghost use mathlib.Core.Path.{_≡_};
+ghost use Rattle.disjoint.specs.Point.{pointAnswer, openPointCall, pointCall};
+
+// What a point lookup returns: the slot of the entry that holds the address, or U if there is none,
+// and how many nodes it entered.
+pub enum Pointed {
+    Done(Spot),
+    Refused(Refusal),
+}
+
+impl DisjointMap {
+    // `point` for an opened store (see lib.rt). It enters at most as many nodes as the tree is high.
+    pub fn open_point(self, nodes: &[u64], colours: &[u8], address: u64) -> Pointed
+        ensures { λ r. ⌜ pointAnswer r ≡ openPointCall (self .map) (now (nodes .entry)) (now (colours .entry)) address ⌝ }
+    {
+        let map = self.map;
+        if capacity(nodes.len(), colours.len()) < map.count {
+            return Pointed::Refused(Refusal::NoRoom);
+        }
+        Pointed::Done(point_below(nodes, map.count, map.root, address))
+    }
+
+    // Finds the entry that holds an address. No two entries hold it. The lookup goes left below the
+    // start of a node's entry, and right at or past its end.
+    pub fn point(self, nodes: &[u64], colours: &[u8], address: u64) -> Pointed
+        ensures { λ r. ⌜ pointAnswer r ≡ pointCall (self .map) (now (nodes .entry)) (now (colours .entry)) address ⌝ }
+    {
+        let Checked::Refused(why) = self.check(nodes, colours) else {
+            return self.open_point(nodes, colours, address);
+        };
+        Pointed::Refused(why)
+    }
+}

@@ -1,0 +1,54 @@
+// The requests that check, build, remove, insert and read.
+use crate::given;
+use crate::map::build;
+use crate::map::check;
+use crate::map::insert;
+use crate::map::read;
+use crate::map::remove;
+use crate::map::reply::Reply;
+use iset::Map;
+
+pub enum Call {
+    Check,
+    Build,
+    Remove,
+    Insert,
+    Read,
+}
+
+// The calls in the order of their names (crate::call).
+pub(crate) fn call_at(place: usize) -> Call {
+    match place {
+        0 => Call::Check,
+        1 => Call::Build,
+        2 => Call::Remove,
+        3 => Call::Insert,
+        _ => Call::Read,
+    }
+}
+
+pub(crate) fn fits(call: Call, numbers: &[u64]) -> bool {
+    match call {
+        Call::Check => numbers.len() == 0,
+        Call::Build => build::fits(numbers),
+        Call::Remove => numbers.len() == 1,
+        Call::Insert => numbers.len() == 3,
+        Call::Read => read::fits(numbers),
+    }
+}
+
+pub(crate) fn done(
+    call: Call,
+    m: Map,
+    numbers: &[u64],
+    nodes: &mut [u64],
+    colours: &mut [u8],
+) -> Reply {
+    match call {
+        Call::Check => check::check(m, nodes, colours),
+        Call::Build => build::build(m, numbers, nodes, colours),
+        Call::Remove => remove::remove(m, given::number(numbers, 0), nodes, colours),
+        Call::Insert => insert::insert(m, numbers, nodes, colours),
+        Call::Read => read::read(m, numbers, nodes, colours),
+    }
+}

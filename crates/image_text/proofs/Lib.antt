@@ -1,0 +1,11 @@
+pub mod Pages
+pub mod Arms
+pub mod Judged
+pub mod Back
+pub mod Agrees
+pub mod Chain
+pub mod Lines
+pub mod Whole
+pub mod Meaning
+pub mod Examples
+pub mod Determined

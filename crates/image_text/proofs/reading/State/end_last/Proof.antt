@@ -1,0 +1,14 @@
+use Rattle.image_text.proofs.Arms.{last-new, last-word}
+use borrow.Author.Needs.{needs}
+use Rattle.image_text.proofs.reading.State.end_last.Statement.{statement}
+use Rattle.image_text.proofs.reading.State.end_last.Tie as tie
+
+pub end-last-spec : {M : Type 1} → statement M
+end-last-spec =
+    tie.close
+    (tie.spec
+    (λ c κs. search needs)
+    (λ c κs. search needs)
+    (λ c. search last-new)
+    (λ c. search needs)
+    (λ c. search last-word))

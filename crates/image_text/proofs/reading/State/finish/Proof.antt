@@ -1,0 +1,13 @@
+use Rattle.image_text.proofs.Arms.{finish-is, finish-image}
+use borrow.Author.Needs.{needs}
+use Rattle.image_text.proofs.reading.State.finish.Statement.{statement}
+use Rattle.image_text.proofs.reading.State.finish.Tie as tie
+
+pub finish-spec : {M : Type 1} → statement M
+finish-spec =
+    tie.close
+    (tie.spec
+    (λ c κs. search needs)
+    (λ c κs. search needs)
+    (λ c. search needs)
+    (λ c. (search finish-is, search finish-image)))

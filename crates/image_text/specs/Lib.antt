@@ -1,0 +1,4 @@
+pub mod Judging
+pub mod Text
+pub mod Words
+pub mod Reading

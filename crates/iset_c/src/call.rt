@@ -1,0 +1,60 @@
+// A step and a drain for any query, with the numbers of their answers. They serve the exports.
+use crate::answer::put_drained;
+use crate::answer::put_step;
+use iset::Cursor;
+use iset::Map;
+use iset::Query;
+use iset::lookup::Drain;
+use iset::lookup::Stepped;
+ghost use mathlib.Core.Path.{_≡_};
+ghost use mathlib.Core.Bool.{true};
+ghost use mathlib.Core.List.{[], _∷_};
+ghost use Prim.Native.Nat.{_≤_};
+ghost use lib.ListN.{length};
+ghost use Rattle.iset_c.specs.Replies.{exit, stepExit, drainExit};
+
+// A step of either kind of lookup.
+pub fn step(
+    map: Map,
+    nodes: &[u64],
+    colours: &[u8],
+    query: Query,
+    cursor: Cursor,
+    answer: &mut [u64],
+) -> u64
+    requires { ⌜ 5 ≤ length (now answer) ⌝ }
+    ensures { λ r. ⌜ exit r (now (answer .exit)) []
+        ≡ stepExit true (now (answer .entry)) map (now (nodes .entry)) (now (colours .entry)) query cursor ⌝ }
+{
+    match map.step(nodes, colours, query, cursor) {
+        Stepped::Refused(why) => why.number(),
+        Stepped::Done(s) => {
+            put_step(s, answer);
+            0
+        }
+    }
+}
+
+// A drain of either kind of lookup.
+pub fn drain(
+    map: Map,
+    nodes: &[u64],
+    colours: &[u8],
+    query: Query,
+    cursor: Cursor,
+    limit: u64,
+    out: &mut [u64],
+    answer: &mut [u64],
+) -> u64
+    requires { ⌜ 5 ≤ length (now answer) ⌝ }
+    ensures { λ r. ⌜ exit r (now (answer .exit)) (now (out .exit) ∷ [])
+        ≡ drainExit true (now (answer .entry)) map (now (nodes .entry)) (now (colours .entry)) query cursor limit (now (out .entry)) ⌝ }
+{
+    match map.drain(nodes, colours, query, cursor, limit, out) {
+        Drain::Refused(why) => why.number(),
+        Drain::Done(d) => {
+            put_drained(d, answer);
+            0
+        }
+    }
+}

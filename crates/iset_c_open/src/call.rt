@@ -1,0 +1,61 @@
+// A step and a drain for any query, in an opened store, with the numbers of their answers. They serve the exports.
+use iset::Cursor;
+use iset::Map;
+use iset::Query;
+use iset::lookup::Drain;
+use iset::lookup::Stepped;
+use iset_c::answer::put_drained;
+use iset_c::answer::put_step;
+ghost use mathlib.Core.Path.{_≡_};
+ghost use mathlib.Core.Bool.{true};
+ghost use mathlib.Core.List.{[], _∷_};
+ghost use Prim.Native.Nat.{_≤_};
+ghost use lib.ListN.{length};
+ghost use Rattle.iset_c.specs.Replies.{exit};
+ghost use Rattle.iset_c_open.specs.Replies.{openStepExit, openDrainExit};
+
+// A step of either kind of lookup.
+pub fn step(
+    map: Map,
+    nodes: &[u64],
+    colours: &[u8],
+    query: Query,
+    cursor: Cursor,
+    answer: &mut [u64],
+) -> u64
+    requires { ⌜ 5 ≤ length (now answer) ⌝ }
+    ensures { λ r. ⌜ exit r (now (answer .exit)) []
+        ≡ openStepExit true (now (answer .entry)) map (now (nodes .entry)) (now (colours .entry)) query cursor ⌝ }
+{
+    match map.open_step(nodes, colours, query, cursor) {
+        Stepped::Refused(why) => why.number(),
+        Stepped::Done(s) => {
+            put_step(s, answer);
+            0
+        }
+    }
+}
+
+// A drain of either kind of lookup.
+pub fn drain(
+    map: Map,
+    nodes: &[u64],
+    colours: &[u8],
+    query: Query,
+    cursor: Cursor,
+    limit: u64,
+    out: &mut [u64],
+    answer: &mut [u64],
+) -> u64
+    requires { ⌜ 5 ≤ length (now answer) ⌝ }
+    ensures { λ r. ⌜ exit r (now (answer .exit)) (now (out .exit) ∷ [])
+        ≡ openDrainExit true (now (answer .entry)) map (now (nodes .entry)) (now (colours .entry)) query cursor limit (now (out .entry)) ⌝ }
+{
+    match map.open_drain(nodes, colours, query, cursor, limit, out) {
+        Drain::Refused(why) => why.number(),
+        Drain::Done(d) => {
+            put_drained(d, answer);
+            0
+        }
+    }
+}

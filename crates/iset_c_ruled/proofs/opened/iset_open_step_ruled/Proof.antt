@@ -1,0 +1,17 @@
+use Rattle.iset_c.proofs.Laws.{short-exit, bounded, unbounded-exit}
+use Rattle.iset_c_open.specs.Replies.{openStepExit}
+use borrow.Author.Needs.{needs}
+use Rattle.iset_c_ruled.proofs.opened.iset_open_step_ruled.Statement.{statement}
+use Rattle.iset_c_ruled.proofs.opened.iset_open_step_ruled.Tie as tie
+
+pub iset-open-step-ruled-spec : {M : Type 1} → statement M
+iset-open-step-ruled-spec =
+    tie.close
+    (tie.spec
+    (λ c. search short-exit)
+    (λ c κs. search needs)
+    (λ c κs. search needs)
+    (λ c κs. search needs)
+    (λ c. search needs)
+    (λ c. search (bounded openStepExit))
+    (λ c. search unbounded-exit))
