@@ -7,6 +7,7 @@ use native.Mathlib.Omega.{arith}
 use lib.Dec.{leb}
 use borrow.Author.Tests.{le-leb, lt-leb, leb-false}
 use Rattle.words.specs.Ix.{gone, linkOf, onLink}
+use Rattle.words.specs.Layouts.{Held}
 use Rattle.words.specs.Intervals.{eq, extended}
 use Rattle.words.specs.Nodes.{hull, hullOf, altered, fix, putHull}
 use Rattle.words.specs.declared.interval.Interval.{Interval}
@@ -46,8 +47,8 @@ unlinked r n w l f z e q h = rw (nil-gone n w l e q) h
 pub slot-live : (n w k : ℕ) (l : Link) → l ≡ linkOf n w → l ≡ Slot k → k < n
 slot-live n w k l e q = slot-cases n w k l e q (λ s b. omega arith)
 
-pub slot-room : (n k s len : ℕ) (l : Link) → l ≡ linkOf n k → l ≡ Slot s → n * 8 ≤ len → s * 8 + 8 ≤ len
-slot-room n k s len l e q h = omega (arith, slot-live n k s l e q)
+pub slot-room : (narrow : Bool) (n k s len : ℕ) (l : Link) → l ≡ linkOf n k → l ≡ Slot s → Held narrow n len → Held narrow (s + 1) len
+slot-room narrow n k s len l e q h = let b : s < n = slot-live n k s l e q in omega arith
 
 pub extended-by : (r d h x : Interval) → h ≡ x → r ≡ extended d h → r ≡ extended d x
 extended-by r d h x e q = q ∙ ap (λ (i : Interval). extended d i) e

@@ -1,5 +1,6 @@
 pub mod Bounds
 pub mod Laws
+pub mod Layouts
 pub mod Lists
 pub mod Nodes
 pub mod Refusals

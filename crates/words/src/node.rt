@@ -1,14 +1,26 @@
-// The eight words of a node, read and written by slot. Only this file knows the place of each word
-// in its node.
+// The words of a node, read and written by slot: eight words, or six where `narrow` holds. Only this
+// file and `links` know the place of each word in its node.
 use crate::interval::Interval;
 use crate::interval::smaller;
 use crate::ix::Link;
+use crate::links::child_in;
+use crate::links::widened;
+use crate::links::with_child;
+use crate::links::with_parent;
 ghost use mathlib.Core.Path.{_≡_};
-ghost use Prim.Native.Nat.{_+_, _*_, _<_};
-ghost use Rattle.words.specs.Nodes.{place, word, put, start, stop, value, lo, hi, kid, par, interval, hull, entry, putKid, putPar, putEntry, putHull, putNode, swap, joined, hullOf, altered, fix, slotsIn, capacity, Has, Holds};
+ghost use mathlib.Core.Bool.{true};
+ghost use Prim.Native.Nat.{_+_, _*_, _<_, _≤_};
+ghost use lib.ListN.{length};
+ghost use Rattle.words.specs.Layouts.{packedPlace, fieldIn, fieldPut, unpack, asEight, kidFits, upFits, fieldFits, nodeWords, HoldsIn, HasIn, slotsAs, capacityAs};
+ghost use Rattle.words.specs.Nodes.{place, word, put, start, stop, value, lo, hi, kid, par, interval, hull, entry, putKid, putPar, putEntry, putHull, putNode, swap, joined, hullOf, altered, fix};
 
-// How many words a node has. The words of a store can be cut between two slots at its multiples.
-pub const NODE_WORDS: usize = 8;
+// Returns how many words the nodes of so many slots take. The words of a store can be cut there.
+pub fn words_of(slots: usize, narrow: bool) -> usize
+    requires { ⌜ slots ≤ 65535 ⌝ }
+    ensures { λ r. ⌜ (r ≡ slots * nodeWords narrow) × (r ≤ slots * 8) ⌝ }
+{
+    if narrow { slots * 6 } else { slots * 8 }
+}
 
 // What a slot holds for its user: an interval and a value.
 pub struct Entry {
@@ -18,17 +30,21 @@ pub struct Entry {
 }
 
 // Returns how many slots `words` node words hold.
-pub fn slots_in(words: usize) -> u64
-    ensures { λ r. ⌜ r ≡ slotsIn words ⌝ }
+pub fn slots_in(words: usize, narrow: bool) -> u64
+    ensures { λ r. ⌜ r ≡ slotsAs narrow words ⌝ }
 {
-    (words / NODE_WORDS) as u64
+    if narrow {
+        (words / 6) as u64
+    } else {
+        (words / 8) as u64
+    }
 }
 
 // Returns how many entries `words` node words and `bytes` colour bytes can hold, at most 65,535.
-pub fn capacity(words: usize, bytes: usize) -> u64
-    ensures { λ r. ⌜ r ≡ capacity words bytes ⌝ }
+pub fn capacity(words: usize, narrow: bool, bytes: usize) -> u64
+    ensures { λ r. ⌜ r ≡ capacityAs narrow words bytes ⌝ }
 {
-    let nodes = slots_in(words);
+    let nodes = slots_in(words, narrow);
     if bytes < 8192 {
         return smaller(nodes, smaller((bytes * 8) as u64, 65535));
     }
@@ -64,186 +80,279 @@ impl Field {
     }
 }
 
-fn word_of(nodes: &[u64], s: u64, f: Field) -> u64
-    requires { ⌜ Has (now nodes) s ⌝ }
-    ensures { λ r. ⌜ r ≡ word (now (nodes .entry)) f s ⌝ }
-{
-    nodes[(s * 8 + f.place()) as usize]
+impl Field {
+    // Returns the place of its word among the six words of its node.
+    fn packed_place(self) -> u64
+        ensures { λ r. ⌜ (r ≡ packedPlace self) × (r < 6) ⌝ }
+    {
+        match self {
+            Field::Start => 0,
+            Field::End => 1,
+            Field::Value => 2,
+            Field::HullStart => 3,
+            Field::HullEnd => 4,
+            Field::Child(_) => 5,
+            Field::Parent => 5,
+        }
+    }
+
+    // Returns what the word at that place holds of the field.
+    fn read_in(self, w: u64) -> u64
+        ensures { λ r. ⌜ (r ≡ fieldIn self w) × (fieldFits true self r ≡ true) ⌝ }
+    {
+        match self {
+            Field::Start => w,
+            Field::End => w,
+            Field::Value => w,
+            Field::HullStart => w,
+            Field::HullEnd => w,
+            Field::Child(left_side) => child_in(w, left_side),
+            Field::Parent => widened(w / 4294967296),
+        }
+    }
+
+    // Returns that word with v written for the field.
+    fn put_in(self, w: u64, v: u64) -> u64
+        requires { ⌜ fieldFits true self v ≡ true ⌝ }
+        ensures { λ r. ⌜ r ≡ fieldPut self w v ⌝ }
+    {
+        match self {
+            Field::Start => v,
+            Field::End => v,
+            Field::Value => v,
+            Field::HullStart => v,
+            Field::HullEnd => v,
+            Field::Child(left_side) => with_child(w, left_side, v),
+            Field::Parent => with_parent(w, v),
+        }
+    }
 }
 
-fn put_word(nodes: &mut [u64], s: u64, f: Field, v: u64)
-    requires { ⌜ Has (now nodes) s ⌝ }
-    ensures { λ _. ⌜ now (nodes .exit) ≡ put (now (nodes .entry)) f s v ⌝ }
+fn packed_word(nodes: &[u64], s: u64, f: Field) -> u64
+    requires { ⌜ s * 6 + 6 ≤ length (now nodes) ⌝ }
+    ensures { λ r. ⌜ (r ≡ word (unpack (now (nodes .entry))) f s) × (fieldFits true f r ≡ true) ⌝ }
 {
-    nodes[(s * 8 + f.place()) as usize] = v;
+    f.read_in(nodes[(s * 6 + f.packed_place()) as usize])
 }
 
-pub fn start_of(nodes: &[u64], s: u64) -> u64
-    requires { ⌜ Has (now nodes) s ⌝ }
-    ensures { λ r. ⌜ r ≡ start (now (nodes .entry)) s ⌝ }
+fn put_packed(nodes: &mut [u64], s: u64, f: Field, v: u64)
+    requires { ⌜ (s * 6 + 6 ≤ length (now nodes)) × (fieldFits true f v ≡ true) ⌝ }
+    ensures { λ _. ⌜ unpack (now (nodes .exit)) ≡ put (unpack (now (nodes .entry))) f s v ⌝ }
 {
-    word_of(nodes, s, Field::Start)
+    let i = (s * 6 + f.packed_place()) as usize;
+    let w = nodes[i];
+    nodes[i] = f.put_in(w, v);
 }
 
-pub fn end_of(nodes: &[u64], s: u64) -> u64
-    requires { ⌜ Has (now nodes) s ⌝ }
-    ensures { λ r. ⌜ r ≡ stop (now (nodes .entry)) s ⌝ }
+fn word_of(nodes: &[u64], narrow: bool, s: u64, f: Field) -> u64
+    requires { ⌜ HasIn narrow (now nodes) s ⌝ }
+    ensures { λ r. ⌜ (r ≡ word (asEight narrow (now (nodes .entry))) f s) × (fieldFits narrow f r ≡ true) ⌝ }
 {
-    word_of(nodes, s, Field::End)
+    if narrow {
+        packed_word(nodes, s, f)
+    } else {
+        nodes[(s * 8 + f.place()) as usize]
+    }
 }
 
-pub fn value_of(nodes: &[u64], s: u64) -> u64
-    requires { ⌜ Has (now nodes) s ⌝ }
-    ensures { λ r. ⌜ r ≡ value (now (nodes .entry)) s ⌝ }
+fn put_word(nodes: &mut [u64], narrow: bool, s: u64, f: Field, v: u64)
+    requires { ⌜ HasIn narrow (now nodes) s × (fieldFits narrow f v ≡ true) ⌝ }
+    ensures { λ _. ⌜ asEight narrow (now (nodes .exit)) ≡ put (asEight narrow (now (nodes .entry))) f s v ⌝ }
 {
-    word_of(nodes, s, Field::Value)
+    if narrow {
+        put_packed(nodes, s, f, v);
+    } else {
+        nodes[(s * 8 + f.place()) as usize] = v;
+    }
 }
 
-pub fn hull_start_of(nodes: &[u64], s: u64) -> u64
-    requires { ⌜ Has (now nodes) s ⌝ }
-    ensures { λ r. ⌜ r ≡ lo (now (nodes .entry)) s ⌝ }
+pub fn start_of(nodes: &[u64], narrow: bool, s: u64) -> u64
+    requires { ⌜ HasIn narrow (now nodes) s ⌝ }
+    ensures { λ r. ⌜ r ≡ start (asEight narrow (now (nodes .entry))) s ⌝ }
 {
-    word_of(nodes, s, Field::HullStart)
+    word_of(nodes, narrow, s, Field::Start)
 }
 
-pub fn hull_end_of(nodes: &[u64], s: u64) -> u64
-    requires { ⌜ Has (now nodes) s ⌝ }
-    ensures { λ r. ⌜ r ≡ hi (now (nodes .entry)) s ⌝ }
+pub fn end_of(nodes: &[u64], narrow: bool, s: u64) -> u64
+    requires { ⌜ HasIn narrow (now nodes) s ⌝ }
+    ensures { λ r. ⌜ r ≡ stop (asEight narrow (now (nodes .entry))) s ⌝ }
 {
-    word_of(nodes, s, Field::HullEnd)
+    word_of(nodes, narrow, s, Field::End)
+}
+
+pub fn value_of(nodes: &[u64], narrow: bool, s: u64) -> u64
+    requires { ⌜ HasIn narrow (now nodes) s ⌝ }
+    ensures { λ r. ⌜ r ≡ value (asEight narrow (now (nodes .entry))) s ⌝ }
+{
+    word_of(nodes, narrow, s, Field::Value)
+}
+
+pub fn hull_start_of(nodes: &[u64], narrow: bool, s: u64) -> u64
+    requires { ⌜ HasIn narrow (now nodes) s ⌝ }
+    ensures { λ r. ⌜ r ≡ lo (asEight narrow (now (nodes .entry))) s ⌝ }
+{
+    word_of(nodes, narrow, s, Field::HullStart)
+}
+
+pub fn hull_end_of(nodes: &[u64], narrow: bool, s: u64) -> u64
+    requires { ⌜ HasIn narrow (now nodes) s ⌝ }
+    ensures { λ r. ⌜ r ≡ hi (asEight narrow (now (nodes .entry))) s ⌝ }
+{
+    word_of(nodes, narrow, s, Field::HullEnd)
 }
 
 // Returns the child link of slot s: the left one if `left_side` is true, else the right one.
-pub fn child_of(nodes: &[u64], s: u64, left_side: bool) -> u64
-    requires { ⌜ Has (now nodes) s ⌝ }
-    ensures { λ r. ⌜ r ≡ kid (now (nodes .entry)) «left_side» s ⌝ }
+pub fn child_of(nodes: &[u64], narrow: bool, s: u64, left_side: bool) -> u64
+    requires { ⌜ HasIn narrow (now nodes) s ⌝ }
+    ensures { λ r. ⌜ (r ≡ kid (asEight narrow (now (nodes .entry))) «left_side» s) × (kidFits narrow r ≡ true) ⌝ }
 {
-    word_of(nodes, s, Field::Child(left_side))
+    word_of(nodes, narrow, s, Field::Child(left_side))
 }
 
-pub fn parent_of(nodes: &[u64], s: u64) -> u64
-    requires { ⌜ Has (now nodes) s ⌝ }
-    ensures { λ r. ⌜ r ≡ par (now (nodes .entry)) s ⌝ }
+pub fn parent_of(nodes: &[u64], narrow: bool, s: u64) -> u64
+    requires { ⌜ HasIn narrow (now nodes) s ⌝ }
+    ensures { λ r. ⌜ (r ≡ par (asEight narrow (now (nodes .entry))) s) × (upFits narrow r ≡ true) ⌝ }
 {
-    word_of(nodes, s, Field::Parent)
+    word_of(nodes, narrow, s, Field::Parent)
 }
 
-pub fn interval_of(nodes: &[u64], s: u64) -> Interval
-    requires { ⌜ Has (now nodes) s ⌝ }
-    ensures { λ r. ⌜ r ≡ interval (now (nodes .entry)) s ⌝ }
+pub fn interval_of(nodes: &[u64], narrow: bool, s: u64) -> Interval
+    requires { ⌜ HasIn narrow (now nodes) s ⌝ }
+    ensures { λ r. ⌜ r ≡ interval (asEight narrow (now (nodes .entry))) s ⌝ }
 {
     Interval {
-        start: start_of(nodes, s),
-        end: end_of(nodes, s),
+        start: start_of(nodes, narrow, s),
+        end: end_of(nodes, narrow, s),
     }
 }
 
 // Returns the hull of slot s, as the node has it.
-pub fn hull_at(nodes: &[u64], s: u64) -> Interval
-    requires { ⌜ Has (now nodes) s ⌝ }
-    ensures { λ r. ⌜ r ≡ hull (now (nodes .entry)) s ⌝ }
+pub fn hull_at(nodes: &[u64], narrow: bool, s: u64) -> Interval
+    requires { ⌜ HasIn narrow (now nodes) s ⌝ }
+    ensures { λ r. ⌜ r ≡ hull (asEight narrow (now (nodes .entry))) s ⌝ }
 {
     Interval {
-        start: hull_start_of(nodes, s),
-        end: hull_end_of(nodes, s),
+        start: hull_start_of(nodes, narrow, s),
+        end: hull_end_of(nodes, narrow, s),
     }
 }
 
-pub fn entry_of(nodes: &[u64], s: u64) -> Entry
-    requires { ⌜ Has (now nodes) s ⌝ }
-    ensures { λ r. ⌜ r ≡ entry (now (nodes .entry)) s ⌝ }
+pub fn entry_of(nodes: &[u64], narrow: bool, s: u64) -> Entry
+    requires { ⌜ HasIn narrow (now nodes) s ⌝ }
+    ensures { λ r. ⌜ r ≡ entry (asEight narrow (now (nodes .entry))) s ⌝ }
 {
     Entry {
-        start: start_of(nodes, s),
-        end: end_of(nodes, s),
-        value: value_of(nodes, s),
+        start: start_of(nodes, narrow, s),
+        end: end_of(nodes, narrow, s),
+        value: value_of(nodes, narrow, s),
     }
 }
 
-pub fn put_entry(nodes: &mut [u64], s: u64, e: Entry)
-    requires { ⌜ Has (now nodes) s ⌝ }
-    ensures { λ _. ⌜ now (nodes .exit) ≡ putEntry (now (nodes .entry)) s e ⌝ }
+pub fn put_entry(nodes: &mut [u64], narrow: bool, s: u64, e: Entry)
+    requires { ⌜ HasIn narrow (now nodes) s ⌝ }
+    ensures { λ _. ⌜ asEight narrow (now (nodes .exit)) ≡ putEntry (asEight narrow (now (nodes .entry))) s e ⌝ }
 {
-    put_word(nodes, s, Field::Start, e.start);
-    put_word(nodes, s, Field::End, e.end);
-    put_word(nodes, s, Field::Value, e.value);
+    put_word(nodes, narrow, s, Field::Start, e.start);
+    put_word(nodes, narrow, s, Field::End, e.end);
+    put_word(nodes, narrow, s, Field::Value, e.value);
 }
 
-pub fn put_hull(nodes: &mut [u64], s: u64, h: Interval)
-    requires { ⌜ Has (now nodes) s ⌝ }
-    ensures { λ _. ⌜ now (nodes .exit) ≡ putHull (now (nodes .entry)) s h ⌝ }
+pub fn put_hull(nodes: &mut [u64], narrow: bool, s: u64, h: Interval)
+    requires { ⌜ HasIn narrow (now nodes) s ⌝ }
+    ensures { λ _. ⌜ asEight narrow (now (nodes .exit)) ≡ putHull (asEight narrow (now (nodes .entry))) s h ⌝ }
 {
-    put_word(nodes, s, Field::HullStart, h.start);
-    put_word(nodes, s, Field::HullEnd, h.end);
+    put_word(nodes, narrow, s, Field::HullStart, h.start);
+    put_word(nodes, narrow, s, Field::HullEnd, h.end);
 }
 
-pub fn put_child(nodes: &mut [u64], s: u64, left_side: bool, v: u64)
-    requires { ⌜ Has (now nodes) s ⌝ }
-    ensures { λ _. ⌜ now (nodes .exit) ≡ putKid (now (nodes .entry)) «left_side» s v ⌝ }
+pub fn put_child(nodes: &mut [u64], narrow: bool, s: u64, left_side: bool, v: u64)
+    requires { ⌜ HasIn narrow (now nodes) s × (kidFits narrow v ≡ true) ⌝ }
+    ensures { λ _. ⌜ asEight narrow (now (nodes .exit)) ≡ putKid (asEight narrow (now (nodes .entry))) «left_side» s v ⌝ }
 {
-    put_word(nodes, s, Field::Child(left_side), v);
+    put_word(nodes, narrow, s, Field::Child(left_side), v);
 }
 
-pub fn put_parent(nodes: &mut [u64], s: u64, v: u64)
-    requires { ⌜ Has (now nodes) s ⌝ }
-    ensures { λ _. ⌜ now (nodes .exit) ≡ putPar (now (nodes .entry)) s v ⌝ }
+pub fn put_parent(nodes: &mut [u64], narrow: bool, s: u64, v: u64)
+    requires { ⌜ HasIn narrow (now nodes) s × (upFits narrow v ≡ true) ⌝ }
+    ensures { λ _. ⌜ asEight narrow (now (nodes .exit)) ≡ putPar (asEight narrow (now (nodes .entry))) s v ⌝ }
 {
-    put_word(nodes, s, Field::Parent, v);
+    put_word(nodes, narrow, s, Field::Parent, v);
 }
 
-// Writes all eight words of slot s.
-pub fn put_node(nodes: &mut [u64], s: u64, e: Entry, h: Interval, left: u64, right: u64, up: u64)
-    requires { ⌜ Has (now nodes) s ⌝ }
-    ensures { λ _. ⌜ now (nodes .exit) ≡ putNode (now (nodes .entry)) s e h left right up ⌝ }
+// Writes the whole node of slot s.
+pub fn put_node(
+    nodes: &mut [u64],
+    narrow: bool,
+    s: u64,
+    e: Entry,
+    h: Interval,
+    left: u64,
+    right: u64,
+    up: u64,
+)
+    requires { ⌜ HasIn narrow (now nodes) s × (kidFits narrow left ≡ true) × (kidFits narrow right ≡ true) × (upFits narrow up ≡ true) ⌝ }
+    ensures { λ _. ⌜ asEight narrow (now (nodes .exit)) ≡ putNode (asEight narrow (now (nodes .entry))) s e h left right up ⌝ }
 {
-    put_entry(nodes, s, e);
-    put_hull(nodes, s, h);
-    put_child(nodes, s, true, left);
-    put_child(nodes, s, false, right);
-    put_parent(nodes, s, up);
+    put_entry(nodes, narrow, s, e);
+    put_hull(nodes, narrow, s, h);
+    put_child(nodes, narrow, s, true, left);
+    put_child(nodes, narrow, s, false, right);
+    put_parent(nodes, narrow, s, up);
 }
 
-// Swaps the values and the intervals of two nodes: six words. The hulls belong to the places in the
+// Swaps the values and the intervals of two nodes. The hulls belong to the places in the
 // tree and stay unchanged.
-pub fn swap_with(nodes: &mut [u64], i: u64, j: u64)
-    requires { ⌜ Has (now nodes) i × Has (now nodes) j ⌝ }
-    ensures { λ _. ⌜ now (nodes .exit) ≡ swap (now (nodes .entry)) i j ⌝ }
+pub fn swap_with(nodes: &mut [u64], narrow: bool, i: u64, j: u64)
+    requires { ⌜ HasIn narrow (now nodes) i × HasIn narrow (now nodes) j ⌝ }
+    ensures { λ _. ⌜ asEight narrow (now (nodes .exit)) ≡ swap (asEight narrow (now (nodes .entry))) i j ⌝ }
 {
-    let a = entry_of(nodes, i);
-    let b = entry_of(nodes, j);
-    put_entry(nodes, i, b);
-    put_entry(nodes, j, a);
+    let a = entry_of(nodes, narrow, i);
+    let b = entry_of(nodes, narrow, j);
+    put_entry(nodes, narrow, i, b);
+    put_entry(nodes, narrow, j, a);
 }
 
 // Returns the interval d, extended by the hull of the slot that the link leads to, if it leads to
 // one.
-fn extend_by(nodes: &[u64], count: u64, word: u64, d: Interval) -> Interval
-    requires { ⌜ Holds (now nodes) count ⌝ }
-    ensures { λ r. ⌜ r ≡ joined count (now (nodes .entry)) word d ⌝ }
+fn extend_by(nodes: &[u64], narrow: bool, count: u64, word: u64, d: Interval) -> Interval
+    requires { ⌜ HoldsIn narrow (now nodes) count ⌝ }
+    ensures { λ r. ⌜ r ≡ joined count (asEight narrow (now (nodes .entry))) word d ⌝ }
 {
     let Link::Slot(k) = Link::new(word, count) else {
         return d;
     };
-    d.extend(hull_at(nodes, k))
+    d.extend(hull_at(nodes, narrow, k))
 }
 
 // Returns the hull that the node's own interval and its children's hulls make.
-pub fn subtree_interval(nodes: &[u64], count: u64, index: u64) -> Interval
-    requires { ⌜ Holds (now nodes) count × (index < count) ⌝ }
-    ensures { λ r. ⌜ r ≡ hullOf count (now (nodes .entry)) index ⌝ }
+pub fn subtree_interval(nodes: &[u64], narrow: bool, count: u64, index: u64) -> Interval
+    requires { ⌜ HoldsIn narrow (now nodes) count × (index < count) ⌝ }
+    ensures { λ r. ⌜ r ≡ hullOf count (asEight narrow (now (nodes .entry))) index ⌝ }
 {
-    let own = interval_of(nodes, index);
-    let left = extend_by(nodes, count, child_of(nodes, index, true), own);
-    extend_by(nodes, count, child_of(nodes, index, false), left)
+    let own = interval_of(nodes, narrow, index);
+    let left = extend_by(
+        nodes,
+        narrow,
+        count,
+        child_of(nodes, narrow, index, true),
+        own,
+    );
+    extend_by(
+        nodes,
+        narrow,
+        count,
+        child_of(nodes, narrow, index, false),
+        left,
+    )
 }
 
 // Computes the hull of slot `index` anew and writes it. Returns whether either end changed.
-pub fn update_subtree_interval(nodes: &mut [u64], count: u64, index: u64) -> bool
-    requires { ⌜ Holds (now nodes) count × (index < count) ⌝ }
-    ensures { λ r. ⌜ (r ≡ altered count (now (nodes .entry)) index) × (now (nodes .exit) ≡ fix count (now (nodes .entry)) index) ⌝ }
+pub fn update_subtree_interval(nodes: &mut [u64], narrow: bool, count: u64, index: u64) -> bool
+    requires { ⌜ HoldsIn narrow (now nodes) count × (index < count) ⌝ }
+    ensures { λ r. ⌜ (r ≡ altered count (asEight narrow (now (nodes .entry))) index) × (asEight narrow (now (nodes .exit)) ≡ fix count (asEight narrow (now (nodes .entry))) index) ⌝ }
 {
-    let old = hull_at(nodes, index);
-    let h = subtree_interval(nodes, count, index);
-    put_hull(nodes, index, h);
+    let old = hull_at(nodes, narrow, index);
+    let h = subtree_interval(nodes, narrow, count, index);
+    put_hull(nodes, narrow, index, h);
     !old.eq(h)
 }

@@ -14,4 +14,4 @@ subtree-interval-spec =
     (λ c κs. search needs)
     (λ c κs. search needs)
     (λ c. let left = c .before .before in
-    rw (c .extend-by2 .ensures, c .before .child-of2 .ensures, left .extend-by .ensures, left .before .child-of .ensures, left .before .before .interval-of .ensures)))
+    rw (c .extend-by2 .ensures, c .before .child-of2 .ensures .0, left .extend-by .ensures, left .before .child-of .ensures .0, left .before .before .interval-of .ensures)))
