@@ -17,9 +17,10 @@ use words::node::parent_of;
 ghost use mathlib.Core.Path.{_≡_};
 ghost use mathlib.Core.Bool.{true, false};
 ghost use Prim.Native.Nat.{_+_, _≤_, _<_};
+ghost use Rattle.words.specs.Layouts.{asEight, HoldsIn, HasIn};
 ghost use Rattle.tree.specs.RedBlack.{blackOf};
 ghost use Rattle.audit.specs.Survey.{nodeAt, noNodes, tied, ordered, hulled, coloured, fits, combined, childless, survey, wholeOf};
-ghost use Rattle.words.specs.Nodes.{Has, HasBit, Holds, HoldsBits, kid, par};
+ghost use Rattle.words.specs.Nodes.{HasBit, HoldsBits, kid, par};
 
 // What the check reads of a slot.
 pub struct Node {
@@ -49,16 +50,16 @@ pub struct Found {
     pub hull: Interval,
 }
 
-fn node_at(nodes: &[u64], colours: &[u8], slot: u64) -> Node
-    requires { ⌜ Has (now nodes) slot × HasBit (now colours) slot ⌝ }
-    ensures { λ r. ⌜ r ≡ nodeAt (now (nodes .entry)) (now (colours .entry)) slot ⌝ }
+fn node_at(nodes: &[u64], narrow: bool, colours: &[u8], slot: u64) -> Node
+    requires { ⌜ HasIn narrow (now nodes) slot × HasBit (now colours) slot ⌝ }
+    ensures { λ r. ⌜ r ≡ nodeAt (asEight narrow (now (nodes .entry))) (now (colours .entry)) slot ⌝ }
 {
     Node {
-        interval: interval_of(nodes, slot),
-        hull: hull_at(nodes, slot),
-        left: child_of(nodes, slot, true),
-        right: child_of(nodes, slot, false),
-        parent: parent_of(nodes, slot),
+        interval: interval_of(nodes, narrow, slot),
+        hull: hull_at(nodes, narrow, slot),
+        left: child_of(nodes, narrow, slot, true),
+        right: child_of(nodes, narrow, slot, false),
+        parent: parent_of(nodes, narrow, slot),
         red: is_red(colours, slot),
     }
 }
@@ -154,14 +155,14 @@ pub fn combine(x: Node, l: Found, r: Found) -> Found
 
 // Whether a link below the slot `parent` leads to a slot that names `parent` and has no children.
 // The height must also allow for the two undefined links below that slot.
-fn is_leaf(nodes: &[u64], count: u64, link: u64, parent: u64, height: u64) -> bool
-    requires { ⌜ Holds (now nodes) count ⌝ }
-    ensures { λ r. ⌜ r ≡ childless (kid (now (nodes .entry)) true link) (kid (now (nodes .entry)) false link) (par (now (nodes .entry)) link) count height parent link ⌝ }
+fn is_leaf(nodes: &[u64], narrow: bool, count: u64, link: u64, parent: u64, height: u64) -> bool
+    requires { ⌜ HoldsIn narrow (now nodes) count ⌝ }
+    ensures { λ r. ⌜ r ≡ childless (kid (asEight narrow (now (nodes .entry))) true link) (kid (asEight narrow (now (nodes .entry))) false link) (par (asEight narrow (now (nodes .entry))) link) count height parent link ⌝ }
 {
     if link < count {
-        let left = child_of(nodes, link, true);
-        let right = child_of(nodes, link, false);
-        let up = parent_of(nodes, link);
+        let left = child_of(nodes, narrow, link, true);
+        let right = child_of(nodes, narrow, link, false);
+        let up = parent_of(nodes, narrow, link);
         (up == parent) & (left == U) & (right == U) & (link != U) & (1 < height)
     } else {
         false
@@ -182,6 +183,7 @@ fn lone(x: Node) -> Found
 // children and are judged at once, which saves three calls for each.
 fn below(
     nodes: &[u64],
+    narrow: bool,
     colours: &[u8],
     count: u64,
     link: u64,
@@ -189,19 +191,20 @@ fn below(
     above: Interval,
     height: u64,
 ) -> Found
-    requires { ⌜ Holds (now nodes) count × HoldsBits (now colours) count × (height ≤ 33) ⌝ }
-    ensures { λ r. ⌜ r ≡ survey (now (nodes .entry)) (now (colours .entry)) count height parent above link ⌝ }
+    requires { ⌜ HoldsIn narrow (now nodes) count × HoldsBits (now colours) count × (height ≤ 33) ⌝ }
+    ensures { λ r. ⌜ r ≡ survey (asEight narrow (now (nodes .entry))) (now (colours .entry)) count height parent above link ⌝ }
 {
-    if is_leaf(nodes, count, link, parent, height) {
-        lone(node_at(nodes, colours, link))
+    if is_leaf(nodes, narrow, count, link, parent, height) {
+        lone(node_at(nodes, narrow, colours, link))
     } else {
-        survey_at(nodes, colours, count, link, parent, above, height)
+        survey_at(nodes, narrow, colours, count, link, parent, above, height)
     }
 }
 
 // Returns the same as `below`, case by case.
 fn survey_at(
     nodes: &[u64],
+    narrow: bool,
     colours: &[u8],
     count: u64,
     link: u64,
@@ -209,8 +212,8 @@ fn survey_at(
     above: Interval,
     height: u64,
 ) -> Found
-    requires { ⌜ Holds (now nodes) count × HoldsBits (now colours) count × (height ≤ 33) ⌝ }
-    ensures { λ r. ⌜ r ≡ survey (now (nodes .entry)) (now (colours .entry)) count height parent above link ⌝ }
+    requires { ⌜ HoldsIn narrow (now nodes) count × HoldsBits (now colours) count × (height ≤ 33) ⌝ }
+    ensures { λ r. ⌜ r ≡ survey (asEight narrow (now (nodes .entry))) (now (colours .entry)) count height parent above link ⌝ }
 {
     if height == 0 {
         return no_nodes(false, above);
@@ -221,11 +224,20 @@ fn survey_at(
     if count <= link {
         return no_nodes(false, above);
     }
-    let x = node_at(nodes, colours, link);
+    let x = node_at(nodes, narrow, colours, link);
     if is_tied(x, parent) {
         let own = x.interval;
-        let l = below(nodes, colours, count, x.left, link, own, height - 1);
-        let r = below(nodes, colours, count, x.right, link, own, height - 1);
+        let l = below(nodes, narrow, colours, count, x.left, link, own, height - 1);
+        let r = below(
+            nodes,
+            narrow,
+            colours,
+            count,
+            x.right,
+            link,
+            own,
+            height - 1,
+        );
         combine(x, l, r)
     } else {
         no_nodes(false, above)
@@ -234,11 +246,11 @@ fn survey_at(
 
 // Whether a store passes. No tree that passes is higher than 32. The root has no slot above it, so
 // any interval serves as the one above.
-pub fn audit(nodes: &[u64], colours: &[u8], count: u64, root: u64) -> bool
-    requires { ⌜ Holds (now nodes) count × HoldsBits (now colours) count ⌝ }
-    ensures { λ r. ⌜ r ≡ wholeOf (now (nodes .entry)) (now (colours .entry)) count root ⌝ }
+pub fn audit(nodes: &[u64], narrow: bool, colours: &[u8], count: u64, root: u64) -> bool
+    requires { ⌜ HoldsIn narrow (now nodes) count × HoldsBits (now colours) count ⌝ }
+    ensures { λ r. ⌜ r ≡ wholeOf (asEight narrow (now (nodes .entry))) (now (colours .entry)) count root ⌝ }
 {
     let none = Interval { start: 0, end: 0 };
-    let found = survey_at(nodes, colours, count, root, U, none, 33);
+    let found = survey_at(nodes, narrow, colours, count, root, U, none, 33);
     found.ok & (found.size == count) & !found.red
 }

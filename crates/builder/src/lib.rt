@@ -13,7 +13,8 @@ use words::node::put_node;
 ghost use mathlib.Core.Path.{_≡_};
 ghost use Prim.Native.Nat.{_+_, _*_, _-_, _/_, _≤_, _<_};
 ghost use lib.ListN.{length};
-ghost use Rattle.words.specs.Nodes.{putNode, Holds, HoldsBits, wordsOf};
+ghost use Rattle.words.specs.Layouts.{asEight, HoldsIn};
+ghost use Rattle.words.specs.Nodes.{putNode, HoldsBits, wordsOf};
 ghost use Rattle.builder.specs.Input.{entryOf};
 ghost use Rattle.builder.specs.Build.{center, rootOf, spanHull, spanWords, painted, log, levels, buildWords, buildColours, buildRoot, Lent};
 
@@ -53,10 +54,18 @@ fn root_of(start: usize, end: usize) -> u64
 }
 
 // Writes the root of the slots [start, end) in their part of the node words.
-fn put_root(list: &[u64], nodes: &mut [u64], start: usize, end: usize, parent: u64, hull: Interval)
+fn put_root(
+    list: &[u64],
+    nodes: &mut [u64],
+    narrow: bool,
+    start: usize,
+    end: usize,
+    parent: u64,
+    hull: Interval,
+)
     requires { ⌜ (end * 3 ≤ length (now list)) × (length (now nodes) ≡ wordsOf (end - start)) × (start < end) ⌝ }
     ensures { λ _. ⌜ now (nodes .exit)
-        ≡ putNode (now (nodes .entry)) ((end - start) / 2) (entryOf (now (list .entry)) (center start end)) hull
+        ≡ putNode (asEight narrow (now (nodes .entry))) ((end - start) / 2) (entryOf (now (list .entry)) (center start end)) hull
         (rootOf start (center start end)) (rootOf (center start end + 1) end) parent ⌝ }
 {
     let half = (end - start) / 2;
@@ -64,7 +73,7 @@ fn put_root(list: &[u64], nodes: &mut [u64], start: usize, end: usize, parent: u
     let entry = entry_at(list, center);
     let left = root_of(start, center);
     let right = root_of(center + 1, end);
-    put_node(nodes, half as u64, entry, hull, left, right, parent);
+    put_node(nodes, narrow, half as u64, entry, hull, left, right, parent);
 }
 
 // Writes the only slot of a span, whose words are `nodes`. Returns `so_far`, extended by the slot's
@@ -72,6 +81,7 @@ fn put_root(list: &[u64], nodes: &mut [u64], start: usize, end: usize, parent: u
 fn put_leaf(
     list: &[u64],
     nodes: &mut [u64],
+    narrow: bool,
     colours: &mut [u8],
     slot: usize,
     rev_depth: u64,
@@ -80,12 +90,12 @@ fn put_leaf(
 ) -> Interval
     requires { ⌜ Lent (now list) (now nodes) (now colours) slot (slot + 1) «rev_depth» ⌝ }
     ensures { λ r. ⌜ (r ≡ spanHull (now (list .entry)) «rev_depth» slot (slot + 1) «so_far»)
-        × (now (nodes .exit) ≡ spanWords (now (list .entry)) «rev_depth» slot (slot + 1) parent)
+        × (asEight narrow (now (nodes .exit)) ≡ spanWords (now (list .entry)) «rev_depth» slot (slot + 1) parent)
         × (now (colours .exit) ≡ painted «rev_depth» (now (colours .entry)) slot (slot + 1)) ⌝ }
 {
     let own = interval_at(list, slot);
     put_bit(colours, slot, rev_depth == 1);
-    put_node(nodes, 0, entry_at(list, slot), own, U, U, parent);
+    put_node(nodes, narrow, 0, entry_at(list, slot), own, U, U, parent);
     so_far.extend(own)
 }
 
@@ -95,6 +105,7 @@ fn put_leaf(
 fn init_from_sorted(
     list: &[u64],
     nodes: &mut [u64],
+    narrow: bool,
     colours: &mut [u8],
     start: usize,
     end: usize,
@@ -104,14 +115,23 @@ fn init_from_sorted(
 ) -> Interval
     requires { ⌜ Lent (now list) (now nodes) (now colours) start end «rev_depth» ⌝ }
     ensures { λ r. ⌜ (r ≡ spanHull (now (list .entry)) «rev_depth» start end «so_far»)
-        × (now (nodes .exit) ≡ spanWords (now (list .entry)) «rev_depth» start end parent)
+        × (asEight narrow (now (nodes .exit)) ≡ spanWords (now (list .entry)) «rev_depth» start end parent)
         × (now (colours .exit) ≡ painted «rev_depth» (now (colours .entry)) start end) ⌝ }
 {
     if end <= start {
         return so_far;
     }
     if end - start == 1 {
-        return put_leaf(list, nodes, colours, start, rev_depth, parent, so_far);
+        return put_leaf(
+            list,
+            nodes,
+            narrow,
+            colours,
+            start,
+            rev_depth,
+            parent,
+            so_far,
+        );
     }
     let half = (end - start) / 2;
     let center = start + half;
@@ -137,15 +157,21 @@ fn init_from_sorted(
         center as u64,
         left,
     );
-    put_root(list, nodes, start, end, parent, hull);
+    put_root(list, nodes, narrow, start, end, parent, hull);
     so_far.extend(hull)
 }
 
 // Builds the store of the first n triples of the list. Returns its root. Slots and colour bits from
 // n up stay unchanged.
-pub fn from_sorted(list: &[u64], nodes: &mut [u64], colours: &mut [u8], n: usize) -> u64
-    requires { ⌜ (n ≤ 65535) × (n * 3 ≤ length (now list)) × Holds (now nodes) n × HoldsBits (now colours) n ⌝ }
-    ensures { λ r. ⌜ (r ≡ buildRoot n) × (now (nodes .exit) ≡ buildWords (now (list .entry)) n (now (nodes .entry)))
+pub fn from_sorted(
+    list: &[u64],
+    nodes: &mut [u64],
+    narrow: bool,
+    colours: &mut [u8],
+    n: usize,
+) -> u64
+    requires { ⌜ (n ≤ 65535) × (n * 3 ≤ length (now list)) × HoldsIn narrow (now nodes) n × HoldsBits (now colours) n ⌝ }
+    ensures { λ r. ⌜ (r ≡ buildRoot n) × (asEight narrow (now (nodes .exit)) ≡ buildWords (now (list .entry)) n (asEight narrow (now (nodes .entry))))
         × (now (colours .exit) ≡ buildColours n (now (colours .entry))) ⌝ }
 {
     let none = Interval { start: 0, end: 0 };

@@ -24,13 +24,13 @@ ghost use mathlib.Core.List.{[], _∷_};
 ghost use Prim.Native.Nat.{_+_, _<_};
 ghost use lib.ListN.{length, set};
 ghost use lib.Seq.{sets};
+ghost use Rattle.words.specs.Layouts.{asEight, HoldsIn, HasIn};
 ghost use Rattle.iter.specs.Exact.{equals, shouldGoExact, exact};
 ghost use Rattle.iter.specs.Lists.{when};
 ghost use Rattle.iter.specs.declared.rules.Query.the-variants.{Overlap, Exact};
 ghost use Rattle.fast_rule.specs.Fast.{fastHits, fitted};
 ghost use Rattle.fast.specs.Numbers.{last, noEnd, noStart, leastEnd, lastStart, goesTo, liesIn, between};
 ghost use Rattle.fast.specs.Answers.{tally, Found, Room, Left, Down};
-ghost use Rattle.words.specs.Nodes.{Has, Holds};
 
 // The greatest number.
 const LAST: u64 = 18446744073709551615;
@@ -84,37 +84,66 @@ fn last_start(hi: Bound) -> u64
 
 // Whether the child of a slot on a side is entered: it exists, and its hull ends at `low` or later
 // and starts at `high` or earlier.
-fn is_near(nodes: &[u64], count: u64, low: u64, high: u64, slot: u64, left_side: bool) -> bool
-    requires { ⌜ Holds (now nodes) count × (slot < count) ⌝ }
-    ensures { λ r. ⌜ r ≡ goesTo (now (nodes .entry)) count low high «left_side» slot ⌝ }
+fn is_near(
+    nodes: &[u64],
+    narrow: bool,
+    count: u64,
+    low: u64,
+    high: u64,
+    slot: u64,
+    left_side: bool,
+) -> bool
+    requires { ⌜ HoldsIn narrow (now nodes) count × (slot < count) ⌝ }
+    ensures { λ r. ⌜ r ≡ goesTo (asEight narrow (now (nodes .entry))) count low high «left_side» slot ⌝ }
 {
-    let Link::Slot(child) = Link::new(child_of(nodes, slot, left_side), count) else {
+    let Link::Slot(child) = Link::new(child_of(nodes, narrow, slot, left_side), count) else {
         return false;
     };
-    (low <= hull_end_of(nodes, child)) & (hull_start_of(nodes, child) <= high)
+    (low <= hull_end_of(nodes, narrow, child)) & (hull_start_of(nodes, narrow, child) <= high)
 }
 
 // Whether the entry of a slot is a hit.
-fn is_within(nodes: &[u64], low: u64, high: u64, slot: u64) -> bool
-    requires { ⌜ Has (now nodes) slot ⌝ }
-    ensures { λ r. ⌜ r ≡ liesIn (now (nodes .entry)) low high slot ⌝ }
+fn is_within(nodes: &[u64], narrow: bool, low: u64, high: u64, slot: u64) -> bool
+    requires { ⌜ HasIn narrow (now nodes) slot ⌝ }
+    ensures { λ r. ⌜ r ≡ liesIn (asEight narrow (now (nodes .entry))) low high slot ⌝ }
 {
-    (low <= end_of(nodes, slot)) & (start_of(nodes, slot) <= high)
+    (low <= end_of(nodes, narrow, slot)) & (start_of(nodes, narrow, slot) <= high)
 }
 
 // The same two tests for an exact lookup, by the rules of crate iter.
-fn is_toward(nodes: &[u64], count: u64, start: u64, end: u64, slot: u64, left_side: bool) -> bool
-    requires { ⌜ Holds (now nodes) count × (slot < count) ⌝ }
-    ensures { λ r. ⌜ r ≡ shouldGoExact (now (nodes .entry)) count (record { start = start; end = end }) «left_side» slot ⌝ }
+fn is_toward(
+    nodes: &[u64],
+    narrow: bool,
+    count: u64,
+    start: u64,
+    end: u64,
+    slot: u64,
+    left_side: bool,
+) -> bool
+    requires { ⌜ HoldsIn narrow (now nodes) count × (slot < count) ⌝ }
+    ensures { λ r. ⌜ r ≡ shouldGoExact (asEight narrow (now (nodes .entry))) count (record { start = start; end = end }) «left_side» slot ⌝ }
 {
-    goes_exact(nodes, count, Interval { start, end }, slot, left_side)
+    goes_exact(
+        nodes,
+        narrow,
+        count,
+        Interval { start, end },
+        slot,
+        left_side,
+    )
 }
 
-fn is_equal(nodes: &[u64], count: u64, start: u64, end: u64, slot: u64) -> bool
-    requires { ⌜ Holds (now nodes) count × (slot < count) ⌝ }
-    ensures { λ r. ⌜ r ≡ equals (now (nodes .entry)) (record { start = start; end = end }) slot ⌝ }
+fn is_equal(nodes: &[u64], narrow: bool, count: u64, start: u64, end: u64, slot: u64) -> bool
+    requires { ⌜ HoldsIn narrow (now nodes) count × (slot < count) ⌝ }
+    ensures { λ r. ⌜ r ≡ equals (asEight narrow (now (nodes .entry))) (record { start = start; end = end }) slot ⌝ }
 {
-    matches(nodes, count, Query::Exact(Interval { start, end }), slot)
+    matches(
+        nodes,
+        narrow,
+        count,
+        Query::Exact(Interval { start, end }),
+        slot,
+    )
 }
 
 // Writes a slot to a place of the output, if the output has that place.
@@ -144,6 +173,7 @@ fn note(out: &mut [u64], hits: u64, slot: u64, hit: bool) -> u64
 // numbers so far. Returns the numbers after it.
 fn overlap_left(
     nodes: &[u64],
+    narrow: bool,
     count: u64,
     low: u64,
     high: u64,
@@ -153,13 +183,24 @@ fn overlap_left(
     hits: u64,
     entered: u64,
 ) -> Tally
-    requires { ⌜ Holds (now nodes) count × (slot < count) × Room hits entered height ⌝ }
-    ensures { λ r. ⌜ Left (now (nodes .entry)) (between (now (nodes .entry)) count low high) height slot
+    requires { ⌜ HoldsIn narrow (now nodes) count × (slot < count) × Room hits entered height ⌝ }
+    ensures { λ r. ⌜ Left (asEight narrow (now (nodes .entry))) (between (asEight narrow (now (nodes .entry))) count low high) height slot
         hits entered r (now (out .entry)) (now (out .exit)) ⌝ }
 {
-    if is_near(nodes, count, low, high, slot, true) {
-        let child = child_of(nodes, slot, true);
-        overlap_down(nodes, count, low, high, child, height, out, hits, entered)
+    if is_near(nodes, narrow, count, low, high, slot, true) {
+        let child = child_of(nodes, narrow, slot, true);
+        overlap_down(
+            nodes,
+            narrow,
+            count,
+            low,
+            high,
+            child,
+            height,
+            out,
+            hits,
+            entered,
+        )
     } else {
         Tally { hits, entered }
     }
@@ -169,6 +210,7 @@ fn overlap_left(
 // the slot itself, then those on its right. The right child is the next turn of the loop.
 fn overlap_down(
     nodes: &[u64],
+    narrow: bool,
     count: u64,
     low: u64,
     high: u64,
@@ -178,8 +220,8 @@ fn overlap_down(
     hits: u64,
     entered: u64,
 ) -> Tally
-    requires { ⌜ Holds (now nodes) count × (slot < count) × Room hits entered height ⌝ }
-    ensures { λ r. ⌜ Down (now (nodes .entry)) (between (now (nodes .entry)) count low high) height slot
+    requires { ⌜ HoldsIn narrow (now nodes) count × (slot < count) × Room hits entered height ⌝ }
+    ensures { λ r. ⌜ Down (asEight narrow (now (nodes .entry))) (between (asEight narrow (now (nodes .entry))) count low high) height slot
         hits entered r (now (out .entry)) (now (out .exit)) ⌝ }
 {
     let mut at = slot;
@@ -188,11 +230,22 @@ fn overlap_down(
     let mut seen = entered;
     while left > 0 {
         left -= 1;
-        let part = overlap_left(nodes, count, low, high, at, left, out, found, seen + 1);
-        found = note(out, part.hits, at, is_within(nodes, low, high, at));
+        let part = overlap_left(
+            nodes,
+            narrow,
+            count,
+            low,
+            high,
+            at,
+            left,
+            out,
+            found,
+            seen + 1,
+        );
+        found = note(out, part.hits, at, is_within(nodes, narrow, low, high, at));
         seen = part.entered;
-        if is_near(nodes, count, low, high, at, false) {
-            at = child_of(nodes, at, false);
+        if is_near(nodes, narrow, count, low, high, at, false) {
+            at = child_of(nodes, narrow, at, false);
         } else {
             return Tally {
                 hits: found,
@@ -209,6 +262,7 @@ fn overlap_down(
 // `overlap_left` and `overlap_down` for an exact lookup.
 fn exact_left(
     nodes: &[u64],
+    narrow: bool,
     count: u64,
     start: u64,
     end: u64,
@@ -218,13 +272,24 @@ fn exact_left(
     hits: u64,
     entered: u64,
 ) -> Tally
-    requires { ⌜ Holds (now nodes) count × (slot < count) × Room hits entered height ⌝ }
-    ensures { λ r. ⌜ Left (now (nodes .entry)) (exact (now (nodes .entry)) count (record { start = start; end = end })) height slot
+    requires { ⌜ HoldsIn narrow (now nodes) count × (slot < count) × Room hits entered height ⌝ }
+    ensures { λ r. ⌜ Left (asEight narrow (now (nodes .entry))) (exact (asEight narrow (now (nodes .entry))) count (record { start = start; end = end })) height slot
         hits entered r (now (out .entry)) (now (out .exit)) ⌝ }
 {
-    if is_toward(nodes, count, start, end, slot, true) {
-        let child = child_of(nodes, slot, true);
-        exact_down(nodes, count, start, end, child, height, out, hits, entered)
+    if is_toward(nodes, narrow, count, start, end, slot, true) {
+        let child = child_of(nodes, narrow, slot, true);
+        exact_down(
+            nodes,
+            narrow,
+            count,
+            start,
+            end,
+            child,
+            height,
+            out,
+            hits,
+            entered,
+        )
     } else {
         Tally { hits, entered }
     }
@@ -232,6 +297,7 @@ fn exact_left(
 
 fn exact_down(
     nodes: &[u64],
+    narrow: bool,
     count: u64,
     start: u64,
     end: u64,
@@ -241,8 +307,8 @@ fn exact_down(
     hits: u64,
     entered: u64,
 ) -> Tally
-    requires { ⌜ Holds (now nodes) count × (slot < count) × Room hits entered height ⌝ }
-    ensures { λ r. ⌜ Down (now (nodes .entry)) (exact (now (nodes .entry)) count (record { start = start; end = end })) height slot
+    requires { ⌜ HoldsIn narrow (now nodes) count × (slot < count) × Room hits entered height ⌝ }
+    ensures { λ r. ⌜ Down (asEight narrow (now (nodes .entry))) (exact (asEight narrow (now (nodes .entry))) count (record { start = start; end = end })) height slot
         hits entered r (now (out .entry)) (now (out .exit)) ⌝ }
 {
     let mut at = slot;
@@ -251,11 +317,27 @@ fn exact_down(
     let mut seen = entered;
     while left > 0 {
         left -= 1;
-        let part = exact_left(nodes, count, start, end, at, left, out, found, seen + 1);
-        found = note(out, part.hits, at, is_equal(nodes, count, start, end, at));
+        let part = exact_left(
+            nodes,
+            narrow,
+            count,
+            start,
+            end,
+            at,
+            left,
+            out,
+            found,
+            seen + 1,
+        );
+        found = note(
+            out,
+            part.hits,
+            at,
+            is_equal(nodes, narrow, count, start, end, at),
+        );
         seen = part.entered;
-        if is_toward(nodes, count, start, end, at, false) {
-            at = child_of(nodes, at, false);
+        if is_toward(nodes, narrow, count, start, end, at, false) {
+            at = child_of(nodes, narrow, at, false);
         } else {
             return Tally {
                 hits: found,
@@ -271,9 +353,16 @@ fn exact_down(
 
 // Finds the hits of a range. If no number goes past its lower bound, or its upper bound admits
 // none, nothing below the root is entered.
-fn find_overlap(nodes: &[u64], count: u64, root: u64, range: Span, out: &mut [u64]) -> Tally
-    requires { ⌜ Holds (now nodes) count ⌝ }
-    ensures { λ r. ⌜ Found (now (nodes .entry)) count (Overlap range) root r (now (out .entry)) (now (out .exit)) ⌝ }
+fn find_overlap(
+    nodes: &[u64],
+    narrow: bool,
+    count: u64,
+    root: u64,
+    range: Span,
+    out: &mut [u64],
+) -> Tally
+    requires { ⌜ HoldsIn narrow (now nodes) count ⌝ }
+    ensures { λ r. ⌜ Found (asEight narrow (now (nodes .entry))) count (Overlap range) root r (now (out .entry)) (now (out .exit)) ⌝ }
 {
     let Link::Slot(top) = Link::new(root, count) else {
         return Tally {
@@ -291,6 +380,7 @@ fn find_overlap(nodes: &[u64], count: u64, root: u64, range: Span, out: &mut [u6
     }
     overlap_down(
         nodes,
+        narrow,
         count,
         least_end(lo),
         last_start(hi),
@@ -303,29 +393,50 @@ fn find_overlap(nodes: &[u64], count: u64, root: u64, range: Span, out: &mut [u6
 }
 
 // Finds the hits of an interval, from the highest equal node down.
-fn find_exact(nodes: &[u64], count: u64, root: u64, x: Interval, out: &mut [u64]) -> Tally
-    requires { ⌜ Holds (now nodes) count ⌝ }
-    ensures { λ r. ⌜ Found (now (nodes .entry)) count (Exact x) root r (now (out .entry)) (now (out .exit)) ⌝ }
+fn find_exact(
+    nodes: &[u64],
+    narrow: bool,
+    count: u64,
+    root: u64,
+    x: Interval,
+    out: &mut [u64],
+) -> Tally
+    requires { ⌜ HoldsIn narrow (now nodes) count ⌝ }
+    ensures { λ r. ⌜ Found (asEight narrow (now (nodes .entry))) count (Exact x) root r (now (out .entry)) (now (out .exit)) ⌝ }
 {
-    let Link::Slot(top) = Link::new(find_index(nodes, count, x, root), count) else {
+    let Link::Slot(top) = Link::new(find_index(nodes, narrow, count, x, root), count) else {
         return Tally {
             hits: 0,
             entered: 0,
         };
     };
-    exact_down(nodes, count, x.start, x.end, top, 32, out, 0, 0)
+    exact_down(nodes, narrow, count, x.start, x.end, top, 32, out, 0, 0)
 }
 
 // Writes the slots of the entries that the query asks for, in tree order, as many as the output has
 // places for. Returns how many there are, and how many nodes were entered.
-pub fn find_all(nodes: &[u64], count: u64, root: u64, query: Query, out: &mut [u64]) -> Tally
-    requires { ⌜ Holds (now nodes) count ⌝ }
-    ensures { λ r. ⌜ (r ≡ tally (now (nodes .entry)) count query root)
-        × (now (out .exit) ≡ fitted (fastHits (now (nodes .entry)) count query root) (now (out .entry))) ⌝ }
+pub fn find_all(
+    nodes: &[u64],
+    narrow: bool,
+    count: u64,
+    root: u64,
+    query: Query,
+    out: &mut [u64],
+) -> Tally
+    requires { ⌜ HoldsIn narrow (now nodes) count ⌝ }
+    ensures { λ r. ⌜ (r ≡ tally (asEight narrow (now (nodes .entry))) count query root)
+        × (now (out .exit) ≡ fitted (fastHits (asEight narrow (now (nodes .entry))) count query root) (now (out .entry))) ⌝ }
 {
     match query {
-        Query::Overlap(range) => find_overlap(nodes, count, root, range, out),
-        Query::Ruled(rule, range) => find_overlap(nodes, count, root, by_rule(rule, range), out),
-        Query::Exact(x) => find_exact(nodes, count, root, x, out),
+        Query::Overlap(range) => find_overlap(nodes, narrow, count, root, range, out),
+        Query::Ruled(rule, range) => find_overlap(
+            nodes,
+            narrow,
+            count,
+            root,
+            by_rule(rule, range),
+            out,
+        ),
+        Query::Exact(x) => find_exact(nodes, narrow, count, root, x, out),
     }
 }

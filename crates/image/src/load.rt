@@ -12,15 +12,16 @@ use words::node::update_subtree_interval;
 ghost use mathlib.Core.Path.{_≡_};
 ghost use mathlib.Core.Bool.{true};
 ghost use Prim.Native.Nat.{_≤_, _<_};
-ghost use Rattle.words.specs.Nodes.{putNode, Holds, HoldsBits};
+ghost use Rattle.words.specs.Layouts.{asEight, HoldsIn};
+ghost use Rattle.words.specs.Nodes.{putNode, HoldsBits};
 ghost use Rattle.image_rule.specs.Judge.{worked};
 ghost use Rattle.image_rule.specs.Layout.{Bodies, countIn, rootIn, laidOut};
 ghost use Rattle.image_rule.specs.Stored.{intervalIn, entryIn, linkIn, unpacked, painted, loadedWords, loadedColours};
 
 // Writes all words of one slot. Its own interval stands for its hull until that is worked out.
-fn unpack_slot(nodes: &mut [u64], image: &[u8], count: u64, s: u64)
-    requires { ⌜ Holds (now nodes) count × Bodies (now image) count × (s < count) ⌝ }
-    ensures { λ _. ⌜ now (nodes .exit) ≡ putNode (now (nodes .entry)) s (entryIn (now (image .entry)) s) (intervalIn (now (image .entry)) s) (linkIn (now (image .entry)) count s 0) (linkIn (now (image .entry)) count s 1) (linkIn (now (image .entry)) count s 2) ⌝ }
+fn unpack_slot(nodes: &mut [u64], narrow: bool, image: &[u8], count: u64, s: u64)
+    requires { ⌜ HoldsIn narrow (now nodes) count × Bodies (now image) count × (s < count) ⌝ }
+    ensures { λ _. ⌜ asEight narrow (now (nodes .exit)) ≡ putNode (asEight narrow (now (nodes .entry))) s (entryIn (now (image .entry)) s) (intervalIn (now (image .entry)) s) (linkIn (now (image .entry)) count s 0) (linkIn (now (image .entry)) count s 1) (linkIn (now (image .entry)) count s 2) ⌝ }
 {
     let e = entry_in(image, count, s);
     let own = Interval {
@@ -30,26 +31,26 @@ fn unpack_slot(nodes: &mut [u64], image: &[u8], count: u64, s: u64)
     let left = link_in(image, count, s, 0);
     let right = link_in(image, count, s, 1);
     let up = link_in(image, count, s, 2);
-    put_node(nodes, s, e, own, left, right, up);
+    put_node(nodes, narrow, s, e, own, left, right, up);
 }
 
 // Writes the words of all slots.
-fn unpack(nodes: &mut [u64], image: &[u8], count: u64)
-    requires { ⌜ Holds (now nodes) count × Bodies (now image) count ⌝ }
-    ensures { λ _. ⌜ now (nodes .exit) ≡ unpacked (now (image .entry)) count count (now (nodes .entry)) ⌝ }
+fn unpack(nodes: &mut [u64], narrow: bool, image: &[u8], count: u64)
+    requires { ⌜ HoldsIn narrow (now nodes) count × Bodies (now image) count ⌝ }
+    ensures { λ _. ⌜ asEight narrow (now (nodes .exit)) ≡ unpacked (now (image .entry)) count count (asEight narrow (now (nodes .entry))) ⌝ }
 {
     let mut s: u64 = 0;
     while s < count {
-        unpack_slot(nodes, image, count, s);
+        unpack_slot(nodes, narrow, image, count, s);
         s += 1;
     }
 }
 
 // Works out the hulls below a link and writes them, children first. In a store that was judged each
 // slot is entered once.
-fn work(nodes: &mut [u64], count: u64, link: u64, height: u64)
-    requires { ⌜ Holds (now nodes) count ⌝ }
-    ensures { λ _. ⌜ now (nodes .exit) ≡ worked count height (now (nodes .entry)) link ⌝ }
+fn work(nodes: &mut [u64], narrow: bool, count: u64, link: u64, height: u64)
+    requires { ⌜ HoldsIn narrow (now nodes) count ⌝ }
+    ensures { λ _. ⌜ asEight narrow (now (nodes .exit)) ≡ worked count height (asEight narrow (now (nodes .entry))) link ⌝ }
 {
     if height == 0 {
         return;
@@ -57,11 +58,11 @@ fn work(nodes: &mut [u64], count: u64, link: u64, height: u64)
     if count <= link {
         return;
     }
-    let left = child_of(nodes, link, true);
-    let right = child_of(nodes, link, false);
-    work(nodes, count, left, height - 1);
-    work(nodes, count, right, height - 1);
-    update_subtree_interval(nodes, count, link);
+    let left = child_of(nodes, narrow, link, true);
+    let right = child_of(nodes, narrow, link, false);
+    work(nodes, narrow, count, left, height - 1);
+    work(nodes, narrow, count, right, height - 1);
+    update_subtree_interval(nodes, narrow, count, link);
 }
 
 // Writes the colour bits of all slots, and no other bit.
@@ -79,13 +80,13 @@ fn paint(colours: &mut [u8], image: &[u8], count: u64)
 
 // Writes the map of an image to the words and the colours. Words and bits from the count up stay
 // unchanged.
-pub fn load(nodes: &mut [u64], colours: &mut [u8], image: &[u8])
-    requires { ⌜ (laidOut (now image) ≡ true) × (countIn (now image) ≤ 65535) × Holds (now nodes) (countIn (now image)) × HoldsBits (now colours) (countIn (now image)) ⌝ }
-    ensures { λ _. ⌜ (now (nodes .exit) ≡ loadedWords (now (image .entry)) (countIn (now (image .entry))) (rootIn (now (image .entry))) (now (nodes .entry))) × (now (colours .exit) ≡ loadedColours (now (image .entry)) (countIn (now (image .entry))) (now (colours .entry))) ⌝ }
+pub fn load(nodes: &mut [u64], narrow: bool, colours: &mut [u8], image: &[u8])
+    requires { ⌜ (laidOut (now image) ≡ true) × (countIn (now image) ≤ 65535) × HoldsIn narrow (now nodes) (countIn (now image)) × HoldsBits (now colours) (countIn (now image)) ⌝ }
+    ensures { λ _. ⌜ (asEight narrow (now (nodes .exit)) ≡ loadedWords (now (image .entry)) (countIn (now (image .entry))) (rootIn (now (image .entry))) (asEight narrow (now (nodes .entry)))) × (now (colours .exit) ≡ loadedColours (now (image .entry)) (countIn (now (image .entry))) (now (colours .entry))) ⌝ }
 {
     let count = count_in(image);
     let root = root_in(image);
-    unpack(nodes, image, count);
-    work(nodes, count, root, 33);
+    unpack(nodes, narrow, image, count);
+    work(nodes, narrow, count, root, 33);
     paint(colours, image, count);
 }

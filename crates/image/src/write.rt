@@ -16,7 +16,8 @@ ghost use Prim.Native.Nat.{_+_, _*_, _/_, _%_, _^_, _≤_, _<_};
 ghost use lib.Dec.{eqb};
 ghost use lib.ListN.{length, take, getD};
 ghost use lib.Seq.{sets};
-ghost use Rattle.words.specs.Nodes.{Holds, HoldsBits};
+ghost use Rattle.words.specs.Layouts.{asEight, HoldsIn};
+ghost use Rattle.words.specs.Nodes.{HoldsBits};
 ghost use Rattle.bitvec.specs.Calls.{bytesFor};
 ghost use Rattle.image_rule.specs.Layout.{linksAt, coloursAt, imageLength};
 ghost use Rattle.image_rule.specs.Written.{fields, header, entries, links, shades, imageOf};
@@ -64,28 +65,28 @@ fn put_entry(out: &mut [u8], at: usize, e: Entry)
 }
 
 // Writes the entries of all slots.
-fn put_entries(nodes: &[u64], count: u64, out: &mut [u8])
-    requires { ⌜ (count ≤ 65535) × Holds (now nodes) count × (linksAt count ≤ length (now out)) ⌝ }
-    ensures { λ _. ⌜ now (out .exit) ≡ sets (now (out .entry)) 44 (entries (now (nodes .entry)) count) ⌝ }
+fn put_entries(nodes: &[u64], narrow: bool, count: u64, out: &mut [u8])
+    requires { ⌜ (count ≤ 65535) × HoldsIn narrow (now nodes) count × (linksAt count ≤ length (now out)) ⌝ }
+    ensures { λ _. ⌜ now (out .exit) ≡ sets (now (out .entry)) 44 (entries (asEight narrow (now (nodes .entry))) count) ⌝ }
 {
     let mut s: u64 = 0;
     while s < count {
-        let e = entry_of(nodes, s);
+        let e = entry_of(nodes, narrow, s);
         put_entry(out, (44 + s * 24) as usize, e);
         s += 1;
     }
 }
 
 // Writes the links of all slots.
-fn put_links(nodes: &[u64], count: u64, out: &mut [u8])
-    requires { ⌜ (count ≤ 65535) × Holds (now nodes) count × (coloursAt count ≤ length (now out)) ⌝ }
-    ensures { λ _. ⌜ now (out .exit) ≡ sets (now (out .entry)) (linksAt count) (links (now (nodes .entry)) count) ⌝ }
+fn put_links(nodes: &[u64], narrow: bool, count: u64, out: &mut [u8])
+    requires { ⌜ (count ≤ 65535) × HoldsIn narrow (now nodes) count × (coloursAt count ≤ length (now out)) ⌝ }
+    ensures { λ _. ⌜ now (out .exit) ≡ sets (now (out .entry)) (linksAt count) (links (asEight narrow (now (nodes .entry))) count) ⌝ }
 {
     let mut s: u64 = 0;
     while s < count {
-        let left = child_of(nodes, s, true);
-        let right = child_of(nodes, s, false);
-        let up = parent_of(nodes, s);
+        let left = child_of(nodes, narrow, s, true);
+        let right = child_of(nodes, narrow, s, false);
+        let up = parent_of(nodes, narrow, s);
         put_three(out, (44 + count * 24 + s * 12) as usize, left, right, up);
         s += 1;
     }
@@ -126,12 +127,12 @@ fn put_colours(colours: &[u8], count: u64, out: &mut [u8])
 }
 
 // Writes the image of a map. Bytes after the image stay unchanged.
-pub fn write(nodes: &[u64], colours: &[u8], count: u64, root: u64, out: &mut [u8])
-    requires { ⌜ (count ≤ 65535) × Holds (now nodes) count × HoldsBits (now colours) count × (imageLength count ≤ length (now out)) ⌝ }
-    ensures { λ _. ⌜ now (out .exit) ≡ sets (now (out .entry)) 0 (imageOf count root (now (nodes .entry)) (now (colours .entry))) ⌝ }
+pub fn write(nodes: &[u64], narrow: bool, colours: &[u8], count: u64, root: u64, out: &mut [u8])
+    requires { ⌜ (count ≤ 65535) × HoldsIn narrow (now nodes) count × HoldsBits (now colours) count × (imageLength count ≤ length (now out)) ⌝ }
+    ensures { λ _. ⌜ now (out .exit) ≡ sets (now (out .entry)) 0 (imageOf count root (asEight narrow (now (nodes .entry))) (now (colours .entry))) ⌝ }
 {
     put_header(out, count, root);
-    put_entries(nodes, count, out);
-    put_links(nodes, count, out);
+    put_entries(nodes, narrow, count, out);
+    put_links(nodes, narrow, count, out);
     put_colours(colours, count, out);
 }

@@ -15,11 +15,11 @@ use words::node::start_of;
 ghost use mathlib.Core.Path.{_≡_};
 ghost use mathlib.Core.Bool.{true, false};
 ghost use Prim.Native.Nat.{_<_};
+ghost use Rattle.words.specs.Layouts.{asEight, HoldsIn, HasIn};
 ghost use Rattle.iter.specs.Overlap.{shouldGoLeft, shouldGoRight, shouldGo, meets};
 ghost use Rattle.iter.specs.Exact.{shouldGoExact, equals, findFrom};
 ghost use Rattle.iter.specs.Limits.{spanOf, entriesOf, testsOf};
 ghost use Rattle.iter.specs.Queries.{rules};
-ghost use Rattle.words.specs.Nodes.{Has, Holds};
 
 // What is looked for: the entries that intersect a range by rule 1, those that intersect it by the
 // rule of a number (ranges.rt), or those equal to an interval.
@@ -48,92 +48,119 @@ impl Tests {
 }
 
 // Whether the walk goes left: an entry there may end at the lower bound or past it.
-fn should_go_left(nodes: &[u64], count: u64, index: u64, limits: Limits) -> bool
-    requires { ⌜ Holds (now nodes) count × (index < count) ⌝ }
-    ensures { λ r. ⌜ r ≡ shouldGoLeft (now (nodes .entry)) count (spanOf limits .lo) index ⌝ }
+fn should_go_left(nodes: &[u64], narrow: bool, count: u64, index: u64, limits: Limits) -> bool
+    requires { ⌜ HoldsIn narrow (now nodes) count × (index < count) ⌝ }
+    ensures { λ r. ⌜ r ≡ shouldGoLeft (asEight narrow (now (nodes .entry))) count (spanOf limits .lo) index ⌝ }
 {
-    let Link::Slot(left) = Link::new(child_of(nodes, index, true), count) else {
+    let Link::Slot(left) = Link::new(child_of(nodes, narrow, index, true), count) else {
         return false;
     };
-    limits.reached_by(hull_end_of(nodes, left))
+    limits.reached_by(hull_end_of(nodes, narrow, left))
 }
 
 // Whether the walk goes right: the upper bound admits the least start there.
-fn should_go_right(nodes: &[u64], count: u64, index: u64, limits: Limits) -> bool
-    requires { ⌜ Holds (now nodes) count × (index < count) ⌝ }
-    ensures { λ r. ⌜ r ≡ shouldGoRight (now (nodes .entry)) count (spanOf limits .hi) index ⌝ }
+fn should_go_right(nodes: &[u64], narrow: bool, count: u64, index: u64, limits: Limits) -> bool
+    requires { ⌜ HoldsIn narrow (now nodes) count × (index < count) ⌝ }
+    ensures { λ r. ⌜ r ≡ shouldGoRight (asEight narrow (now (nodes .entry))) count (spanOf limits .hi) index ⌝ }
 {
-    let Link::Slot(right) = Link::new(child_of(nodes, index, false), count) else {
+    let Link::Slot(right) = Link::new(child_of(nodes, narrow, index, false), count) else {
         return false;
     };
-    limits.admits_start(hull_start_of(nodes, right))
+    limits.admits_start(hull_start_of(nodes, narrow, right))
 }
 
-fn should_go_left_exact(nodes: &[u64], count: u64, index: u64, query: Interval) -> bool
-    requires { ⌜ Holds (now nodes) count × (index < count) ⌝ }
-    ensures { λ r. ⌜ r ≡ shouldGoExact (now (nodes .entry)) count query true index ⌝ }
+fn should_go_left_exact(
+    nodes: &[u64],
+    narrow: bool,
+    count: u64,
+    index: u64,
+    query: Interval,
+) -> bool
+    requires { ⌜ HoldsIn narrow (now nodes) count × (index < count) ⌝ }
+    ensures { λ r. ⌜ r ≡ shouldGoExact (asEight narrow (now (nodes .entry))) count query true index ⌝ }
 {
-    let Link::Slot(left) = Link::new(child_of(nodes, index, true), count) else {
+    let Link::Slot(left) = Link::new(child_of(nodes, narrow, index, true), count) else {
         return false;
     };
-    query.le(interval_of(nodes, index)) & hull_at(nodes, left).contains(query)
+    query.le(interval_of(nodes, narrow, index)) & hull_at(nodes, narrow, left).contains(query)
 }
 
-fn should_go_right_exact(nodes: &[u64], count: u64, index: u64, query: Interval) -> bool
-    requires { ⌜ Holds (now nodes) count × (index < count) ⌝ }
-    ensures { λ r. ⌜ r ≡ shouldGoExact (now (nodes .entry)) count query false index ⌝ }
+fn should_go_right_exact(
+    nodes: &[u64],
+    narrow: bool,
+    count: u64,
+    index: u64,
+    query: Interval,
+) -> bool
+    requires { ⌜ HoldsIn narrow (now nodes) count × (index < count) ⌝ }
+    ensures { λ r. ⌜ r ≡ shouldGoExact (asEight narrow (now (nodes .entry))) count query false index ⌝ }
 {
-    let Link::Slot(right) = Link::new(child_of(nodes, index, false), count) else {
+    let Link::Slot(right) = Link::new(child_of(nodes, narrow, index, false), count) else {
         return false;
     };
-    interval_of(nodes, index).le(query) & hull_at(nodes, right).contains(query)
+    interval_of(nodes, narrow, index).le(query) & hull_at(nodes, narrow, right).contains(query)
 }
 
 // Whether the walk goes to the left child of the slot `index`, or to the right one if `left_side`
 // is false.
-pub fn goes_overlap(nodes: &[u64], count: u64, limits: Limits, index: u64, left_side: bool) -> bool
-    requires { ⌜ Holds (now nodes) count × (index < count) ⌝ }
-    ensures { λ r. ⌜ r ≡ shouldGo (now (nodes .entry)) count (spanOf limits) «left_side» index ⌝ }
+pub fn goes_overlap(
+    nodes: &[u64],
+    narrow: bool,
+    count: u64,
+    limits: Limits,
+    index: u64,
+    left_side: bool,
+) -> bool
+    requires { ⌜ HoldsIn narrow (now nodes) count × (index < count) ⌝ }
+    ensures { λ r. ⌜ r ≡ shouldGo (asEight narrow (now (nodes .entry))) count (spanOf limits) «left_side» index ⌝ }
 {
     if left_side {
-        should_go_left(nodes, count, index, limits)
+        should_go_left(nodes, narrow, count, index, limits)
     } else {
-        should_go_right(nodes, count, index, limits)
+        should_go_right(nodes, narrow, count, index, limits)
     }
 }
 
-pub fn goes_exact(nodes: &[u64], count: u64, query: Interval, index: u64, left_side: bool) -> bool
-    requires { ⌜ Holds (now nodes) count × (index < count) ⌝ }
-    ensures { λ r. ⌜ r ≡ shouldGoExact (now (nodes .entry)) count query «left_side» index ⌝ }
+pub fn goes_exact(
+    nodes: &[u64],
+    narrow: bool,
+    count: u64,
+    query: Interval,
+    index: u64,
+    left_side: bool,
+) -> bool
+    requires { ⌜ HoldsIn narrow (now nodes) count × (index < count) ⌝ }
+    ensures { λ r. ⌜ r ≡ shouldGoExact (asEight narrow (now (nodes .entry))) count query «left_side» index ⌝ }
 {
     if left_side {
-        should_go_left_exact(nodes, count, index, query)
+        should_go_left_exact(nodes, narrow, count, index, query)
     } else {
-        should_go_right_exact(nodes, count, index, query)
+        should_go_right_exact(nodes, narrow, count, index, query)
     }
 }
 
 // Whether the entry of the slot `index` is looked for.
-pub fn is_within(nodes: &[u64], limits: Limits, index: u64) -> bool
-    requires { ⌜ Has (now nodes) index ⌝ }
-    ensures { λ r. ⌜ r ≡ meets (now (nodes .entry)) (entriesOf limits) index ⌝ }
+pub fn is_within(nodes: &[u64], narrow: bool, limits: Limits, index: u64) -> bool
+    requires { ⌜ HasIn narrow (now nodes) index ⌝ }
+    ensures { λ r. ⌜ r ≡ meets (asEight narrow (now (nodes .entry))) (entriesOf limits) index ⌝ }
 {
-    limits.passed_by(end_of(nodes, index)) & limits.admits_start(start_of(nodes, index))
+    limits.passed_by(end_of(nodes, narrow, index))
+        & limits.admits_start(start_of(nodes, narrow, index))
 }
 
-pub fn is_equal(nodes: &[u64], query: Interval, index: u64) -> bool
-    requires { ⌜ Has (now nodes) index ⌝ }
-    ensures { λ r. ⌜ r ≡ equals (now (nodes .entry)) query index ⌝ }
+pub fn is_equal(nodes: &[u64], narrow: bool, query: Interval, index: u64) -> bool
+    requires { ⌜ HasIn narrow (now nodes) index ⌝ }
+    ensures { λ r. ⌜ r ≡ equals (asEight narrow (now (nodes .entry))) query index ⌝ }
 {
-    interval_of(nodes, index).eq(query)
+    interval_of(nodes, narrow, index).eq(query)
 }
 
 // The same by a query.
-pub fn matches(nodes: &[u64], count: u64, query: Query, index: u64) -> bool
-    requires { ⌜ Holds (now nodes) count × (index < count) ⌝ }
-    ensures { λ r. ⌜ r ≡ rules (now (nodes .entry)) count query .match index ⌝ }
+pub fn matches(nodes: &[u64], narrow: bool, count: u64, query: Query, index: u64) -> bool
+    requires { ⌜ HoldsIn narrow (now nodes) count × (index < count) ⌝ }
+    ensures { λ r. ⌜ r ≡ rules (asEight narrow (now (nodes .entry))) count query .match index ⌝ }
 {
-    let own = interval_of(nodes, index);
+    let own = interval_of(nodes, narrow, index);
     match query {
         Query::Overlap(range) => own.intersects_range(range),
         Query::Ruled(rule, range) => own.intersects_range(by_rule(rule, range)),
@@ -143,9 +170,9 @@ pub fn matches(nodes: &[u64], count: u64, query: Query, index: u64) -> bool
 
 // Returns the slot where an exact lookup starts: the highest node equal to the query. Returns U, the
 // undefined link, if there is none at most 32 nodes down.
-pub fn find_index(nodes: &[u64], count: u64, query: Interval, root: u64) -> u64
-    requires { ⌜ Holds (now nodes) count ⌝ }
-    ensures { λ r. ⌜ r ≡ findFrom (now (nodes .entry)) count query root ⌝ }
+pub fn find_index(nodes: &[u64], narrow: bool, count: u64, query: Interval, root: u64) -> u64
+    requires { ⌜ HoldsIn narrow (now nodes) count ⌝ }
+    ensures { λ r. ⌜ r ≡ findFrom (asEight narrow (now (nodes .entry))) count query root ⌝ }
 {
     let mut at = root;
     let mut height: u64 = 32;
@@ -153,11 +180,11 @@ pub fn find_index(nodes: &[u64], count: u64, query: Interval, root: u64) -> u64
         if count <= at {
             return U;
         }
-        let own = interval_of(nodes, at);
+        let own = interval_of(nodes, narrow, at);
         if own.eq(query) {
             return at;
         }
-        at = child_of(nodes, at, query.le(own));
+        at = child_of(nodes, narrow, at, query.le(own));
         height -= 1;
     }
     U

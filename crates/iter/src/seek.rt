@@ -6,11 +6,11 @@ use crate::walk::Place;
 ghost use mathlib.Core.Path.{_≡_};
 ghost use Prim.Native.Nat.{_*_, _≤_};
 ghost use lib.Dec.{ltb};
+ghost use Rattle.words.specs.Layouts.{asEight, HoldsIn};
 ghost use Rattle.iter.specs.Walk.{seek, step, fuel};
 ghost use Rattle.iter.specs.Limits.{limited, tested};
 ghost use Rattle.iter.specs.Places.{Placed, Known};
 ghost use Rattle.iter.specs.Answers.{answer, isHit};
-ghost use Rattle.words.specs.Nodes.{Holds};
 
 // What a step returns: a hit with its cursor, which is also the next one, or the end. Both come
 // with the number of nodes entered in this call.
@@ -33,9 +33,16 @@ impl Step {
 
 impl Place {
     // Moves until a hit or the end. `before` is how many nodes were entered so far.
-    fn move_to_next(self, nodes: &[u64], count: u64, limits: Limits, before: u64) -> Step
-        requires { ⌜ Holds (now nodes) count × (count ≤ 65535) × Placed count (self .cursor) × Known count self × (before ≤ 1) ⌝ }
-        ensures { λ r. ⌜ (answer r ≡ seek (now (nodes .entry)) count (limited (now (nodes .entry)) count limits) (fuel count) before (self .cursor))
+    fn move_to_next(
+        self,
+        nodes: &[u64],
+        narrow: bool,
+        count: u64,
+        limits: Limits,
+        before: u64,
+    ) -> Step
+        requires { ⌜ HoldsIn narrow (now nodes) count × (count ≤ 65535) × Placed count (self .cursor) × Known count self × (before ≤ 1) ⌝ }
+        ensures { λ r. ⌜ (answer r ≡ seek (asEight narrow (now (nodes .entry))) count (limited (asEight narrow (now (nodes .entry))) count limits) (fuel count) before (self .cursor))
             × (isHit r ≡ ltb (answer r .slot) count) ⌝ }
     {
         let mut place = self;
@@ -45,8 +52,8 @@ impl Place {
             if count <= place.cursor.slot {
                 return Step::End(entered);
             }
-            let next = place.walk(nodes, count, limits);
-            if next.is_hit(nodes, count, limits) {
+            let next = place.walk(nodes, narrow, count, limits);
+            if next.is_hit(nodes, narrow, count, limits) {
                 let hit = next.cursor;
                 return Step::Hit(hit, entered);
             }
@@ -59,16 +66,16 @@ impl Place {
 }
 
 impl Cursor {
-    pub fn step(self, nodes: &[u64], count: u64, tests: Tests) -> Step
-        requires { ⌜ Holds (now nodes) count × (count ≤ 65535) × Placed count self ⌝ }
-        ensures { λ r. ⌜ (answer r ≡ step (now (nodes .entry)) count (tested (now (nodes .entry)) count tests) self)
+    pub fn step(self, nodes: &[u64], narrow: bool, count: u64, tests: Tests) -> Step
+        requires { ⌜ HoldsIn narrow (now nodes) count × (count ≤ 65535) × Placed count self ⌝ }
+        ensures { λ r. ⌜ (answer r ≡ step (asEight narrow (now (nodes .entry))) count (tested (asEight narrow (now (nodes .entry))) count tests) self)
             × (isHit r ≡ ltb (answer r .slot) count) ⌝ }
     {
         let place = self.place(count);
         let before = place.counted(count);
         match tests {
-            Tests::Within(limits) => place.move_to_next(nodes, count, limits, before),
-            Tests::Equal(x) => place.move_to_next_exact(nodes, count, x, before),
+            Tests::Within(limits) => place.move_to_next(nodes, narrow, count, limits, before),
+            Tests::Equal(x) => place.move_to_next_exact(nodes, narrow, count, x, before),
         }
     }
 }

@@ -19,7 +19,8 @@ ghost use mathlib.Core.Path.{_≡_};
 ghost use mathlib.Core.Bool.{true, false, cond, _&&_};
 ghost use Prim.Native.Nat.{_^_, _≤_, _<_};
 ghost use lib.Dec.{eqb, ltb};
-ghost use Rattle.words.specs.Nodes.{par, Has, Holds};
+ghost use Rattle.words.specs.Layouts.{asEight, HoldsIn, HasIn};
+ghost use Rattle.words.specs.Nodes.{par};
 ghost use Rattle.stack.specs.States.{wasLeft, top};
 ghost use Rattle.iter.specs.Cursors.{stackOf, upTo};
 ghost use Rattle.iter.specs.Walk.{side, mark, down, deeper, move, hits, counts};
@@ -75,14 +76,14 @@ impl Cursor {
 
     // Goes down on a side. The top level has the state `old`. There is no bit above it, so the new
     // level is in state 00 already.
-    fn down(self, nodes: &[u64], old: u64, left_side: bool) -> Place
-        requires { ⌜ Has (now nodes) (self .slot) × (1 ≤ self .levels) × (self .levels < 32) × (self .bits < 4 ^ self .levels) × (old ≡ top (stackOf self)) ⌝ }
-        ensures { λ r. ⌜ r ≡ at (down (now (nodes .entry)) «left_side» self) ⌝ }
+    fn down(self, nodes: &[u64], narrow: bool, old: u64, left_side: bool) -> Place
+        requires { ⌜ HasIn narrow (now nodes) (self .slot) × (1 ≤ self .levels) × (self .levels < 32) × (self .bits < 4 ^ self .levels) × (old ≡ top (stackOf self)) ⌝ }
+        ensures { λ r. ⌜ r ≡ at (down (asEight narrow (now (nodes .entry))) «left_side» self) ⌝ }
     {
         let levels = self.levels;
         Place {
             cursor: Cursor {
-                slot: child_of(nodes, self.slot, left_side),
+                slot: child_of(nodes, narrow, self.slot, left_side),
                 levels: levels + 1,
                 bits: change_state(self.bits, levels - 1, old, side_mark(left_side)),
             },
@@ -92,9 +93,9 @@ impl Cursor {
 
     // Goes up. The top level has the state `old`. From the last level the walk goes to U, the
     // undefined link.
-    pub(crate) fn up(self, nodes: &[u64], old: u64) -> Place
-        requires { ⌜ Has (now nodes) (self .slot) × (1 ≤ self .levels) × (self .levels ≤ 32) × (old ≡ top (stackOf self)) ⌝ }
-        ensures { λ r. ⌜ r ≡ at (upTo (par (now (nodes .entry)) (self .slot)) self) ⌝ }
+    pub(crate) fn up(self, nodes: &[u64], narrow: bool, old: u64) -> Place
+        requires { ⌜ HasIn narrow (now nodes) (self .slot) × (1 ≤ self .levels) × (self .levels ≤ 32) × (old ≡ top (stackOf self)) ⌝ }
+        ensures { λ r. ⌜ r ≡ at (upTo (par (asEight narrow (now (nodes .entry))) (self .slot)) self) ⌝ }
     {
         let levels = self.levels - 1;
         let bits = change_state(self.bits, levels, old, ENTERED);
@@ -110,7 +111,7 @@ impl Cursor {
         }
         Place {
             cursor: Cursor {
-                slot: parent_of(nodes, self.slot),
+                slot: parent_of(nodes, narrow, self.slot),
                 levels,
                 bits,
             },
@@ -119,59 +120,66 @@ impl Cursor {
     }
 
     // From state 00: goes left, or marks 01.
-    pub(crate) fn left_or_mark(self, nodes: &[u64], goes: bool) -> Place
-        requires { ⌜ Has (now nodes) (self .slot) × Levelled self × (0 ≡ top (stackOf self)) × (goes ≡ true → self .levels < 32) ⌝ }
-        ensures { λ r. ⌜ r ≡ cond goes (at (down (now (nodes .entry)) true self)) (at (mark wasLeft self)) ⌝ }
+    pub(crate) fn left_or_mark(self, nodes: &[u64], narrow: bool, goes: bool) -> Place
+        requires { ⌜ HasIn narrow (now nodes) (self .slot) × Levelled self × (0 ≡ top (stackOf self)) × (goes ≡ true → self .levels < 32) ⌝ }
+        ensures { λ r. ⌜ r ≡ cond goes (at (down (asEight narrow (now (nodes .entry))) true self)) (at (mark wasLeft self)) ⌝ }
     {
         if goes {
-            self.down(nodes, ENTERED, true)
+            self.down(nodes, narrow, ENTERED, true)
         } else {
             self.mark(ENTERED, WAS_LEFT)
         }
     }
 
     // From state 10: goes right, or up.
-    pub(crate) fn right_or_up(self, nodes: &[u64], goes: bool) -> Place
-        requires { ⌜ Has (now nodes) (self .slot) × Levelled self × (1 ≡ top (stackOf self)) × (goes ≡ true → self .levels < 32) ⌝ }
-        ensures { λ r. ⌜ r ≡ cond goes (at (down (now (nodes .entry)) false self))
-            (at (upTo (par (now (nodes .entry)) (self .slot)) self)) ⌝ }
+    pub(crate) fn right_or_up(self, nodes: &[u64], narrow: bool, goes: bool) -> Place
+        requires { ⌜ HasIn narrow (now nodes) (self .slot) × Levelled self × (1 ≡ top (stackOf self)) × (goes ≡ true → self .levels < 32) ⌝ }
+        ensures { λ r. ⌜ r ≡ cond goes (at (down (asEight narrow (now (nodes .entry))) false self))
+            (at (upTo (par (asEight narrow (now (nodes .entry))) (self .slot)) self)) ⌝ }
     {
         if goes {
-            self.down(nodes, RETURNED, false)
+            self.down(nodes, narrow, RETURNED, false)
         } else {
-            self.up(nodes, RETURNED)
+            self.up(nodes, narrow, RETURNED)
         }
     }
 
     // Whether the walk goes down on a side: the stack has room for one more level, and the rules
     // say so.
-    fn goes_down(self, nodes: &[u64], count: u64, limits: Limits, left_side: bool) -> bool
-        requires { ⌜ Holds (now nodes) count × (self .slot < count) ⌝ }
-        ensures { λ r. ⌜ r ≡ deeper (limited (now (nodes .entry)) count limits) «left_side» self ⌝ }
+    fn goes_down(
+        self,
+        nodes: &[u64],
+        narrow: bool,
+        count: u64,
+        limits: Limits,
+        left_side: bool,
+    ) -> bool
+        requires { ⌜ HoldsIn narrow (now nodes) count × (self .slot < count) ⌝ }
+        ensures { λ r. ⌜ r ≡ deeper (limited (asEight narrow (now (nodes .entry))) count limits) «left_side» self ⌝ }
     {
-        (self.levels < 32) & goes_overlap(nodes, count, limits, self.slot, left_side)
+        (self.levels < 32) & goes_overlap(nodes, narrow, count, limits, self.slot, left_side)
     }
 }
 
 impl Place {
     // Makes one move of an overlap lookup.
-    pub fn walk(self, nodes: &[u64], count: u64, limits: Limits) -> Place
-        requires { ⌜ Holds (now nodes) count × (self .cursor .slot < count) × Levelled (self .cursor) × (self .state ≡ top (stackOf (self .cursor))) ⌝ }
-        ensures { λ r. ⌜ r ≡ at (move (now (nodes .entry)) (limited (now (nodes .entry)) count limits) (self .cursor)) ⌝ }
+    pub fn walk(self, nodes: &[u64], narrow: bool, count: u64, limits: Limits) -> Place
+        requires { ⌜ HoldsIn narrow (now nodes) count × (self .cursor .slot < count) × Levelled (self .cursor) × (self .state ≡ top (stackOf (self .cursor))) ⌝ }
+        ensures { λ r. ⌜ r ≡ at (move (asEight narrow (now (nodes .entry))) (limited (asEight narrow (now (nodes .entry))) count limits) (self .cursor)) ⌝ }
     {
         let cursor = self.cursor;
         if self.state == ENTERED {
-            let goes = cursor.goes_down(nodes, count, limits, true);
-            return cursor.left_or_mark(nodes, goes);
+            let goes = cursor.goes_down(nodes, narrow, count, limits, true);
+            return cursor.left_or_mark(nodes, narrow, goes);
         }
         if self.state == WAS_LEFT {
             return cursor.mark(WAS_LEFT, RETURNED);
         }
         if self.state == RETURNED {
-            let goes = cursor.goes_down(nodes, count, limits, false);
-            return cursor.right_or_up(nodes, goes);
+            let goes = cursor.goes_down(nodes, narrow, count, limits, false);
+            return cursor.right_or_up(nodes, narrow, goes);
         }
-        cursor.up(nodes, self.state)
+        cursor.up(nodes, narrow, self.state)
     }
 
     // Whether a live node is on top in a state.
@@ -195,12 +203,12 @@ impl Place {
     }
 
     // Whether a live node is on top in state 10, and its entry is looked for.
-    pub fn is_hit(self, nodes: &[u64], count: u64, limits: Limits) -> bool
-        requires { ⌜ Holds (now nodes) count × Known count self ⌝ }
-        ensures { λ r. ⌜ r ≡ hits count (limited (now (nodes .entry)) count limits) (self .cursor) ⌝ }
+    pub fn is_hit(self, nodes: &[u64], narrow: bool, count: u64, limits: Limits) -> bool
+        requires { ⌜ HoldsIn narrow (now nodes) count × Known count self ⌝ }
+        ensures { λ r. ⌜ r ≡ hits count (limited (asEight narrow (now (nodes .entry))) count limits) (self .cursor) ⌝ }
     {
         if self.is_in(count, RETURNED) {
-            is_within(nodes, limits, self.cursor.slot)
+            is_within(nodes, narrow, limits, self.cursor.slot)
         } else {
             false
         }

@@ -17,12 +17,12 @@ ghost use mathlib.Core.Path.{_≡_};
 ghost use mathlib.Core.Bool.{cond, _&&_};
 ghost use Prim.Native.Nat.{_+_, _<_, _≤_};
 ghost use lib.ListN.{length, set};
+ghost use Rattle.words.specs.Layouts.{asEight, HoldsIn};
 ghost use Rattle.iter.specs.Drains.{filled};
 ghost use Rattle.iter.specs.Queries.{rules};
 ghost use Rattle.tree_edit.specs.Links.{leftmost};
 ghost use Rattle.plain_rule.specs.Tour.{ascend, nextOf, firstOf, plain};
 ghost use Rattle.plain.specs.Answers.{unbounded, asksAll, tally};
-ghost use Rattle.words.specs.Nodes.{Holds};
 
 // What a lookup that finds all hits at once returns: how many hits there are, and how many nodes it
 // entered.
@@ -61,27 +61,27 @@ fn asks_for_all(query: Query) -> bool
 }
 
 // Whether the query asks for the entry of a slot. `all` is whether it asks for every entry.
-fn is_hit(nodes: &[u64], count: u64, query: Query, all: bool, slot: u64) -> bool
-    requires { ⌜ Holds (now nodes) count × (slot < count) × (all ≡ asksAll query) ⌝ }
-    ensures { λ r. ⌜ r ≡ rules (now (nodes .entry)) count query .match slot ⌝ }
+fn is_hit(nodes: &[u64], narrow: bool, count: u64, query: Query, all: bool, slot: u64) -> bool
+    requires { ⌜ HoldsIn narrow (now nodes) count × (slot < count) × (all ≡ asksAll query) ⌝ }
+    ensures { λ r. ⌜ r ≡ rules (asEight narrow (now (nodes .entry))) count query .match slot ⌝ }
 {
     if all {
         true
     } else {
-        matches(nodes, count, query, slot)
+        matches(nodes, narrow, count, query, slot)
     }
 }
 
 // Returns the leftmost slot from `slot` down. `tree_links::leftmost_from` finds the same by
 // recursion. The way to every second entry leads through here, so here it is a loop.
-fn lowest_left(nodes: &[u64], count: u64, slot: u64) -> u64
-    requires { ⌜ Holds (now nodes) count × (slot < count) ⌝ }
-    ensures { λ r. ⌜ r ≡ leftmost count 32 (now (nodes .entry)) slot ⌝ }
+fn lowest_left(nodes: &[u64], narrow: bool, count: u64, slot: u64) -> u64
+    requires { ⌜ HoldsIn narrow (now nodes) count × (slot < count) ⌝ }
+    ensures { λ r. ⌜ r ≡ leftmost count 32 (asEight narrow (now (nodes .entry))) slot ⌝ }
 {
     let mut at = slot;
     let mut height: u64 = 32;
     while height > 0 {
-        let Link::Slot(left) = Link::new(child_of(nodes, at, true), count) else {
+        let Link::Slot(left) = Link::new(child_of(nodes, narrow, at, true), count) else {
             return at;
         };
         at = left;
@@ -92,17 +92,17 @@ fn lowest_left(nodes: &[u64], count: u64, slot: u64) -> u64
 
 // Returns the first slot above `slot` that has it on its left, at most 32 links up. Returns U, the
 // undefined link, if there is none.
-fn next_above(nodes: &[u64], count: u64, slot: u64) -> u64
-    requires { ⌜ Holds (now nodes) count × (slot < count) ⌝ }
-    ensures { λ r. ⌜ r ≡ ascend count 32 (now (nodes .entry)) slot ⌝ }
+fn next_above(nodes: &[u64], narrow: bool, count: u64, slot: u64) -> u64
+    requires { ⌜ HoldsIn narrow (now nodes) count × (slot < count) ⌝ }
+    ensures { λ r. ⌜ r ≡ ascend count 32 (asEight narrow (now (nodes .entry))) slot ⌝ }
 {
     let mut at = slot;
     let mut height: u64 = 32;
     while height > 0 {
-        let Link::Slot(parent) = Link::new(parent_of(nodes, at), count) else {
+        let Link::Slot(parent) = Link::new(parent_of(nodes, narrow, at), count) else {
             return U;
         };
-        if child_of(nodes, parent, true) == at {
+        if child_of(nodes, narrow, parent, true) == at {
             return parent;
         }
         at = parent;
@@ -112,25 +112,25 @@ fn next_above(nodes: &[u64], count: u64, slot: u64) -> u64
 }
 
 // Returns the slot after `slot` in tree order, or U if there is none.
-pub fn next_slot(nodes: &[u64], count: u64, slot: u64) -> u64
-    requires { ⌜ Holds (now nodes) count × (slot < count) ⌝ }
-    ensures { λ r. ⌜ r ≡ nextOf count (now (nodes .entry)) slot ⌝ }
+pub fn next_slot(nodes: &[u64], narrow: bool, count: u64, slot: u64) -> u64
+    requires { ⌜ HoldsIn narrow (now nodes) count × (slot < count) ⌝ }
+    ensures { λ r. ⌜ r ≡ nextOf count (asEight narrow (now (nodes .entry))) slot ⌝ }
 {
-    let Link::Slot(right) = Link::new(child_of(nodes, slot, false), count) else {
-        return next_above(nodes, count, slot);
+    let Link::Slot(right) = Link::new(child_of(nodes, narrow, slot, false), count) else {
+        return next_above(nodes, narrow, count, slot);
     };
-    lowest_left(nodes, count, right)
+    lowest_left(nodes, narrow, count, right)
 }
 
 // Returns the first slot in tree order, or U if there is none.
-pub fn first_slot(nodes: &[u64], count: u64, root: u64) -> u64
-    requires { ⌜ Holds (now nodes) count ⌝ }
-    ensures { λ r. ⌜ r ≡ firstOf count (now (nodes .entry)) root ⌝ }
+pub fn first_slot(nodes: &[u64], narrow: bool, count: u64, root: u64) -> u64
+    requires { ⌜ HoldsIn narrow (now nodes) count ⌝ }
+    ensures { λ r. ⌜ r ≡ firstOf count (asEight narrow (now (nodes .entry))) root ⌝ }
 {
     let Link::Slot(top) = Link::new(root, count) else {
         return U;
     };
-    leftmost_from(nodes, count, top, 32)
+    leftmost_from(nodes, narrow, count, top, 32)
 }
 
 // Writes `slot`, if it is a hit, after the `hits` written so far. Returns how many hits are written
@@ -148,13 +148,20 @@ fn note(out: &mut [u64], hits: u64, slot: u64, hit: bool) -> u64
 }
 
 // Writes the slots of all entries that the query asks for, in tree order.
-pub fn scan(nodes: &[u64], count: u64, root: u64, query: Query, out: &mut [u64]) -> Tally
-    requires { ⌜ Holds (now nodes) count × (count ≤ length (now out)) ⌝ }
-    ensures { λ r. ⌜ (r ≡ tally count (now (nodes .entry)) (rules (now (nodes .entry)) count query) root)
-        × (now (out .exit) ≡ filled (plain count (now (nodes .entry)) (rules (now (nodes .entry)) count query) root) (now (out .entry))) ⌝ }
+pub fn scan(
+    nodes: &[u64],
+    narrow: bool,
+    count: u64,
+    root: u64,
+    query: Query,
+    out: &mut [u64],
+) -> Tally
+    requires { ⌜ HoldsIn narrow (now nodes) count × (count ≤ length (now out)) ⌝ }
+    ensures { λ r. ⌜ (r ≡ tally count (asEight narrow (now (nodes .entry))) (rules (asEight narrow (now (nodes .entry))) count query) root)
+        × (now (out .exit) ≡ filled (plain count (asEight narrow (now (nodes .entry))) (rules (asEight narrow (now (nodes .entry))) count query) root) (now (out .entry))) ⌝ }
 {
     let all = asks_for_all(query);
-    let mut at = first_slot(nodes, count, root);
+    let mut at = first_slot(nodes, narrow, count, root);
     let mut hits: u64 = 0;
     let mut seen: u64 = 0;
     while seen < count {
@@ -164,8 +171,13 @@ pub fn scan(nodes: &[u64], count: u64, root: u64, query: Query, out: &mut [u64])
                 entered: seen,
             };
         };
-        hits = note(out, hits, slot, is_hit(nodes, count, query, all, slot));
-        at = next_slot(nodes, count, slot);
+        hits = note(
+            out,
+            hits,
+            slot,
+            is_hit(nodes, narrow, count, query, all, slot),
+        );
+        at = next_slot(nodes, narrow, count, slot);
         seen += 1;
     }
     Tally {

@@ -15,7 +15,8 @@ ghost use mathlib.Core.Path.{_≡_};
 ghost use mathlib.Core.Bool.{true, false, cond, not};
 ghost use Prim.Native.Nat.{_+_, _<_, _≤_};
 ghost use lib.Dec.{eqb};
-ghost use Rattle.words.specs.Nodes.{kid, HasBit, Holds, HoldsBits};
+ghost use Rattle.words.specs.Layouts.{asEight, HoldsIn};
+ghost use Rattle.words.specs.Nodes.{kid, HasBit, HoldsBits};
 ghost use Rattle.bitvec.specs.Colours.{paint};
 ghost use Rattle.tree_edit.specs.Links.{rootAfter};
 ghost use Rattle.tree_edit.specs.Store.{store};
@@ -31,18 +32,19 @@ ghost use Rattle.tree_in_rule.specs.Reach.{rotatedHulls, outerHulls, innerHulls
 // depends on it.
 fn rotate(
     nodes: &mut [u64],
+    narrow: bool,
     count: u64,
     root: u64,
     left_side: bool,
     index: u64,
     up: u64,
 ) -> Repaired
-    requires { ⌜ Holds (now nodes) count × (index < count) × (up < count) ⌝ }
-    ensures { λ r. ⌜ (r .root ≡ rootAfter count (now (nodes .entry)) root index up) × (now (nodes .exit) ≡ rotated count (now (nodes .entry)) «left_side» index up)
-        × (r .reach ≡ changes count (rotatedHulls count (now (nodes .entry)) «left_side» index up)) ⌝ }
+    requires { ⌜ HoldsIn narrow (now nodes) count × (index < count) × (up < count) ⌝ }
+    ensures { λ r. ⌜ (r .root ≡ rootAfter count (asEight narrow (now (nodes .entry))) root index up) × (asEight narrow (now (nodes .exit)) ≡ rotated count (asEight narrow (now (nodes .entry))) «left_side» index up)
+        × (r .reach ≡ changes count (rotatedHulls count (asEight narrow (now (nodes .entry))) «left_side» index up)) ⌝ }
 {
-    let top = rotate_up(nodes, count, root, left_side, index, up);
-    let changed = rework_both(nodes, count, index, up);
+    let top = rotate_up(nodes, narrow, count, root, left_side, index, up);
+    let changed = rework_both(nodes, narrow, count, index, up);
     Repaired {
         root: top,
         reach: changed,
@@ -53,6 +55,7 @@ fn rotate(
 // parent becomes black and the grandparent red. `before` hulls changed already in this round.
 fn rotate_outer(
     nodes: &mut [u64],
+    narrow: bool,
     colours: &mut [u8],
     count: u64,
     root: u64,
@@ -61,11 +64,11 @@ fn rotate_outer(
     grandparent: u64,
     before: u64,
 ) -> Next
-    requires { ⌜ Holds (now nodes) count × HoldsBits (now colours) count × (parent < count) × (grandparent < count) × (before ≤ 2) ⌝ }
-    ensures { λ r. ⌜ (next r (now (nodes .exit)) (now (colours .exit)) ≡ outer count (now (nodes .entry)) (now (colours .entry)) root «left_side» parent grandparent)
-        × (reach r ≡ before + changes count (outerHulls count (now (nodes .entry)) «left_side» parent grandparent)) ⌝ }
+    requires { ⌜ HoldsIn narrow (now nodes) count × HoldsBits (now colours) count × (parent < count) × (grandparent < count) × (before ≤ 2) ⌝ }
+    ensures { λ r. ⌜ (next r (asEight narrow (now (nodes .exit))) (now (colours .exit)) ≡ outer count (asEight narrow (now (nodes .entry))) (now (colours .entry)) root «left_side» parent grandparent)
+        × (reach r ≡ before + changes count (outerHulls count (asEight narrow (now (nodes .entry))) «left_side» parent grandparent)) ⌝ }
 {
-    let rotated = rotate(nodes, count, root, !left_side, grandparent, parent);
+    let rotated = rotate(nodes, narrow, count, root, !left_side, grandparent, parent);
     set_black(colours, parent);
     set_red(colours, grandparent);
     Next::Done {
@@ -78,6 +81,7 @@ fn rotate_outer(
 // first. The root stays unchanged, since the parent has a parent too.
 fn rotate_inner(
     nodes: &mut [u64],
+    narrow: bool,
     colours: &mut [u8],
     count: u64,
     root: u64,
@@ -86,13 +90,14 @@ fn rotate_inner(
     parent: u64,
     grandparent: u64,
 ) -> Next
-    requires { ⌜ Holds (now nodes) count × HoldsBits (now colours) count × (index < count) × (parent < count) × (grandparent < count) ⌝ }
-    ensures { λ r. ⌜ (next r (now (nodes .exit)) (now (colours .exit)) ≡ inner count (now (nodes .entry)) (now (colours .entry)) root index «left_side» parent grandparent)
-        × (reach r ≡ changes count (innerHulls count (now (nodes .entry)) index «left_side» parent grandparent)) ⌝ }
+    requires { ⌜ HoldsIn narrow (now nodes) count × HoldsBits (now colours) count × (index < count) × (parent < count) × (grandparent < count) ⌝ }
+    ensures { λ r. ⌜ (next r (asEight narrow (now (nodes .exit))) (now (colours .exit)) ≡ inner count (asEight narrow (now (nodes .entry))) (now (colours .entry)) root index «left_side» parent grandparent)
+        × (reach r ≡ changes count (innerHulls count (asEight narrow (now (nodes .entry))) index «left_side» parent grandparent)) ⌝ }
 {
-    let first = rotate(nodes, count, root, left_side, parent, index);
+    let first = rotate(nodes, narrow, count, root, left_side, parent, index);
     rotate_outer(
         nodes,
+        narrow,
         colours,
         count,
         root,
@@ -116,6 +121,7 @@ fn recolour(colours: &mut [u8], parent: u64, uncle: u64, grandparent: u64)
 // Does one round if the uncle is not red.
 fn round_rotated(
     nodes: &mut [u64],
+    narrow: bool,
     colours: &mut [u8],
     count: u64,
     root: u64,
@@ -124,18 +130,19 @@ fn round_rotated(
     parent: u64,
     grandparent: u64,
 ) -> Next
-    requires { ⌜ Holds (now nodes) count × HoldsBits (now colours) count × (index < count) × (parent < count) × (grandparent < count) ⌝ }
-    ensures { λ r. ⌜ (next r (now (nodes .exit)) (now (colours .exit))
-        ≡ cond (eqb (kid (now (nodes .entry)) (not «left_side») parent) index)
-        (inner count (now (nodes .entry)) (now (colours .entry)) root index «left_side» parent grandparent)
-        (outer count (now (nodes .entry)) (now (colours .entry)) root «left_side» parent grandparent))
-        × (reach r ≡ changes count (cond (eqb (kid (now (nodes .entry)) (not «left_side») parent) index)
-        (innerHulls count (now (nodes .entry)) index «left_side» parent grandparent)
-        (outerHulls count (now (nodes .entry)) «left_side» parent grandparent))) ⌝ }
+    requires { ⌜ HoldsIn narrow (now nodes) count × HoldsBits (now colours) count × (index < count) × (parent < count) × (grandparent < count) ⌝ }
+    ensures { λ r. ⌜ (next r (asEight narrow (now (nodes .exit))) (now (colours .exit))
+        ≡ cond (eqb (kid (asEight narrow (now (nodes .entry))) (not «left_side») parent) index)
+        (inner count (asEight narrow (now (nodes .entry))) (now (colours .entry)) root index «left_side» parent grandparent)
+        (outer count (asEight narrow (now (nodes .entry))) (now (colours .entry)) root «left_side» parent grandparent))
+        × (reach r ≡ changes count (cond (eqb (kid (asEight narrow (now (nodes .entry))) (not «left_side») parent) index)
+        (innerHulls count (asEight narrow (now (nodes .entry))) index «left_side» parent grandparent)
+        (outerHulls count (asEight narrow (now (nodes .entry))) «left_side» parent grandparent))) ⌝ }
 {
-    if child_of(nodes, parent, !left_side) == index {
+    if child_of(nodes, narrow, parent, !left_side) == index {
         return rotate_inner(
             nodes,
+            narrow,
             colours,
             count,
             root,
@@ -147,6 +154,7 @@ fn round_rotated(
     }
     rotate_outer(
         nodes,
+        narrow,
         colours,
         count,
         root,
@@ -160,6 +168,7 @@ fn round_rotated(
 // Does one round, given the grandparent and the side of it that the parent is on.
 fn round_at(
     nodes: &mut [u64],
+    narrow: bool,
     colours: &mut [u8],
     count: u64,
     root: u64,
@@ -168,14 +177,15 @@ fn round_at(
     grandparent: u64,
     left_side: bool,
 ) -> Next
-    requires { ⌜ Holds (now nodes) count × HoldsBits (now colours) count × (index < count) × (parent < count) × (grandparent < count) ⌝ }
-    ensures { λ r. ⌜ (next r (now (nodes .exit)) (now (colours .exit)) ≡ insertRoundAt count (now (nodes .entry)) (now (colours .entry)) root index parent grandparent «left_side»)
-        × (reach r ≡ changes count (insertRoundAtHulls count (now (nodes .entry)) (now (colours .entry)) index parent grandparent «left_side»)) ⌝ }
+    requires { ⌜ HoldsIn narrow (now nodes) count × HoldsBits (now colours) count × (index < count) × (parent < count) × (grandparent < count) ⌝ }
+    ensures { λ r. ⌜ (next r (asEight narrow (now (nodes .exit))) (now (colours .exit)) ≡ insertRoundAt count (asEight narrow (now (nodes .entry))) (now (colours .entry)) root index parent grandparent «left_side»)
+        × (reach r ≡ changes count (insertRoundAtHulls count (asEight narrow (now (nodes .entry))) (now (colours .entry)) index parent grandparent «left_side»)) ⌝ }
 {
-    let uncle = child_of(nodes, grandparent, !left_side);
+    let uncle = child_of(nodes, narrow, grandparent, !left_side);
     if is_black_or_nil(colours, count, uncle) {
         return round_rotated(
             nodes,
+            narrow,
             colours,
             count,
             root,
@@ -197,22 +207,24 @@ fn round_at(
 // a parent too, since the root is black.
 fn round_below(
     nodes: &mut [u64],
+    narrow: bool,
     colours: &mut [u8],
     count: u64,
     root: u64,
     index: u64,
     parent: u64,
 ) -> Next
-    requires { ⌜ Holds (now nodes) count × HoldsBits (now colours) count × (index < count) × (parent < count) ⌝ }
-    ensures { λ r. ⌜ (next r (now (nodes .exit)) (now (colours .exit)) ≡ insertRoundBelow count (now (nodes .entry)) (now (colours .entry)) root index parent)
-        × (reach r ≡ changes count (insertRoundBelowHulls count (now (nodes .entry)) (now (colours .entry)) index parent)) ⌝ }
+    requires { ⌜ HoldsIn narrow (now nodes) count × HoldsBits (now colours) count × (index < count) × (parent < count) ⌝ }
+    ensures { λ r. ⌜ (next r (asEight narrow (now (nodes .exit))) (now (colours .exit)) ≡ insertRoundBelow count (asEight narrow (now (nodes .entry))) (now (colours .entry)) root index parent)
+        × (reach r ≡ changes count (insertRoundBelowHulls count (asEight narrow (now (nodes .entry))) (now (colours .entry)) index parent)) ⌝ }
 {
-    let Link::Slot(grandparent) = Link::new(parent_of(nodes, parent), count) else {
+    let Link::Slot(grandparent) = Link::new(parent_of(nodes, narrow, parent), count) else {
         return Next::Done { root, reach: 0 };
     };
-    let left_side = child_of(nodes, grandparent, true) == parent;
+    let left_side = child_of(nodes, narrow, grandparent, true) == parent;
     round_at(
         nodes,
+        narrow,
         colours,
         count,
         root,
@@ -224,17 +236,24 @@ fn round_below(
 }
 
 // Does one round of the loop, at the red slot `index`.
-fn one_round(nodes: &mut [u64], colours: &mut [u8], count: u64, root: u64, index: u64) -> Next
-    requires { ⌜ Holds (now nodes) count × HoldsBits (now colours) count × (index < count) ⌝ }
-    ensures { λ r. ⌜ (next r (now (nodes .exit)) (now (colours .exit)) ≡ insertRound count (now (nodes .entry)) (now (colours .entry)) root index)
-        × (reach r ≡ changes count (insertRoundHulls count (now (nodes .entry)) (now (colours .entry)) index)) ⌝ }
+fn one_round(
+    nodes: &mut [u64],
+    narrow: bool,
+    colours: &mut [u8],
+    count: u64,
+    root: u64,
+    index: u64,
+) -> Next
+    requires { ⌜ HoldsIn narrow (now nodes) count × HoldsBits (now colours) count × (index < count) ⌝ }
+    ensures { λ r. ⌜ (next r (asEight narrow (now (nodes .exit))) (now (colours .exit)) ≡ insertRound count (asEight narrow (now (nodes .entry))) (now (colours .entry)) root index)
+        × (reach r ≡ changes count (insertRoundHulls count (asEight narrow (now (nodes .entry))) (now (colours .entry)) index)) ⌝ }
 {
-    let Link::Slot(parent) = Link::new(parent_of(nodes, index), count) else {
+    let Link::Slot(parent) = Link::new(parent_of(nodes, narrow, index), count) else {
         set_black(colours, index);
         return Next::Done { root, reach: 0 };
     };
     if is_red(colours, parent) {
-        return round_below(nodes, colours, count, root, index, parent);
+        return round_below(nodes, narrow, colours, count, root, index, parent);
     }
     Next::Done { root, reach: 0 }
 }
@@ -243,21 +262,22 @@ fn one_round(nodes: &mut [u64], colours: &mut [u8], count: u64, root: u64, index
 // up two levels, so in a store that passes the check 32 rounds are enough.
 pub(crate) fn insert_repair(
     nodes: &mut [u64],
+    narrow: bool,
     colours: &mut [u8],
     count: u64,
     root: u64,
     index: u64,
 ) -> Repaired
-    requires { ⌜ Holds (now nodes) count × HoldsBits (now colours) count × (index < count) ⌝ }
-    ensures { λ r. ⌜ (store (now (nodes .exit)) (now (colours .exit)) (r .root) ≡ ending (insertRepair count 32 (now (nodes .entry)) (now (colours .entry)) root index))
-        × (r .reach ≡ changes count (insertRepairHulls count 32 (now (nodes .entry)) (now (colours .entry)) root index)) ⌝ }
+    requires { ⌜ HoldsIn narrow (now nodes) count × HoldsBits (now colours) count × (index < count) ⌝ }
+    ensures { λ r. ⌜ (store (asEight narrow (now (nodes .exit))) (now (colours .exit)) (r .root) ≡ ending (insertRepair count 32 (asEight narrow (now (nodes .entry))) (now (colours .entry)) root index))
+        × (r .reach ≡ changes count (insertRepairHulls count 32 (asEight narrow (now (nodes .entry))) (now (colours .entry)) root index)) ⌝ }
 {
     let mut at = index;
     let mut top = root;
     let mut reach: u64 = 0;
     let mut rounds: u64 = 32;
     while rounds > 0 {
-        match one_round(nodes, colours, count, top, at) {
+        match one_round(nodes, narrow, colours, count, top, at) {
             Next::Done { root: r, reach: k } => {
                 return Repaired {
                     root: r,

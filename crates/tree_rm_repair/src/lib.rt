@@ -20,6 +20,7 @@ use words::node::parent_of;
 ghost use mathlib.Core.Path.{_≡_};
 ghost use mathlib.Core.Bool.{true, not};
 ghost use Prim.Native.Nat.{_+_, _<_};
+ghost use Rattle.words.specs.Layouts.{asEight, HoldsIn};
 ghost use Rattle.bitvec.specs.Colours.{red, redAt};
 ghost use Rattle.tree_edit.specs.Links.{rootAfter};
 ghost use Rattle.tree_edit.specs.Rotations.{rotate-2, rotate-4};
@@ -31,7 +32,7 @@ ghost use Rattle.tree_rm_repair.specs.Answers.{caseOf};
 ghost use Rattle.tree_links.specs.Answers.{next, reach};
 ghost use Rattle.tree_edit.specs.Reach.{changes};
 ghost use Rattle.tree_rm_rule.specs.Reach.{actHulls, roundAtHulls, roundHulls, repairHulls, restructureHulls};
-ghost use Rattle.words.specs.Nodes.{Holds, HoldsBits};
+ghost use Rattle.words.specs.Nodes.{HoldsBits};
 
 pub enum Case {
     // Node has black parent and black sibling, both nephews are black.
@@ -90,35 +91,43 @@ fn case_at(colours: &[u8], count: u64, kin: Kin) -> Case
 }
 
 // Writes the links of case two: the sibling takes the place of the parent. Returns the root.
-fn rotate_two(nodes: &mut [u64], count: u64, root: u64, kin: Kin) -> u64
-    requires { ⌜ Holds (now nodes) count × (kin .parent < count) × (kin .sibling < count) ⌝ }
-    ensures { λ r. ⌜ (r ≡ rootAfter count (now (nodes .entry)) root (kin .parent) (kin .sibling)) × (now (nodes .exit) ≡ rotate-2 count (now (nodes .entry)) (kin .left) (kin .parent) (kin .sibling)) ⌝ }
+fn rotate_two(nodes: &mut [u64], narrow: bool, count: u64, root: u64, kin: Kin) -> u64
+    requires { ⌜ HoldsIn narrow (now nodes) count × (kin .parent < count) × (kin .sibling < count) ⌝ }
+    ensures { λ r. ⌜ (r ≡ rootAfter count (asEight narrow (now (nodes .entry))) root (kin .parent) (kin .sibling)) × (asEight narrow (now (nodes .exit)) ≡ rotate-2 count (asEight narrow (now (nodes .entry))) (kin .left) (kin .parent) (kin .sibling)) ⌝ }
 {
-    let close = child_of(nodes, kin.sibling, kin.left);
-    let top = replace_children(nodes, count, root, kin.parent, kin.sibling);
-    set_child(nodes, count, kin.sibling, kin.parent, kin.left);
-    set_child(nodes, count, kin.parent, close, !kin.left);
+    let close = child_of(nodes, narrow, kin.sibling, kin.left);
+    let top = replace_children(nodes, narrow, count, root, kin.parent, kin.sibling);
+    set_child(nodes, narrow, count, kin.sibling, kin.parent, kin.left);
+    set_child(nodes, narrow, count, kin.parent, close, !kin.left);
     top
 }
 
 // Writes the links of case four: the close nephew takes the place of the sibling.
-fn rotate_four(nodes: &mut [u64], count: u64, kin: Kin)
-    requires { ⌜ Holds (now nodes) count × (kin .parent < count) × (kin .sibling < count) × (kin .close < count) ⌝ }
-    ensures { λ _. ⌜ now (nodes .exit) ≡ rotate-4 count (now (nodes .entry)) (kin .left) (kin .parent) (kin .sibling) (kin .close) ⌝ }
+fn rotate_four(nodes: &mut [u64], narrow: bool, count: u64, kin: Kin)
+    requires { ⌜ HoldsIn narrow (now nodes) count × (kin .parent < count) × (kin .sibling < count) × (kin .close < count) ⌝ }
+    ensures { λ _. ⌜ asEight narrow (now (nodes .exit)) ≡ rotate-4 count (asEight narrow (now (nodes .entry))) (kin .left) (kin .parent) (kin .sibling) (kin .close) ⌝ }
 {
-    let child = child_of(nodes, kin.close, !kin.left);
-    set_child(nodes, count, kin.sibling, child, kin.left);
-    set_child(nodes, count, kin.close, kin.sibling, !kin.left);
-    set_child(nodes, count, kin.parent, kin.close, !kin.left);
+    let child = child_of(nodes, narrow, kin.close, !kin.left);
+    set_child(nodes, narrow, count, kin.sibling, child, kin.left);
+    set_child(nodes, narrow, count, kin.close, kin.sibling, !kin.left);
+    set_child(nodes, narrow, count, kin.parent, kin.close, !kin.left);
 }
 
-fn case_two(nodes: &mut [u64], colours: &mut [u8], count: u64, root: u64, ix: u64, kin: Kin) -> Next
-    requires { ⌜ Holds (now nodes) count × HoldsBits (now colours) count × (kin .parent < count) × (kin .sibling < count) ⌝ }
-    ensures { λ r. ⌜ (next r (now (nodes .exit)) (now (colours .exit)) ≡ act count two (now (nodes .entry)) (now (colours .entry)) root ix (kin .left) (kin .parent) (kin .sibling) 0 0) × (reach r ≡ 0) ⌝ }
+fn case_two(
+    nodes: &mut [u64],
+    narrow: bool,
+    colours: &mut [u8],
+    count: u64,
+    root: u64,
+    ix: u64,
+    kin: Kin,
+) -> Next
+    requires { ⌜ HoldsIn narrow (now nodes) count × HoldsBits (now colours) count × (kin .parent < count) × (kin .sibling < count) ⌝ }
+    ensures { λ r. ⌜ (next r (asEight narrow (now (nodes .exit))) (now (colours .exit)) ≡ act count two (asEight narrow (now (nodes .entry))) (now (colours .entry)) root ix (kin .left) (kin .parent) (kin .sibling) 0 0) × (reach r ≡ 0) ⌝ }
 {
     set_red(colours, kin.parent);
     set_black(colours, kin.sibling);
-    let top = rotate_two(nodes, count, root, kin);
+    let top = rotate_two(nodes, narrow, count, root, kin);
     Next::Again {
         root: top,
         at: ix,
@@ -128,19 +137,20 @@ fn case_two(nodes: &mut [u64], colours: &mut [u8], count: u64, root: u64, ix: u6
 
 fn case_four(
     nodes: &mut [u64],
+    narrow: bool,
     colours: &mut [u8],
     count: u64,
     root: u64,
     ix: u64,
     kin: Kin,
 ) -> Next
-    requires { ⌜ Holds (now nodes) count × HoldsBits (now colours) count × (kin .parent < count) × (kin .sibling < count) × (kin .close < count) ⌝ }
-    ensures { λ r. ⌜ (next r (now (nodes .exit)) (now (colours .exit)) ≡ act count four (now (nodes .entry)) (now (colours .entry)) root ix (kin .left) (kin .parent) (kin .sibling) (kin .close) 0) × (reach r ≡ changes count (actHulls count four (now (nodes .entry)) (kin .left) (kin .parent) (kin .sibling) (kin .close))) ⌝ }
+    requires { ⌜ HoldsIn narrow (now nodes) count × HoldsBits (now colours) count × (kin .parent < count) × (kin .sibling < count) × (kin .close < count) ⌝ }
+    ensures { λ r. ⌜ (next r (asEight narrow (now (nodes .exit))) (now (colours .exit)) ≡ act count four (asEight narrow (now (nodes .entry))) (now (colours .entry)) root ix (kin .left) (kin .parent) (kin .sibling) (kin .close) 0) × (reach r ≡ changes count (actHulls count four (asEight narrow (now (nodes .entry))) (kin .left) (kin .parent) (kin .sibling) (kin .close))) ⌝ }
 {
     set_black(colours, kin.close);
     set_red(colours, kin.sibling);
-    rotate_four(nodes, count, kin);
-    let changed = rework_both(nodes, count, kin.sibling, kin.close);
+    rotate_four(nodes, narrow, count, kin);
+    let changed = rework_both(nodes, narrow, count, kin.sibling, kin.close);
     Next::Again {
         root,
         at: ix,
@@ -148,14 +158,29 @@ fn case_four(
     }
 }
 
-fn case_five(nodes: &mut [u64], colours: &mut [u8], count: u64, root: u64, kin: Kin) -> Next
-    requires { ⌜ Holds (now nodes) count × HoldsBits (now colours) count × (kin .parent < count) × (kin .sibling < count) ⌝ }
-    ensures { λ r. ⌜ (next r (now (nodes .exit)) (now (colours .exit)) ≡ act count five (now (nodes .entry)) (now (colours .entry)) root 0 (kin .left) (kin .parent) (kin .sibling) 0 (kin .distant)) × (reach r ≡ 0) ⌝ }
+fn case_five(
+    nodes: &mut [u64],
+    narrow: bool,
+    colours: &mut [u8],
+    count: u64,
+    root: u64,
+    kin: Kin,
+) -> Next
+    requires { ⌜ HoldsIn narrow (now nodes) count × HoldsBits (now colours) count × (kin .parent < count) × (kin .sibling < count) ⌝ }
+    ensures { λ r. ⌜ (next r (asEight narrow (now (nodes .exit))) (now (colours .exit)) ≡ act count five (asEight narrow (now (nodes .entry))) (now (colours .entry)) root 0 (kin .left) (kin .parent) (kin .sibling) 0 (kin .distant)) × (reach r ≡ 0) ⌝ }
 {
     copy_colour(colours, kin.parent, kin.sibling);
     set_black(colours, kin.parent);
     set_black_at(colours, count, kin.distant);
-    let top = rotate_up(nodes, count, root, kin.left, kin.parent, kin.sibling);
+    let top = rotate_up(
+        nodes,
+        narrow,
+        count,
+        root,
+        kin.left,
+        kin.parent,
+        kin.sibling,
+    );
     Next::Done {
         root: top,
         reach: 0,
@@ -165,6 +190,7 @@ fn case_five(nodes: &mut [u64], colours: &mut [u8], count: u64, root: u64, kin: 
 // Does what the case asks for, for the node ix with its relatives.
 fn act_on(
     nodes: &mut [u64],
+    narrow: bool,
     colours: &mut [u8],
     count: u64,
     root: u64,
@@ -172,9 +198,9 @@ fn act_on(
     kin: Kin,
     case: Case,
 ) -> Next
-    requires { ⌜ Holds (now nodes) count × HoldsBits (now colours) count × (kin .parent < count) × (kin .sibling < count) × (caseOf case ≡ four → kin .close < count) ⌝ }
-    ensures { λ r. ⌜ (next r (now (nodes .exit)) (now (colours .exit)) ≡ act count (caseOf case) (now (nodes .entry)) (now (colours .entry)) root ix (kin .left) (kin .parent) (kin .sibling) (kin .close) (kin .distant))
-        × (reach r ≡ changes count (actHulls count (caseOf case) (now (nodes .entry)) (kin .left) (kin .parent) (kin .sibling) (kin .close))) ⌝ }
+    requires { ⌜ HoldsIn narrow (now nodes) count × HoldsBits (now colours) count × (kin .parent < count) × (kin .sibling < count) × (caseOf case ≡ four → kin .close < count) ⌝ }
+    ensures { λ r. ⌜ (next r (asEight narrow (now (nodes .exit))) (now (colours .exit)) ≡ act count (caseOf case) (asEight narrow (now (nodes .entry))) (now (colours .entry)) root ix (kin .left) (kin .parent) (kin .sibling) (kin .close) (kin .distant))
+        × (reach r ≡ changes count (actHulls count (caseOf case) (asEight narrow (now (nodes .entry))) (kin .left) (kin .parent) (kin .sibling) (kin .close))) ⌝ }
 {
     match case {
         Case::One => {
@@ -185,14 +211,14 @@ fn act_on(
                 reach: 0,
             }
         }
-        Case::Two => case_two(nodes, colours, count, root, ix, kin),
+        Case::Two => case_two(nodes, narrow, colours, count, root, ix, kin),
         Case::Three => {
             set_black(colours, kin.parent);
             set_red(colours, kin.sibling);
             Next::Done { root, reach: 0 }
         }
-        Case::Four => case_four(nodes, colours, count, root, ix, kin),
-        Case::Five => case_five(nodes, colours, count, root, kin),
+        Case::Four => case_four(nodes, narrow, colours, count, root, ix, kin),
+        Case::Five => case_five(nodes, narrow, colours, count, root, kin),
     }
 }
 
@@ -200,6 +226,7 @@ fn act_on(
 // sibling.
 fn round_at(
     nodes: &mut [u64],
+    narrow: bool,
     colours: &mut [u8],
     count: u64,
     root: u64,
@@ -207,15 +234,15 @@ fn round_at(
     parent: u64,
     left: bool,
 ) -> Next
-    requires { ⌜ Holds (now nodes) count × HoldsBits (now colours) count × (parent < count) ⌝ }
-    ensures { λ r. ⌜ (next r (now (nodes .exit)) (now (colours .exit)) ≡ roundAt count (now (nodes .entry)) (now (colours .entry)) root ix parent left)
-        × (reach r ≡ changes count (roundAtHulls count (now (nodes .entry)) (now (colours .entry)) parent left)) ⌝ }
+    requires { ⌜ HoldsIn narrow (now nodes) count × HoldsBits (now colours) count × (parent < count) ⌝ }
+    ensures { λ r. ⌜ (next r (asEight narrow (now (nodes .exit))) (now (colours .exit)) ≡ roundAt count (asEight narrow (now (nodes .entry))) (now (colours .entry)) root ix parent left)
+        × (reach r ≡ changes count (roundAtHulls count (asEight narrow (now (nodes .entry))) (now (colours .entry)) parent left)) ⌝ }
 {
-    let Link::Slot(sibling) = Link::new(child_of(nodes, parent, !left), count) else {
+    let Link::Slot(sibling) = Link::new(child_of(nodes, narrow, parent, !left), count) else {
         return Next::Done { root, reach: 0 };
     };
-    let close = child_of(nodes, sibling, left);
-    let distant = child_of(nodes, sibling, !left);
+    let close = child_of(nodes, narrow, sibling, left);
+    let distant = child_of(nodes, narrow, sibling, !left);
     let kin = Kin {
         parent,
         sibling,
@@ -224,42 +251,50 @@ fn round_at(
         left,
     };
     let case = case_at(colours, count, kin);
-    act_on(nodes, colours, count, root, ix, kin, case)
+    act_on(nodes, narrow, colours, count, root, ix, kin, case)
 }
 
 // Does one round of the loop, at the node ix.
-fn one_round(nodes: &mut [u64], colours: &mut [u8], count: u64, root: u64, ix: u64) -> Next
-    requires { ⌜ Holds (now nodes) count × HoldsBits (now colours) count × (ix < count) ⌝ }
-    ensures { λ r. ⌜ (next r (now (nodes .exit)) (now (colours .exit)) ≡ round count (now (nodes .entry)) (now (colours .entry)) root ix)
-        × (reach r ≡ changes count (roundHulls count (now (nodes .entry)) (now (colours .entry)) ix)) ⌝ }
+fn one_round(
+    nodes: &mut [u64],
+    narrow: bool,
+    colours: &mut [u8],
+    count: u64,
+    root: u64,
+    ix: u64,
+) -> Next
+    requires { ⌜ HoldsIn narrow (now nodes) count × HoldsBits (now colours) count × (ix < count) ⌝ }
+    ensures { λ r. ⌜ (next r (asEight narrow (now (nodes .exit))) (now (colours .exit)) ≡ round count (asEight narrow (now (nodes .entry))) (now (colours .entry)) root ix)
+        × (reach r ≡ changes count (roundHulls count (asEight narrow (now (nodes .entry))) (now (colours .entry)) ix)) ⌝ }
 {
     // Case (terminal): Node is the root of the tree.
-    let Link::Slot(parent) = Link::new(parent_of(nodes, ix), count) else {
+    let Link::Slot(parent) = Link::new(parent_of(nodes, narrow, ix), count) else {
         return Next::Done { root, reach: 0 };
     };
-    let left = child_of(nodes, parent, true) == ix;
-    round_at(nodes, colours, count, root, ix, parent, left)
+    let left = child_of(nodes, narrow, parent, true) == ix;
+    round_at(nodes, narrow, colours, count, root, ix, parent, left)
 }
 
 // Restructures the tree before ix is removed. In a store that passes the check 36 rounds are
 // enough.
 fn restructure_rm_complex_cases(
     nodes: &mut [u64],
+    narrow: bool,
     colours: &mut [u8],
     count: u64,
     root: u64,
     ix: u64,
 ) -> Repaired
-    requires { ⌜ Holds (now nodes) count × HoldsBits (now colours) count × (ix < count) ⌝ }
-    ensures { λ r. ⌜ (store (now (nodes .exit)) (now (colours .exit)) (r .root) ≡ ending (repair count 36 (now (nodes .entry)) (now (colours .entry)) root ix))
-        × (r .reach ≡ changes count (repairHulls count 36 (now (nodes .entry)) (now (colours .entry)) root ix)) ⌝ }
+    requires { ⌜ HoldsIn narrow (now nodes) count × HoldsBits (now colours) count × (ix < count) ⌝ }
+    ensures { λ r. ⌜ (store (asEight narrow (now (nodes .exit))) (now (colours .exit)) (r .root) ≡ ending (repair count 36 (asEight narrow (now (nodes .entry))) (now (colours .entry)) root ix))
+        × (r .reach ≡ changes count (repairHulls count 36 (asEight narrow (now (nodes .entry))) (now (colours .entry)) root ix)) ⌝ }
 {
     let mut at = ix;
     let mut top = root;
     let mut reach: u64 = 0;
     let mut rounds: u64 = 36;
     while rounds > 0 {
-        match one_round(nodes, colours, count, top, at) {
+        match one_round(nodes, narrow, colours, count, top, at) {
             Next::Done { root: r, reach: k } => {
                 return Repaired {
                     root: r,
@@ -284,15 +319,16 @@ fn restructure_rm_complex_cases(
 // Restructures the tree before ix, with the child link `child`, is removed.
 pub fn restructure_rm(
     nodes: &mut [u64],
+    narrow: bool,
     colours: &mut [u8],
     count: u64,
     root: u64,
     ix: u64,
     child: u64,
 ) -> Repaired
-    requires { ⌜ Holds (now nodes) count × HoldsBits (now colours) count × (ix < count) ⌝ }
-    ensures { λ r. ⌜ (store (now (nodes .exit)) (now (colours .exit)) (r .root) ≡ restructure count (now (nodes .entry)) (now (colours .entry)) root ix child)
-        × (r .reach ≡ changes count (restructureHulls count (now (nodes .entry)) (now (colours .entry)) root ix child)) ⌝ }
+    requires { ⌜ HoldsIn narrow (now nodes) count × HoldsBits (now colours) count × (ix < count) ⌝ }
+    ensures { λ r. ⌜ (store (asEight narrow (now (nodes .exit))) (now (colours .exit)) (r .root) ≡ restructure count (asEight narrow (now (nodes .entry))) (now (colours .entry)) root ix child)
+        × (r .reach ≡ changes count (restructureHulls count (asEight narrow (now (nodes .entry))) (now (colours .entry)) root ix child)) ⌝ }
 {
     if is_red(colours, ix) {
         return Repaired { root, reach: 0 };
@@ -302,5 +338,5 @@ pub fn restructure_rm(
         set_red(colours, child);
         return Repaired { root, reach: 0 };
     }
-    restructure_rm_complex_cases(nodes, colours, count, root, ix)
+    restructure_rm_complex_cases(nodes, narrow, colours, count, root, ix)
 }

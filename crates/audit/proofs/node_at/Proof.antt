@@ -12,4 +12,4 @@ node-at-spec =
     (λ c κs. search needs)
     (λ c κs. search needs)
     (λ c κs. search needs)
-    (λ c. rw (← c .before .before .before .before .before .interval-of .ensures, ← c .before .before .before .before .hull-at .ensures, ← c .before .before .before .child-of .ensures, ← c .before .before .child-of2 .ensures, ← c .before .parent-of .ensures, ← c .is-red .ensures)))
+    (λ c. rw (← c .before .before .before .before .before .interval-of .ensures, ← c .before .before .before .before .hull-at .ensures, ← c .before .before .before .child-of .ensures .0, ← c .before .before .child-of2 .ensures .0, ← c .before .parent-of .ensures .0, ← c .is-red .ensures)))

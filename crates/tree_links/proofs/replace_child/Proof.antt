@@ -12,4 +12,4 @@ replace-child-spec =
     (λ c κs. search needs)
     (λ c. search needs)
     (λ c. let put = c .before .before in
-    rw (put .put-child .ensures, put .before .before .child-of .ensures)))
+    rw (put .put-child .ensures, put .before .before .child-of .ensures .0)))

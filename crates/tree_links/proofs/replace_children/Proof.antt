@@ -15,5 +15,5 @@ replace-children-spec =
     (λ c. search needs)
     (λ c. let put = c .before .before .before in
     let at = put .before .before .before .before in
-    let parent = at .before .before .parent-of .ensures in
+    let parent = at .before .before .parent-of .ensures .0 in
     (rw (← parent) (c .root-below .ensures), rw (← parent, ← at .replace-child-at .ensures) (put .put-parent .ensures))))

@@ -17,5 +17,5 @@ rotate-up-spec =
     let first = second .before .before .before .before in
     let swung = first .before .before .before .before in (
       swung .replace-children .ensures .0,
-      rw (← swung .before .before .child-of .ensures, ← swung .replace-children .ensures .1, ← first .set-child .ensures) (second .set-child2 .ensures),
+      rw (← swung .before .before .child-of .ensures .0, ← swung .replace-children .ensures .1, ← first .set-child .ensures) (second .set-child2 .ensures),
     )))

@@ -51,8 +51,8 @@ pub +work-spec : {M : Type 1} → statement M
     work-on _ _ _ _ _ _ _ _ _ _
     (tests .before .if1 .left)
     (tests .if2 .left)
-    (child .child-of .ensures)
-    (left .before .before .child-of2 .ensures)
+    (child .child-of .ensures .0)
+    (left .before .before .child-of2 .ensures .0)
     (left .work .ensures)
     (right .work2 .ensures)
     (fixed .update-subtree-interval .ensures))

@@ -10,4 +10,4 @@ is-on-side-spec =
     (tie.spec
     (λ c κs. search needs)
     (λ c κs. search needs)
-    (λ c. rw (← c .before .child-of .ensures, ← c .child-of2 .ensures)))
+    (λ c. rw (← c .before .child-of .ensures .0, ← c .child-of2 .ensures .0)))
