@@ -10,7 +10,8 @@ use lib.ListN.{length, drop}
 use lib.Seq.{sets, sets-eq}
 use lib.Dec.{ltb, leb}
 use borrow.Author.Tests.{eq-eqb, ne-eqb, ltb-false, lt-ltb, le-ltb}
-use Rattle.words.specs.Nodes.{capacity, Holds, HoldsBits}
+use Rattle.words.specs.Nodes.{capacity, HoldsBits}
+use Rattle.words.specs.Layouts.{asEight, spared, capacityAs}
 use Rattle.words.specs.Refusals.{refusalNumber}
 use Rattle.words.specs.declared.refusal.Refusal.{Refusal}
 use Rattle.words.proofs.Refusals.{number-pos}
@@ -29,6 +30,7 @@ use Rattle.iset.specs.Image.{openWriteImageNumber, writeDone, refusedWri
 use Rattle.iset.specs.declared.Map.{Map}
 use Rattle.iset.specs.declared.Checked.{Checked}
 use Rattle.iset.specs.declared.Checked.the-variants.{Sound, Refused}
+use Rattle.iset.proofs.Layouts.{capacity-same, held-few, held-six, held-eight}
 use Rattle.iset.proofs.Checks.{both-zero, places-held, count-zero}
 
 -- An image in an output with room: as the code writes it.
@@ -45,7 +47,11 @@ short-count m W C t e q = omega (arith, count-zero m W C (sym e ∙ ap checkNumb
 pub long-enough : {A : Type 0} (v n places : ℕ) (r x y : A) → v ≡ n → r ≡ cond (leb v places) x y → r ≡ cond (leb n places) x y
 long-enough v n places r x y e q = rw (← e) q
 
-module _ (m : Map) (W C out : List ℕ) (t : Checked) (e : checkNumber t ≡ openWriteImageNumber m W C (length out)) (q : t ≡ Sound) where
+module _ (m : Map) (narrow : Bool) (N C out : List ℕ) (t : Checked)
+    (e : checkNumber t ≡ openWriteImageNumber m (asEight narrow N) C (length out)) (q : t ≡ Sound) where
+  abbrev W : List ℕ
+  W = asEight narrow N
+
   zero-number : openWriteImageNumber m W C (length out) ≡ 0
   zero-number = sym e ∙ ap checkNumber q
 
@@ -62,8 +68,11 @@ module _ (m : Map) (W C out : List ℕ) (t : Checked) (e : checkNumber t ≡ ope
   pub write-short : m .count < 4294967296
   write-short = omega (arith, held)
 
-  pub write-words : Holds W (m .count)
-  write-words = omega (arith, held)
+  pub write-six : m .count * 6 ≤ length N
+  write-six = held-six narrow N (length C) (m .count) held
+
+  pub write-eight : m .count * 8 ≤ length N + spared narrow
+  write-eight = held-eight narrow N (length C) (m .count) held
 
   pub write-bits : HoldsBits C (m .count)
   write-bits = omega (arith, held)
@@ -96,13 +105,20 @@ image-bad I words bytes b r e f q = rw (sym e ∙ f) q
 pub image-laid : (I : List ℕ) (b : Bool) → b ≡ laidOut I → b ≡ true → laidOut I ≡ true
 image-laid I b e f = sym e ∙ f
 
-module _ (I : List ℕ) (words bytes c n : ℕ) (b : Bool) (e : b ≡ laidOut I) (f : b ≡ true) (g : c ≡ capacity words bytes) (h : n ≡ countIn I) where
+module _ (I : List ℕ) (narrow : Bool) (N : List ℕ) (bytes c n : ℕ) (b : Bool) (e : b ≡ laidOut I) (f : b ≡ true)
+    (room : c ≡ capacityAs narrow (length N) bytes) (h : n ≡ countIn I) where
+  abbrev words : ℕ
+  words = length (asEight narrow N)
+
+  g : c ≡ capacity words bytes
+  g = capacity-same narrow N bytes c room
+
   pub image-over : (r : ℕ) → c < n → r ≡ 1 → r ≡ readImageNumber words bytes I
   unfolding readImageNumber
   image-over r l q = rw (sym e ∙ f, ← h, ← g, lt-ltb c n l) q
 
   pub image-few : n ≤ c → countIn I ≤ 65535
-  image-few l = rw (← h) (omega arith)
+  image-few l = rw (← h) (omega (arith, g))
 
   pub image-judged : (r : ℕ) (d : Bool) → n ≤ c → d ≡ isGood I → r ≡ cond d 0 2 → r ≡ readImageNumber words bytes I
   unfolding readImageNumber
@@ -148,19 +164,22 @@ module _ (W C I : List ℕ) where
     unfolding readImageCall
     read-call m = rw (eq-eqb (readImageNumber (length W) (length C) I) 0 e)
 
-  -- the code's tests let the image through
-  module _ (t : Checked) (e : checkNumber t ≡ readImageNumber (length W) (length C) I) (q : t ≡ Sound) where
-    zero-read : readImageNumber (length W) (length C) I ≡ 0
-    zero-read = sym e ∙ ap checkNumber q
+-- the code's tests let the image through
+module _ (narrow : Bool) (N C I : List ℕ) (t : Checked) (e : checkNumber t ≡ readImageNumber (length (asEight narrow N)) (length C) I) (q : t ≡ Sound) where
+  passed-read : (laidOut I ≡ true) × (countIn I ≤ capacity (length (asEight narrow N)) (length C)) × (isGood I ≡ true)
+  passed-read = accepts (asEight narrow N) C I (sym e ∙ ap checkNumber q)
 
-    pub read-laid : laidOut I ≡ true
-    read-laid = accepts zero-read .0
+  pub read-laid : laidOut I ≡ true
+  read-laid = passed-read .0
 
-    pub read-few : n ≤ 65535
-    read-few = omega (arith, accepts zero-read .1)
+  pub read-few : countIn I ≤ 65535
+  read-few = held-few narrow N (length C) (countIn I) (passed-read .1)
 
-    pub read-words : Holds W n
-    read-words = omega (arith, accepts zero-read .1)
+  pub read-six : countIn I * 6 ≤ length N
+  read-six = held-six narrow N (length C) (countIn I) (passed-read .1)
 
-    pub read-bits : HoldsBits C n
-    read-bits = omega (arith, accepts zero-read .1)
+  pub read-eight : countIn I * 8 ≤ length N + spared narrow
+  read-eight = held-eight narrow N (length C) (countIn I) (passed-read .1)
+
+  pub read-bits : HoldsBits C (countIn I)
+  read-bits = omega (arith, passed-read .1)

@@ -7,7 +7,8 @@ use native.Mathlib.Omega.{arith}
 use lib.ListN.{length}
 use lib.Dec.{eqb, ltb}
 use borrow.Author.Tests.{lt-ltb, le-ltb, ltb-false, eq-eqb, ne-eqb}
-use Rattle.words.specs.Nodes.{capacity, Has, HasBit, Holds, HoldsBits}
+use Rattle.words.specs.Nodes.{capacity, HasBit, HoldsBits}
+use Rattle.words.specs.Layouts.{asEight, spared}
 use Rattle.words.specs.Refusals.{refusalNumber}
 use Rattle.words.specs.declared.node.Entry.{Entry}
 use Rattle.words.specs.declared.refusal.Refusal.{Refusal}
@@ -26,6 +27,7 @@ use Rattle.iset.specs.Build.{buildNumber, BuildAnswer, refusedBuild}
 use Rattle.iset.specs.declared.Checked.{Checked}
 use Rattle.iset.specs.declared.Checked.the-variants.{Sound, Refused}
 use Rattle.iset.specs.Insert.{openInsertNumber, InsertAnswer, refusedInsertion, insertDone}
+use Rattle.iset.proofs.Layouts.{held-few, held-six, held-eight}
 use Rattle.iset.proofs.Removals.{open-accepts}
 use Rattle.iset.proofs.Insertions as insertions
 
@@ -57,7 +59,11 @@ module _ {A : Type 0} (k : ℕ) (t : Checked) (e : checkNumber t ≡ k) (r x y :
   turned-away z q h = rw (ne-eqb k 0 (λ f. let g : refusalNumber z ≡ 0 = sym (ap checkNumber q) ∙ e ∙ f in omega (arith, number-pos z))) h
 
 -- what a build's tests leave: lists of triples that the slices hold
-module _ (words bytes : ℕ) (S : List ℕ) (t : Checked) (e : checkNumber t ≡ buildNumber words bytes S) (q : t ≡ Sound) where
+module _ (narrow : Bool) (N : List ℕ) (bytes : ℕ) (S : List ℕ) (t : Checked)
+    (e : checkNumber t ≡ buildNumber (length (asEight narrow N)) bytes S) (q : t ≡ Sound) where
+  abbrev words : ℕ
+  words = length (asEight narrow N)
+
   built-room : length S / 3 ≤ capacity words bytes
   unfolding buildNumber
   built-room = go (eqb (length S % 3) 0) (ltb (capacity words bytes) (length S / 3)) refl (sym e ∙ ap checkNumber q)
@@ -74,8 +80,11 @@ module _ (words bytes : ℕ) (S : List ℕ) (t : Checked) (e : checkNumber t ≡
   pub built-list : length S / 3 * 3 ≤ length S
   built-list = omega arith
 
-  pub built-words : length S / 3 * 8 ≤ words
-  built-words = omega (arith, built-room)
+  pub built-six : length S / 3 * 6 ≤ length N
+  built-six = held-six narrow N bytes (length S / 3) built-room
+
+  pub built-eight : length S / 3 * 8 ≤ length N + spared narrow
+  built-eight = held-eight narrow N bytes (length S / 3) built-room
 
   pub built-bytes : length S / 3 ≤ bytes * 8
   built-bytes = omega (arith, built-room)
@@ -101,12 +110,19 @@ module _ (k : ℕ) (t : Checked) (z : Refusal) (e : checkNumber t ≡ k) (q : t 
   refused-insertion m = ap (λ (i : ℕ). effect (refusedInsertion m i) W C) same-number
 
 -- what the tests of a removal leave: a slot that is there, in slices with places
-module _ (m : Map) (W C : List ℕ) (s : ℕ) (t : Checked) (e : checkNumber t ≡ openRemoveNumber m W C s) (q : t ≡ Sound) where
-  removable : (m .count ≤ capacity (length W) (length C)) × (s < m .count)
-  removable = open-accepts m W C s (sym e ∙ ap checkNumber q)
+module _ (m : Map) (narrow : Bool) (N C : List ℕ) (s : ℕ) (t : Checked) (e : checkNumber t ≡ openRemoveNumber m (asEight narrow N) C s)
+    (q : t ≡ Sound) where
+  removable : (m .count ≤ capacity (length (asEight narrow N)) (length C)) × (s < m .count)
+  removable = open-accepts m (asEight narrow N) C s (sym e ∙ ap checkNumber q)
 
-  pub removable-words : Holds W (m .count)
-  removable-words = omega (arith, removable)
+  pub removable-few : m .count ≤ 65535
+  removable-few = held-few narrow N (length C) (m .count) (removable .0)
+
+  pub removable-six : m .count * 6 ≤ length N
+  removable-six = held-six narrow N (length C) (m .count) (removable .0)
+
+  pub removable-eight : m .count * 8 ≤ length N + spared narrow
+  removable-eight = held-eight narrow N (length C) (m .count) (removable .0)
 
   pub removable-bytes : HoldsBits C (m .count)
   removable-bytes = omega (arith, removable)
@@ -122,12 +138,19 @@ pub removed-slot : (a : Removed) (X K : List ℕ) (R : rule.Removed) → removal
 removed-slot a X K R e m k v f g = rw g (λ t. effect (removeDone m (e t) (f t)) (e t .store .words) (e t .store .colours))
 
 -- what the tests of an insertion leave: slices with places for one entry more
-module _ (m : Map) (W C : List ℕ) (e : Entry) (t : Checked) (f : checkNumber t ≡ openInsertNumber m W C e) (q : t ≡ Sound) where
-  insertable : m .count < capacity (length W) (length C)
-  insertable = insertions.open-accepts m W C e (sym f ∙ ap checkNumber q) .0
+module _ (m : Map) (narrow : Bool) (N C : List ℕ) (e : Entry) (t : Checked) (f : checkNumber t ≡ openInsertNumber m (asEight narrow N) C e)
+    (q : t ≡ Sound) where
+  insertable : m .count + 1 ≤ capacity (length (asEight narrow N)) (length C)
+  insertable = omega (arith, insertions.open-accepts m (asEight narrow N) C e (sym f ∙ ap checkNumber q) .0)
 
-  pub insertable-words : Has W (m .count)
-  insertable-words = omega (arith, insertable)
+  pub insertable-few : m .count + 1 ≤ 65535
+  insertable-few = held-few narrow N (length C) (m .count + 1) insertable
+
+  pub insertable-six : (m .count + 1) * 6 ≤ length N
+  insertable-six = held-six narrow N (length C) (m .count + 1) insertable
+
+  pub insertable-eight : (m .count + 1) * 8 ≤ length N + spared narrow
+  insertable-eight = held-eight narrow N (length C) (m .count + 1) insertable
 
   pub insertable-bytes : HasBit C (m .count)
   insertable-bytes = omega (arith, insertable)

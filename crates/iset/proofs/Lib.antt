@@ -26,6 +26,7 @@ pub mod BitRefusals
 pub mod Answers
 pub mod Below
 pub mod Laws
+pub mod Layouts
 pub mod Determined
 pub mod Demands
 pub mod Saves

@@ -3,12 +3,13 @@
 use mathlib.Core.Path.{_≡_, refl, sym, ap, _∙_}
 use mathlib.Core.Bool.{Bool, true, false, cond}
 use mathlib.Core.List.{List}
-use Prim.Native.Nat.{ℕ, _<_, _≤_}
+use Prim.Native.Nat.{ℕ, _+_, _*_, _<_, _≤_}
 use native.Mathlib.Omega.{arith}
 use lib.ListN.{length}
 use lib.Dec.{ltb}
 use borrow.Author.Tests.{ltb-false, lt-ltb, le-ltb, eq-eqb, ne-eqb}
-use Rattle.words.specs.Nodes.{capacity, Holds}
+use Rattle.words.specs.Nodes.{capacity}
+use Rattle.words.specs.Layouts.{asEight, spared}
 use Rattle.words.specs.Refusals.{refusalNumber}
 use Rattle.words.specs.Intervals.{admits, proper}
 use Rattle.words.specs.declared.interval.Bound.{Bound}
@@ -39,6 +40,7 @@ use Rattle.iset.specs.declared.Map.{Map}
 use Rattle.iset.specs.declared.Checked.{Checked}
 use Rattle.iset.specs.declared.Checked.the-variants.{Sound, Refused}
 use Rattle.iset.proofs.Checks.{both-zero, count-zero}
+use Rattle.iset.proofs.Layouts.{held-few, held-six, held-eight}
 use Rattle.iset.proofs.Orders.{start-order, step-order, drain-order}
 
 -- an output that holds the limit
@@ -90,9 +92,24 @@ module _ (m : Map) (W C : List ℕ) (q : Query) where
 pub not-bad : (f : Form) → formNumber f ≡ 0 → f ≡ Bad → ⊥
 not-bad f e q = let z : _≡_ {A = ℕ} 7 0 = sym (ap formNumber q) ∙ e in omega arith
 
-module _ (m : Map) (W C : List ℕ) (q : Query) (t : Checked) (s : t ≡ Sound) where
-  pub start-words : checkNumber t ≡ openStartNumber m W C q → Holds W (m .count)
-  start-words e = omega (arith, held m W C q (sym e ∙ ap checkNumber s))
+-- what the tests of an opened lookup leave, in either layout: slices with places, and a cursor that
+-- is fit for a step
+module _ (m : Map) (narrow : Bool) (N C : List ℕ) (q : Query) (t : Checked) (s : t ≡ Sound) where
+  abbrev W : List ℕ
+  W = asEight narrow N
+
+  module _ (e : checkNumber t ≡ openStartNumber m W C q) where
+    started : m .count ≤ capacity (length W) (length C)
+    started = held m W C q (sym e ∙ ap checkNumber s)
+
+    pub start-few : m .count ≤ 65535
+    start-few = held-few narrow N (length C) (m .count) started
+
+    pub start-six : m .count * 6 ≤ length N
+    start-six = held-six narrow N (length C) (m .count) started
+
+    pub start-eight : m .count * 8 ≤ length N + spared narrow
+    start-eight = held-eight narrow N (length C) (m .count) started
 
   module _ (c : Cursor) where
     fit : openStepNumber m W C q c ≡ 0 → (m .count ≤ capacity (length W) (length C)) × Placed (m .count) c
@@ -102,30 +119,39 @@ module _ (m : Map) (W C : List ℕ) (q : Query) (t : Checked) (s : t ≡ Sound) 
         (h, form-placed W (m .count) (beginning m W q) c (formOf W (m .count) (beginning m W q) c) refl (not-bad _ (a .1)) (omega arith))
 
     module _ (e : checkNumber t ≡ openStepNumber m W C q c) where
-      step-zero : openStepNumber m W C q c ≡ 0
-      step-zero = sym e ∙ ap checkNumber s
-
-      pub step-words : Holds W (m .count)
-      step-words = omega (arith, fit step-zero .0)
+      step-fit : (m .count ≤ capacity (length W) (length C)) × Placed (m .count) c
+      step-fit = fit (sym e ∙ ap checkNumber s)
 
       pub step-few : m .count ≤ 65535
-      step-few = omega (arith, fit step-zero .0)
+      step-few = held-few narrow N (length C) (m .count) (step-fit .0)
+
+      pub step-six : m .count * 6 ≤ length N
+      step-six = held-six narrow N (length C) (m .count) (step-fit .0)
+
+      pub step-eight : m .count * 8 ≤ length N + spared narrow
+      step-eight = held-eight narrow N (length C) (m .count) (step-fit .0)
 
       pub step-placed : Placed (m .count) c
-      step-placed = fit step-zero .1
+      step-placed = step-fit .1
 
     module _ (limit out : ℕ) (e : checkNumber t ≡ openDrainNumber m W C q c limit out) where
       drain-zero : (openStepNumber m W C q c ≡ 0) × (drains.limitOf limit out ≤ out)
       drain-zero = open-drain-accepts m W C q c limit out (sym e ∙ ap checkNumber s)
 
-      pub drain-words : Holds W (m .count)
-      drain-words = omega (arith, fit (drain-zero .0) .0)
+      drain-fit : (m .count ≤ capacity (length W) (length C)) × Placed (m .count) c
+      drain-fit = fit (drain-zero .0)
 
       pub drain-few : m .count ≤ 65535
-      drain-few = omega (arith, fit (drain-zero .0) .0)
+      drain-few = held-few narrow N (length C) (m .count) (drain-fit .0)
+
+      pub drain-six : m .count * 6 ≤ length N
+      drain-six = held-six narrow N (length C) (m .count) (drain-fit .0)
+
+      pub drain-eight : m .count * 8 ≤ length N + spared narrow
+      drain-eight = held-eight narrow N (length C) (m .count) (drain-fit .0)
 
       pub drain-placed : Placed (m .count) c
-      drain-placed = fit (drain-zero .0) .1
+      drain-placed = drain-fit .1
 
       pub drain-limit : (l : ℕ) → l ≡ drains.limitOf limit out → l ≤ out
       drain-limit l f = omega (arith, drain-zero .1)

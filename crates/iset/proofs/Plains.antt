@@ -9,7 +9,8 @@ use lib.ListN.{length}
 use lib.Dec.{leb}
 use borrow.Author.Tests.{eq-eqb, le-leb, leb-true}
 use Rattle.words.specs.Lists.{filter}
-use Rattle.words.specs.Nodes.{Holds}
+use Rattle.words.specs.Nodes.{capacity}
+use Rattle.words.specs.Layouts.{asEight, spared}
 use Rattle.tree.specs.Tree.{slots}
 use Rattle.tree.specs.Passes.{Passes}
 use Rattle.iter.specs.Cursors.{fresh}
@@ -33,18 +34,32 @@ use Rattle.iset.specs.declared.Checked.the-variants.{Sound}
 use Rattle.iset.proofs.AtOnces.{counted, first-places, found-at-once}
 use Rattle.iset.proofs.Checks.{both-zero, places-held, count-zero}
 use Rattle.iset.proofs.Found.{few}
+use Rattle.iset.proofs.Layouts.{held-few, held-six, held-eight}
 use Rattle.iset.proofs.Lookups.{open-start-accepts}
 use Rattle.iset.proofs.Orders.{plain-order}
 use Rattle.iset.proofs.Runs.{range-started, interval-started, overlap-runs, exact-runs}
 
 -- what the tests of an opened lookup leave: slices with places
-module _ (m : Map) (W C : List ℕ) (q : Query) (places : ℕ) (t : Checked) (e : checkNumber t ≡ openPlainNumber m W C q places) (s : t ≡ Sound) where
+module _ (m : Map) (narrow : Bool) (N C : List ℕ) (q : Query) (places : ℕ) (t : Checked)
+    (e : checkNumber t ≡ openPlainNumber m (asEight narrow N) C q places) (s : t ≡ Sound) where
+  abbrev W : List ℕ
+  W = asEight narrow N
+
   passed : (openStartNumber m W C q ≡ 0) × (_≡_ {A = ℕ} (cond (leb (m .count) places) 0 9) 0)
   unfolding openPlainNumber
   passed = both-zero (openStartNumber m W C q) (cond (leb (m .count) places) 0 9) (sym e ∙ ap checkNumber s)
 
-  pub plain-words : Holds W (m .count)
-  plain-words = omega (arith, count-zero m W C (open-start-accepts m W C q (passed .0) .0))
+  plain-room : m .count ≤ capacity (length W) (length C)
+  plain-room = count-zero m W C (open-start-accepts m W C q (passed .0) .0)
+
+  pub plain-few : m .count ≤ 65535
+  plain-few = held-few narrow N (length C) (m .count) plain-room
+
+  pub plain-six : m .count * 6 ≤ length N
+  plain-six = held-six narrow N (length C) (m .count) plain-room
+
+  pub plain-eight : m .count * 8 ≤ length N + spared narrow
+  plain-eight = held-eight narrow N (length C) (m .count) plain-room
 
   pub plain-places : m .count ≤ places
   plain-places = places-held (m .count) places (passed .1)

@@ -7,7 +7,8 @@ use native.Mathlib.Omega.{arith}
 use lib.ListN.{length}
 use lib.Dec.{eqb, ltb}
 use borrow.Author.Tests.{eqb-true, ltb-true, lt-ltb, eq-eqb, ne-eqb}
-use Rattle.words.specs.Nodes.{capacity, Has}
+use Rattle.words.specs.Nodes.{capacity}
+use Rattle.words.specs.Layouts.{asEight, spared}
 use Rattle.words.specs.Refusals.{refusalNumber}
 use Rattle.words.specs.declared.node.Entry.{Entry}
 use Rattle.words.specs.declared.refusal.Refusal.{Refusal}
@@ -17,6 +18,7 @@ use Rattle.iset.specs.declared.Map.{Map}
 use Rattle.iset.specs.declared.Checked.{Checked}
 use Rattle.iset.specs.declared.Checked.the-variants.{Sound, Refused}
 use Rattle.iset.specs.declared.ticket.Ticket.{Ticket}
+use Rattle.iset.proofs.Layouts.{held-few, held-six, held-eight}
 use Rattle.iset.proofs.Checks.{both-zero, count-zero, checked-count}
 
 module _ (m : Map) (W C : List ℕ) (t : Ticket) where
@@ -66,8 +68,18 @@ module _ (m : Map) (t : Ticket) (d : ℕ) (e : d ≡ age (m .version) (t .versio
   other-version z q = rw (← e, ne-eqb d 0 z) q
 
 -- what the tests leave: a slot in the words
-pub readable : (m : Map) (W C : List ℕ) (t : Ticket) (c : Checked) → checkNumber c ≡ openReadNumber m W C t → c ≡ Sound → Has W (t .slot)
-readable m W C t c e q = let h = open-accepts m W C t (sym e ∙ ap checkNumber q) in omega (arith, h .0, h .2)
+module _ (m : Map) (narrow : Bool) (N C : List ℕ) (t : Ticket) (c : Checked) (e : checkNumber c ≡ openReadNumber m (asEight narrow N) C t) (q : c ≡ Sound) where
+  readable : t .slot + 1 ≤ capacity (length (asEight narrow N)) (length C)
+  readable = let h = open-accepts m (asEight narrow N) C t (sym e ∙ ap checkNumber q) in omega (arith, h .0, h .2)
+
+  pub readable-few : t .slot + 1 ≤ 65535
+  readable-few = held-few narrow N (length C) (t .slot + 1) readable
+
+  pub readable-six : (t .slot + 1) * 6 ≤ length N
+  readable-six = held-six narrow N (length C) (t .slot + 1) readable
+
+  pub readable-eight : (t .slot + 1) * 8 ≤ length N + spared narrow
+  readable-eight = held-eight narrow N (length C) (t .slot + 1) readable
 
 pub read-entry : (e x : Entry) → e ≡ x → _≡_ {A = ReadAnswer} (record { no = 0; entry = e }) (record { no = 0; entry = x })
 read-entry e x q = rw q

@@ -8,6 +8,8 @@ use builder::list::sorted;
 use words::node::capacity;
 use words::refusal::Refusal;
 ghost use mathlib.Core.Path.{_≡_};
+ghost use lib.ListN.{length};
+ghost use Rattle.words.specs.Layouts.{asEight};
 ghost use Rattle.iset.specs.Check.{checkNumber};
 ghost use Rattle.iset.specs.Effects.{effect};
 ghost use Rattle.iset.specs.Build.{buildNumber, buildAnswer, buildCall};
@@ -18,16 +20,16 @@ pub enum Built {
     Refused(Refusal),
 }
 
-// The first refusal of building a list into `words` node words and `bytes` colour bytes. Each test
-// visits the whole list.
-fn test_list(list: &[u64], words: usize, bytes: usize) -> Checked
-    ensures { λ r. ⌜ checkNumber r ≡ buildNumber words bytes (now (list .entry)) ⌝ }
+// The first refusal of building a list into node words and `bytes` colour bytes. Each test visits
+// the whole list.
+fn test_list(list: &[u64], nodes: &[u64], narrow: bool, bytes: usize) -> Checked
+    ensures { λ r. ⌜ checkNumber r ≡ buildNumber (length (asEight narrow (now (nodes .entry)))) bytes (now (list .entry)) ⌝ }
 {
     let len = list.len();
     if len % 3 != 0 {
         return Checked::Refused(Refusal::BadList);
     }
-    if capacity(words, bytes) < (len / 3) as u64 {
+    if capacity(nodes.len(), narrow, bytes) < (len / 3) as u64 {
         return Checked::Refused(Refusal::NoRoom);
     }
     if all_proper(list) {
@@ -40,13 +42,19 @@ impl Map {
     // Returns the map of the entries of a list, entry k in slot k, in the place of this map. Of
     // this map only the version is read: the new map has the next one. Slots and colour bits past
     // the entries are unchanged.
-    pub fn build(self, nodes: &mut [u64], colours: &mut [u8], list: &[u64]) -> Built
-        ensures { λ r. ⌜ effect (buildAnswer self r) (now (nodes .exit)) (now (colours .exit))
-            ≡ buildCall self (now (nodes .entry)) (now (colours .entry)) (now (list .entry)) ⌝ }
+    pub fn build_in(
+        self,
+        nodes: &mut [u64],
+        narrow: bool,
+        colours: &mut [u8],
+        list: &[u64],
+    ) -> Built
+        ensures { λ r. ⌜ effect (buildAnswer self r) (asEight narrow (now (nodes .exit))) (now (colours .exit))
+            ≡ buildCall self (asEight narrow (now (nodes .entry))) (now (colours .entry)) (now (list .entry)) ⌝ }
     {
-        let Checked::Refused(why) = test_list(list, nodes.len(), colours.len()) else {
+        let Checked::Refused(why) = test_list(list, nodes, narrow, colours.len()) else {
             let n = list.len() / 3;
-            let root = from_sorted(list, nodes, colours, n);
+            let root = from_sorted(list, nodes, narrow, colours, n);
             return Built::Done(Map {
                 count: n as u64,
                 root,

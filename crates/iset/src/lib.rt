@@ -8,6 +8,7 @@
 // then the call that begins with `open_`. They require nothing. On any words each of them ends and
 // stays inside what was lent. But what it returns may mean nothing if the store is not opened.
 pub mod build;
+pub mod eight;
 pub mod find;
 pub mod insert;
 pub mod lookup;
@@ -34,6 +35,7 @@ pub use words::pair::Pairs;
 pub use words::refusal::Refusal;
 ghost use mathlib.Core.Path.{_≡_};
 ghost use mathlib.Core.Bool.{cond};
+ghost use Rattle.words.specs.Layouts.{asEight};
 ghost use Rattle.words.specs.Refusals.{refusalNumber};
 ghost use Rattle.iset.specs.Maps.{emptyMap, raised};
 ghost use Rattle.iset.specs.Check.{checkNumber, countNumber, checkRule};
@@ -97,10 +99,10 @@ impl Map {
 
     // All that a call on an opened store tests of the store. Returns NoRoom if the count is above
     // what the slices hold.
-    fn test_count(self, nodes: &[u64], colours: &[u8]) -> Checked
-        ensures { λ r. ⌜ checkNumber r ≡ countNumber self (now (nodes .entry)) (now (colours .entry)) ⌝ }
+    fn test_count(self, nodes: &[u64], narrow: bool, colours: &[u8]) -> Checked
+        ensures { λ r. ⌜ checkNumber r ≡ countNumber self (asEight narrow (now (nodes .entry))) (now (colours .entry)) ⌝ }
     {
-        if capacity(nodes.len(), colours.len()) < self.count {
+        if capacity(nodes.len(), narrow, colours.len()) < self.count {
             return Checked::Refused(Refusal::NoRoom);
         }
         Checked::Sound
@@ -108,14 +110,14 @@ impl Map {
 
     // The store check. Returns NoRoom if the count is above what the slices hold, else Broken if
     // the store does not pass.
-    pub fn check(self, nodes: &[u64], colours: &[u8]) -> Checked
-        ensures { λ r. ⌜ checkNumber r ≡ checkRule self (now (nodes .entry)) (now (colours .entry)) ⌝ }
+    pub fn check_in(self, nodes: &[u64], narrow: bool, colours: &[u8]) -> Checked
+        ensures { λ r. ⌜ checkNumber r ≡ checkRule self (asEight narrow (now (nodes .entry))) (now (colours .entry)) ⌝ }
     {
-        if capacity(nodes.len(), colours.len()) < self.count {
+        if capacity(nodes.len(), narrow, colours.len()) < self.count {
             return Checked::Refused(Refusal::NoRoom);
         }
         Checked::sound_if(
-            audit(nodes, colours, self.count, self.root),
+            audit(nodes, narrow, colours, self.count, self.root),
             Refusal::Broken,
         )
     }

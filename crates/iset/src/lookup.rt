@@ -19,6 +19,7 @@ ghost use mathlib.Core.Path.{_≡_};
 ghost use mathlib.Core.Bool.{cond};
 ghost use Prim.Native.Nat.{_≤_};
 ghost use lib.Dec.{ltb};
+ghost use Rattle.words.specs.Layouts.{asEight, HoldsIn};
 ghost use Rattle.iter.specs.Cursors.{fresh};
 ghost use Rattle.iter.specs.Drains.{limitOf};
 ghost use Rattle.iter.specs.Forms.{formOf};
@@ -29,7 +30,6 @@ ghost use Rattle.iter.specs.Answers.{answer, isHit};
 ghost use Rattle.iset.specs.Effects.{output};
 ghost use Rattle.iset.specs.Check.{checkNumber};
 ghost use Rattle.iset.specs.Lookup.{ordered, accepts, queryNumber, beginning, formNumber, openStartNumber, openStepNumber, openDrainNumber, startAnswer, openStartCall, startCall, stepAnswer, openStepCall, stepCall, drainAnswer, openDrainCall, drainCall};
-ghost use Rattle.words.specs.Nodes.{Holds};
 
 // What the calls return.
 pub enum Started {
@@ -128,13 +128,13 @@ fn test_room(limit: u64, places: u64) -> Checked
 
 // A step, made as a drain of one hit. So the walk has one caller, and is inlined in the drain's
 // loop.
-fn one_hit(cursor: Cursor, nodes: &[u64], count: u64, query: Query) -> Step
-    requires { ⌜ Holds (now nodes) count × (count ≤ 65535) × Placed count cursor ⌝ }
-    ensures { λ r. ⌜ (answer r ≡ step (now (nodes .entry)) count (rules (now (nodes .entry)) count query) cursor)
+fn one_hit(cursor: Cursor, nodes: &[u64], narrow: bool, count: u64, query: Query) -> Step
+    requires { ⌜ HoldsIn narrow (now nodes) count × (count ≤ 65535) × Placed count cursor ⌝ }
+    ensures { λ r. ⌜ (answer r ≡ step (asEight narrow (now (nodes .entry))) count (rules (asEight narrow (now (nodes .entry))) count query) cursor)
         × (isHit r ≡ ltb (answer r .slot) count) ⌝ }
 {
     let mut slots = [0; 1];
-    let d = cursor.drain(nodes, count, query, 1, &mut slots);
+    let d = cursor.drain(nodes, narrow, count, query, 1, &mut slots);
     let next = d.next;
     if d.hits == 1 {
         Step::Hit(next, d.entered)
@@ -145,10 +145,16 @@ fn one_hit(cursor: Cursor, nodes: &[u64], count: u64, query: Query) -> Step
 
 impl Map {
     // The first refusal of a query in an opened store (see lib.rt).
-    pub(crate) fn test_start(self, nodes: &[u64], colours: &[u8], query: Query) -> Checked
-        ensures { λ r. ⌜ checkNumber r ≡ openStartNumber self (now (nodes .entry)) (now (colours .entry)) query ⌝ }
+    pub(crate) fn test_start(
+        self,
+        nodes: &[u64],
+        narrow: bool,
+        colours: &[u8],
+        query: Query,
+    ) -> Checked
+        ensures { λ r. ⌜ checkNumber r ≡ openStartNumber self (asEight narrow (now (nodes .entry))) (now (colours .entry)) query ⌝ }
     {
-        let checked = self.test_count(nodes, colours);
+        let checked = self.test_count(nodes, narrow, colours);
         let Checked::Sound = checked else {
             return checked;
         };
@@ -156,48 +162,56 @@ impl Map {
     }
 
     // The slot that a lookup begins at.
-    fn begin(self, nodes: &[u64], query: Query) -> u64
-        requires { ⌜ Holds (now nodes) (self .count) ⌝ }
-        ensures { λ r. ⌜ r ≡ beginning self (now (nodes .entry)) query ⌝ }
+    fn begin(self, nodes: &[u64], narrow: bool, query: Query) -> u64
+        requires { ⌜ HoldsIn narrow (now nodes) (self .count) ⌝ }
+        ensures { λ r. ⌜ r ≡ beginning self (asEight narrow (now (nodes .entry))) query ⌝ }
     {
         match query {
             Query::Overlap(_) => self.root,
             Query::Ruled(_, _) => self.root,
-            Query::Exact(x) => find_index(nodes, self.count, x, self.root),
+            Query::Exact(x) => find_index(nodes, narrow, self.count, x, self.root),
         }
     }
 
-    fn test_place(self, nodes: &[u64], query: Query, cursor: Cursor) -> Checked
-        requires { ⌜ Holds (now nodes) (self .count) ⌝ }
-        ensures { λ r. ⌜ checkNumber r ≡ formNumber (formOf (now (nodes .entry)) (self .count) (beginning self (now (nodes .entry)) query) cursor) ⌝ }
+    fn test_place(self, nodes: &[u64], narrow: bool, query: Query, cursor: Cursor) -> Checked
+        requires { ⌜ HoldsIn narrow (now nodes) (self .count) ⌝ }
+        ensures { λ r. ⌜ checkNumber r ≡ formNumber (formOf (asEight narrow (now (nodes .entry))) (self .count) (beginning self (asEight narrow (now (nodes .entry))) query) cursor) ⌝ }
     {
-        test_form(cursor.form(nodes, self.count, self.begin(nodes, query)))
+        test_form(cursor.form(nodes, narrow, self.count, self.begin(nodes, narrow, query)))
     }
 
     // The first refusal of a step.
-    fn test_step(self, nodes: &[u64], colours: &[u8], query: Query, cursor: Cursor) -> Checked
-        ensures { λ r. ⌜ checkNumber r ≡ openStepNumber self (now (nodes .entry)) (now (colours .entry)) query cursor ⌝ }
+    fn test_step(
+        self,
+        nodes: &[u64],
+        narrow: bool,
+        colours: &[u8],
+        query: Query,
+        cursor: Cursor,
+    ) -> Checked
+        ensures { λ r. ⌜ checkNumber r ≡ openStepNumber self (asEight narrow (now (nodes .entry))) (now (colours .entry)) query cursor ⌝ }
     {
-        let checked = self.test_start(nodes, colours, query);
+        let checked = self.test_start(nodes, narrow, colours, query);
         let Checked::Sound = checked else {
             return checked;
         };
-        self.test_place(nodes, query, cursor)
+        self.test_place(nodes, narrow, query, cursor)
     }
 
     // The first refusal of a drain into an output of `places` places.
     fn test_drain(
         self,
         nodes: &[u64],
+        narrow: bool,
         colours: &[u8],
         query: Query,
         cursor: Cursor,
         limit: u64,
         places: u64,
     ) -> Checked
-        ensures { λ r. ⌜ checkNumber r ≡ openDrainNumber self (now (nodes .entry)) (now (colours .entry)) query cursor limit places ⌝ }
+        ensures { λ r. ⌜ checkNumber r ≡ openDrainNumber self (asEight narrow (now (nodes .entry))) (now (colours .entry)) query cursor limit places ⌝ }
     {
-        let checked = self.test_step(nodes, colours, query, cursor);
+        let checked = self.test_step(nodes, narrow, colours, query, cursor);
         let Checked::Sound = checked else {
             return checked;
         };
@@ -212,28 +226,42 @@ impl Map {
     }
 
     // `fresh_exact`, `step` and `drain` for an opened store.
-    pub fn open_fresh_exact(self, nodes: &[u64], colours: &[u8], query: Interval) -> Started
-        ensures { λ r. ⌜ startAnswer r ≡ openStartCall self (now (nodes .entry)) (now (colours .entry)) query ⌝ }
+    pub fn open_fresh_exact_in(
+        self,
+        nodes: &[u64],
+        narrow: bool,
+        colours: &[u8],
+        query: Interval,
+    ) -> Started
+        ensures { λ r. ⌜ startAnswer r ≡ openStartCall self (asEight narrow (now (nodes .entry))) (now (colours .entry)) query ⌝ }
     {
         let exact = Query::Exact(query);
-        let Checked::Refused(why) = self.test_start(nodes, colours, exact) else {
-            return Started::Done(Cursor::fresh(self.begin(nodes, exact)));
+        let Checked::Refused(why) = self.test_start(nodes, narrow, colours, exact) else {
+            return Started::Done(Cursor::fresh(self.begin(nodes, narrow, exact)));
         };
         Started::Refused(why)
     }
 
-    pub fn open_step(self, nodes: &[u64], colours: &[u8], query: Query, cursor: Cursor) -> Stepped
-        ensures { λ r. ⌜ stepAnswer cursor r ≡ openStepCall self (now (nodes .entry)) (now (colours .entry)) query cursor ⌝ }
+    pub fn open_step_in(
+        self,
+        nodes: &[u64],
+        narrow: bool,
+        colours: &[u8],
+        query: Query,
+        cursor: Cursor,
+    ) -> Stepped
+        ensures { λ r. ⌜ stepAnswer cursor r ≡ openStepCall self (asEight narrow (now (nodes .entry))) (now (colours .entry)) query cursor ⌝ }
     {
-        let Checked::Refused(why) = self.test_step(nodes, colours, query, cursor) else {
-            return Stepped::Done(one_hit(cursor, nodes, self.count, query));
+        let Checked::Refused(why) = self.test_step(nodes, narrow, colours, query, cursor) else {
+            return Stepped::Done(one_hit(cursor, nodes, narrow, self.count, query));
         };
         Stepped::Refused(why)
     }
 
-    pub fn open_drain(
+    pub fn open_drain_in(
         self,
         nodes: &[u64],
+        narrow: bool,
         colours: &[u8],
         query: Query,
         cursor: Cursor,
@@ -241,13 +269,21 @@ impl Map {
         out: &mut [u64],
     ) -> Drain
         ensures { λ r. ⌜ output (drainAnswer cursor r) (now (out .exit))
-            ≡ openDrainCall self (now (nodes .entry)) (now (colours .entry)) query cursor limit (now (out .entry)) ⌝ }
+            ≡ openDrainCall self (asEight narrow (now (nodes .entry))) (now (colours .entry)) query cursor limit (now (out .entry)) ⌝ }
     {
         let places = out.len() as u64;
-        let Checked::Refused(why) = self.test_drain(nodes, colours, query, cursor, limit, places)
-        else {
+        let Checked::Refused(why) = self.test_drain(
+            nodes,
+            narrow,
+            colours,
+            query,
+            cursor,
+            limit,
+            places,
+        ) else {
             return Drain::Done(cursor.drain(
                 nodes,
+                narrow,
                 self.count,
                 query,
                 limit_of(limit, places),
@@ -259,30 +295,44 @@ impl Map {
 
     // Returns the fresh cursor of an exact lookup. It is at the highest entry that is equal to the
     // query.
-    pub fn fresh_exact(self, nodes: &[u64], colours: &[u8], query: Interval) -> Started
-        ensures { λ r. ⌜ startAnswer r ≡ startCall self (now (nodes .entry)) (now (colours .entry)) query ⌝ }
+    pub fn fresh_exact_in(
+        self,
+        nodes: &[u64],
+        narrow: bool,
+        colours: &[u8],
+        query: Interval,
+    ) -> Started
+        ensures { λ r. ⌜ startAnswer r ≡ startCall self (asEight narrow (now (nodes .entry))) (now (colours .entry)) query ⌝ }
     {
-        let Checked::Refused(why) = self.check(nodes, colours) else {
-            return self.open_fresh_exact(nodes, colours, query);
+        let Checked::Refused(why) = self.check_in(nodes, narrow, colours) else {
+            return self.open_fresh_exact_in(nodes, narrow, colours, query);
         };
         Started::Refused(why)
     }
 
     // Returns the next hit after a cursor, or the end.
-    pub fn step(self, nodes: &[u64], colours: &[u8], query: Query, cursor: Cursor) -> Stepped
-        ensures { λ r. ⌜ stepAnswer cursor r ≡ stepCall self (now (nodes .entry)) (now (colours .entry)) query cursor ⌝ }
+    pub fn step_in(
+        self,
+        nodes: &[u64],
+        narrow: bool,
+        colours: &[u8],
+        query: Query,
+        cursor: Cursor,
+    ) -> Stepped
+        ensures { λ r. ⌜ stepAnswer cursor r ≡ stepCall self (asEight narrow (now (nodes .entry))) (now (colours .entry)) query cursor ⌝ }
     {
-        let Checked::Refused(why) = self.check(nodes, colours) else {
-            return self.open_step(nodes, colours, query, cursor);
+        let Checked::Refused(why) = self.check_in(nodes, narrow, colours) else {
+            return self.open_step_in(nodes, narrow, colours, query, cursor);
         };
         Stepped::Refused(why)
     }
 
     // Steps until the end, or until `limit` hits are written to `out`. A limit of 0 means as many
     // as fit.
-    pub fn drain(
+    pub fn drain_in(
         self,
         nodes: &[u64],
+        narrow: bool,
         colours: &[u8],
         query: Query,
         cursor: Cursor,
@@ -290,10 +340,10 @@ impl Map {
         out: &mut [u64],
     ) -> Drain
         ensures { λ r. ⌜ output (drainAnswer cursor r) (now (out .exit))
-            ≡ drainCall self (now (nodes .entry)) (now (colours .entry)) query cursor limit (now (out .entry)) ⌝ }
+            ≡ drainCall self (asEight narrow (now (nodes .entry))) (now (colours .entry)) query cursor limit (now (out .entry)) ⌝ }
     {
-        let Checked::Refused(why) = self.check(nodes, colours) else {
-            return self.open_drain(nodes, colours, query, cursor, limit, out);
+        let Checked::Refused(why) = self.check_in(nodes, narrow, colours) else {
+            return self.open_drain_in(nodes, narrow, colours, query, cursor, limit, out);
         };
         Drain::Refused(why)
     }

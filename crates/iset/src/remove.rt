@@ -8,10 +8,11 @@ use words::pair::Pairs;
 use words::refusal::Refusal;
 ghost use mathlib.Core.Path.{_≡_};
 ghost use Prim.Native.Nat.{_<_};
+ghost use Rattle.words.specs.Layouts.{asEight, HoldsIn};
 ghost use Rattle.iset.specs.Effects.{effect};
 ghost use Rattle.iset.specs.Check.{checkNumber};
 ghost use Rattle.iset.specs.Remove.{slotAfter, removeAnswer, removeSlot, openRemoveNumber, openRemoveCall, removeCall};
-ghost use Rattle.words.specs.Nodes.{Holds, HoldsBits};
+ghost use Rattle.words.specs.Nodes.{HoldsBits};
 
 // The map without the entry, the entry's value, the other entries that changed slot, and how many
 // hulls changed. A slot's hull is the least range that holds all entries of its subtree.
@@ -52,10 +53,10 @@ pub enum Removal {
 
 impl Map {
     // The first refusal of a removal from an opened store (see lib.rt).
-    fn test_slot(self, nodes: &[u64], colours: &[u8], slot: u64) -> Checked
-        ensures { λ r. ⌜ checkNumber r ≡ openRemoveNumber self (now (nodes .entry)) (now (colours .entry)) slot ⌝ }
+    fn test_slot(self, nodes: &[u64], narrow: bool, colours: &[u8], slot: u64) -> Checked
+        ensures { λ r. ⌜ checkNumber r ≡ openRemoveNumber self (asEight narrow (now (nodes .entry))) (now (colours .entry)) slot ⌝ }
     {
-        let checked = self.test_count(nodes, colours);
+        let checked = self.test_count(nodes, narrow, colours);
         let Checked::Sound = checked else {
             return checked;
         };
@@ -63,12 +64,12 @@ impl Map {
     }
 
     // Removes a slot below the count.
-    fn remove_slot(self, nodes: &mut [u64], colours: &mut [u8], slot: u64) -> Removal
-        requires { ⌜ Holds (now nodes) (self .count) × HoldsBits (now colours) (self .count) × (slot < self .count) ⌝ }
-        ensures { λ r. ⌜ effect (removeAnswer self r) (now (nodes .exit)) (now (colours .exit))
-            ≡ removeSlot self (now (nodes .entry)) (now (colours .entry)) slot ⌝ }
+    fn remove_slot(self, nodes: &mut [u64], narrow: bool, colours: &mut [u8], slot: u64) -> Removal
+        requires { ⌜ HoldsIn narrow (now nodes) (self .count) × HoldsBits (now colours) (self .count) × (slot < self .count) ⌝ }
+        ensures { λ r. ⌜ effect (removeAnswer self r) (asEight narrow (now (nodes .exit))) (now (colours .exit))
+            ≡ removeSlot self (asEight narrow (now (nodes .entry))) (now (colours .entry)) slot ⌝ }
     {
-        let r = remove_at(nodes, colours, self.count, self.root, slot);
+        let r = remove_at(nodes, narrow, colours, self.count, self.root, slot);
         let pairs = r.pairs;
         Removal::Done(Removed {
             map: Map {
@@ -83,24 +84,36 @@ impl Map {
     }
 
     // `remove` for an opened store.
-    pub fn open_remove(self, nodes: &mut [u64], colours: &mut [u8], slot: u64) -> Removal
-        ensures { λ r. ⌜ effect (removeAnswer self r) (now (nodes .exit)) (now (colours .exit))
-            ≡ openRemoveCall self (now (nodes .entry)) (now (colours .entry)) slot ⌝ }
+    pub fn open_remove_in(
+        self,
+        nodes: &mut [u64],
+        narrow: bool,
+        colours: &mut [u8],
+        slot: u64,
+    ) -> Removal
+        ensures { λ r. ⌜ effect (removeAnswer self r) (asEight narrow (now (nodes .exit))) (now (colours .exit))
+            ≡ openRemoveCall self (asEight narrow (now (nodes .entry))) (now (colours .entry)) slot ⌝ }
     {
-        let Checked::Refused(why) = self.test_slot(nodes, colours, slot) else {
-            return self.remove_slot(nodes, colours, slot);
+        let Checked::Refused(why) = self.test_slot(nodes, narrow, colours, slot) else {
+            return self.remove_slot(nodes, narrow, colours, slot);
         };
         Removal::Refused(why)
     }
 
     // Removes the entry of a slot. Up to three other entries change slot. What it returns lists
     // them.
-    pub fn remove(self, nodes: &mut [u64], colours: &mut [u8], slot: u64) -> Removal
-        ensures { λ r. ⌜ effect (removeAnswer self r) (now (nodes .exit)) (now (colours .exit))
-            ≡ removeCall self (now (nodes .entry)) (now (colours .entry)) slot ⌝ }
+    pub fn remove_in(
+        self,
+        nodes: &mut [u64],
+        narrow: bool,
+        colours: &mut [u8],
+        slot: u64,
+    ) -> Removal
+        ensures { λ r. ⌜ effect (removeAnswer self r) (asEight narrow (now (nodes .exit))) (now (colours .exit))
+            ≡ removeCall self (asEight narrow (now (nodes .entry))) (now (colours .entry)) slot ⌝ }
     {
-        let Checked::Refused(why) = self.check(nodes, colours) else {
-            return self.open_remove(nodes, colours, slot);
+        let Checked::Refused(why) = self.check_in(nodes, narrow, colours) else {
+            return self.open_remove_in(nodes, narrow, colours, slot);
         };
         Removal::Refused(why)
     }

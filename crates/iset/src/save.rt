@@ -13,6 +13,8 @@ use image::write::write;
 use words::node::capacity;
 use words::refusal::Refusal;
 ghost use mathlib.Core.Path.{_≡_};
+ghost use lib.ListN.{length};
+ghost use Rattle.words.specs.Layouts.{asEight};
 ghost use Rattle.iset.specs.Effects.{effect, output};
 ghost use Rattle.iset.specs.Check.{checkNumber};
 ghost use Rattle.iset.specs.Build.{buildAnswer};
@@ -24,13 +26,13 @@ pub enum Written {
     Refused(Refusal),
 }
 
-// The first refusal of reading an image into `words` node words and `bytes` colour bytes. It reads
-// the image alone.
-fn test_image(image: &[u8], words: usize, bytes: usize) -> Checked
-    ensures { λ r. ⌜ checkNumber r ≡ readImageNumber words bytes (now (image .entry)) ⌝ }
+// The first refusal of reading an image into node words and `bytes` colour bytes. Of the words it
+// uses their number alone.
+fn test_image(image: &[u8], nodes: &[u64], narrow: bool, bytes: usize) -> Checked
+    ensures { λ r. ⌜ checkNumber r ≡ readImageNumber (length (asEight narrow (now (nodes .entry)))) bytes (now (image .entry)) ⌝ }
 {
     if has_layout(image) {
-        if capacity(words, bytes) < count_in(image) {
+        if capacity(nodes.len(), narrow, bytes) < count_in(image) {
             return Checked::Refused(Refusal::NoRoom);
         }
         return Checked::sound_if(judge(image), Refusal::Broken);
@@ -41,10 +43,10 @@ fn test_image(image: &[u8], words: usize, bytes: usize) -> Checked
 impl Map {
     // The first refusal of writing the image of an opened store (see lib.rt) into an output of
     // `places` places.
-    fn test_write(self, nodes: &[u64], colours: &[u8], places: u64) -> Checked
-        ensures { λ r. ⌜ checkNumber r ≡ openWriteImageNumber self (now (nodes .entry)) (now (colours .entry)) places ⌝ }
+    fn test_write(self, nodes: &[u64], narrow: bool, colours: &[u8], places: u64) -> Checked
+        ensures { λ r. ⌜ checkNumber r ≡ openWriteImageNumber self (asEight narrow (now (nodes .entry))) (now (colours .entry)) places ⌝ }
     {
-        let checked = self.test_count(nodes, colours);
+        let checked = self.test_count(nodes, narrow, colours);
         let Checked::Sound = checked else {
             return checked;
         };
@@ -52,12 +54,18 @@ impl Map {
     }
 
     // `write_image` for an opened store.
-    pub fn open_write_image(self, nodes: &[u64], colours: &[u8], out: &mut [u8]) -> Written
-        ensures { λ r. ⌜ output (writeAnswer r) (now (out .exit)) ≡ openWriteImageCall self (now (nodes .entry)) (now (colours .entry)) (now (out .entry)) ⌝ }
+    pub fn open_write_image_in(
+        self,
+        nodes: &[u64],
+        narrow: bool,
+        colours: &[u8],
+        out: &mut [u8],
+    ) -> Written
+        ensures { λ r. ⌜ output (writeAnswer r) (now (out .exit)) ≡ openWriteImageCall self (asEight narrow (now (nodes .entry))) (now (colours .entry)) (now (out .entry)) ⌝ }
     {
         let places = out.len() as u64;
-        let Checked::Refused(why) = self.test_write(nodes, colours, places) else {
-            write(nodes, colours, self.count, self.root, out);
+        let Checked::Refused(why) = self.test_write(nodes, narrow, colours, places) else {
+            write(nodes, narrow, colours, self.count, self.root, out);
             return Written::Done(image_length(self.count));
         };
         Written::Refused(why)
@@ -65,11 +73,17 @@ impl Map {
 
     // Writes the map as an image to the front of the output, and returns the image's length. Bytes
     // past the image are unchanged.
-    pub fn write_image(self, nodes: &[u64], colours: &[u8], out: &mut [u8]) -> Written
-        ensures { λ r. ⌜ output (writeAnswer r) (now (out .exit)) ≡ writeImageCall self (now (nodes .entry)) (now (colours .entry)) (now (out .entry)) ⌝ }
+    pub fn write_image_in(
+        self,
+        nodes: &[u64],
+        narrow: bool,
+        colours: &[u8],
+        out: &mut [u8],
+    ) -> Written
+        ensures { λ r. ⌜ output (writeAnswer r) (now (out .exit)) ≡ writeImageCall self (asEight narrow (now (nodes .entry))) (now (colours .entry)) (now (out .entry)) ⌝ }
     {
-        let Checked::Refused(why) = self.check(nodes, colours) else {
-            return self.open_write_image(nodes, colours, out);
+        let Checked::Refused(why) = self.check_in(nodes, narrow, colours) else {
+            return self.open_write_image_in(nodes, narrow, colours, out);
         };
         Written::Refused(why)
     }
@@ -79,12 +93,18 @@ impl Map {
     // have room for its entries, and its store must pass the check, with the hulls worked out.
     // Slots and colour bits past the entries are unchanged. Nothing is written before all of this
     // is known.
-    pub fn read_image(self, nodes: &mut [u64], colours: &mut [u8], image: &[u8]) -> Built
-        ensures { λ r. ⌜ effect (buildAnswer self r) (now (nodes .exit)) (now (colours .exit))
-            ≡ readImageCall self (now (nodes .entry)) (now (colours .entry)) (now (image .entry)) ⌝ }
+    pub fn read_image_in(
+        self,
+        nodes: &mut [u64],
+        narrow: bool,
+        colours: &mut [u8],
+        image: &[u8],
+    ) -> Built
+        ensures { λ r. ⌜ effect (buildAnswer self r) (asEight narrow (now (nodes .exit))) (now (colours .exit))
+            ≡ readImageCall self (asEight narrow (now (nodes .entry))) (now (colours .entry)) (now (image .entry)) ⌝ }
     {
-        let Checked::Refused(why) = test_image(image, nodes.len(), colours.len()) else {
-            load(nodes, colours, image);
+        let Checked::Refused(why) = test_image(image, nodes, narrow, colours.len()) else {
+            load(nodes, narrow, colours, image);
             return Built::Done(Map {
                 count: count_in(image),
                 root: root_in(image),

@@ -6,6 +6,7 @@ use words::node::Entry;
 use words::node::entry_of;
 use words::refusal::Refusal;
 ghost use mathlib.Core.Path.{_≡_};
+ghost use Rattle.words.specs.Layouts.{asEight};
 ghost use Rattle.iset.specs.Check.{checkNumber};
 ghost use Rattle.iset.specs.Ticket.{ticketOf, age, ticketNumber, openReadNumber, readAnswer, openReadCall, readCall};
 
@@ -50,10 +51,10 @@ impl Map {
     }
 
     // The first refusal of a reading in an opened store (see lib.rt).
-    fn test_read(self, nodes: &[u64], colours: &[u8], ticket: Ticket) -> Checked
-        ensures { λ r. ⌜ checkNumber r ≡ openReadNumber self (now (nodes .entry)) (now (colours .entry)) ticket ⌝ }
+    fn test_read(self, nodes: &[u64], narrow: bool, colours: &[u8], ticket: Ticket) -> Checked
+        ensures { λ r. ⌜ checkNumber r ≡ openReadNumber self (asEight narrow (now (nodes .entry))) (now (colours .entry)) ticket ⌝ }
     {
-        let checked = self.test_count(nodes, colours);
+        let checked = self.test_count(nodes, narrow, colours);
         let Checked::Sound = checked else {
             return checked;
         };
@@ -61,11 +62,17 @@ impl Map {
     }
 
     // `read` for an opened store.
-    pub fn open_read(self, nodes: &[u64], colours: &[u8], ticket: Ticket) -> Reading
-        ensures { λ r. ⌜ readAnswer r ≡ openReadCall self (now (nodes .entry)) (now (colours .entry)) ticket ⌝ }
+    pub fn open_read_in(
+        self,
+        nodes: &[u64],
+        narrow: bool,
+        colours: &[u8],
+        ticket: Ticket,
+    ) -> Reading
+        ensures { λ r. ⌜ readAnswer r ≡ openReadCall self (asEight narrow (now (nodes .entry))) (now (colours .entry)) ticket ⌝ }
     {
-        let Checked::Refused(why) = self.test_read(nodes, colours, ticket) else {
-            return Reading::Done(entry_of(nodes, ticket.slot));
+        let Checked::Refused(why) = self.test_read(nodes, narrow, colours, ticket) else {
+            return Reading::Done(entry_of(nodes, narrow, ticket.slot));
         };
         Reading::Refused(why)
     }
@@ -73,11 +80,11 @@ impl Map {
     // Returns the entry of a ticket's slot. The ticket is refused as Stale if the map has changed
     // at least once, and fewer than 2^32 times, since it was taken. After exactly 2^32 changes it
     // can pass.
-    pub fn read(self, nodes: &[u64], colours: &[u8], ticket: Ticket) -> Reading
-        ensures { λ r. ⌜ readAnswer r ≡ readCall self (now (nodes .entry)) (now (colours .entry)) ticket ⌝ }
+    pub fn read_in(self, nodes: &[u64], narrow: bool, colours: &[u8], ticket: Ticket) -> Reading
+        ensures { λ r. ⌜ readAnswer r ≡ readCall self (asEight narrow (now (nodes .entry))) (now (colours .entry)) ticket ⌝ }
     {
-        let Checked::Refused(why) = self.check(nodes, colours) else {
-            return self.open_read(nodes, colours, ticket);
+        let Checked::Refused(why) = self.check_in(nodes, narrow, colours) else {
+            return self.open_read_in(nodes, narrow, colours, ticket);
         };
         Reading::Refused(why)
     }

@@ -1,20 +1,12 @@
-use Rattle.iset.specs.Build.{buildCall}
-use Rattle.iset.proofs.Laws.{let-through, turned-away, refused-build, done-build, built-few, built-list, built-words, built-bytes}
+use Rattle.words.specs.Layouts.{asEight}
 use borrow.Author.Needs.{needs}
 use Rattle.iset.proofs.Map.build.Statement.{statement}
 use Rattle.iset.proofs.Map.build.Tie as tie
 
 pub build-spec : {M : Type 1} → statement M
-unfolding buildCall
+unfolding asEight
 build-spec =
     tie.close
     (tie.spec
     (λ c κs. search needs)
-    (λ c. search needs)
-    (λ c. search needs)
-    (λ c κs. (search built-few, search built-list, search built-words, search built-bytes))
-    (λ c κs. search needs)
-    (λ c. search needs)
-    (λ c. search needs)
-    (λ c. search (let-through, done-build))
-    (λ c. search (turned-away, refused-build)))
+    (λ c. search needs))

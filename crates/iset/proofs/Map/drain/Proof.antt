@@ -1,16 +1,12 @@
-use Rattle.iset.proofs.Opened.{drain-through, drain-away}
+use Rattle.words.specs.Layouts.{asEight}
 use borrow.Author.Needs.{needs}
 use Rattle.iset.proofs.Map.drain.Statement.{statement}
 use Rattle.iset.proofs.Map.drain.Tie as tie
 
 pub drain-spec : {M : Type 1} → statement M
+unfolding asEight
 drain-spec =
     tie.close
     (tie.spec
     (λ c κs. search needs)
-    (λ c. search needs)
-    (λ c. search needs)
-    (λ c κs. search needs)
-    (λ c. search needs)
-    (λ c. search drain-through)
-    (λ c. search drain-away))
+    (λ c. search needs))

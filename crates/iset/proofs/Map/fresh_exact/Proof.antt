@@ -1,15 +1,12 @@
-use Rattle.iset.proofs.Opened.{start-through, start-away}
+use Rattle.words.specs.Layouts.{asEight}
 use borrow.Author.Needs.{needs}
 use Rattle.iset.proofs.Map.fresh_exact.Statement.{statement}
 use Rattle.iset.proofs.Map.fresh_exact.Tie as tie
 
 pub fresh-exact-spec : {M : Type 1} → statement M
+unfolding asEight
 fresh-exact-spec =
     tie.close
     (tie.spec
     (λ c κs. search needs)
-    (λ c. search needs)
-    (λ c. search needs)
-    (λ c κs. search needs)
-    (λ c. search start-through)
-    (λ c. search start-away))
+    (λ c. search needs))

@@ -1,20 +1,12 @@
-use Rattle.iset.proofs.Laws.{let-through, turned-away}
-use Rattle.iset.proofs.AtOnces.{tally-is, refused-tally}
-use Rattle.iset.proofs.Lookups.{start-words}
-use Rattle.iset.specs.Find.{openFindAllCall}
+use Rattle.words.specs.Layouts.{asEight}
 use borrow.Author.Needs.{needs}
 use Rattle.iset.proofs.Map.open_find_all.Statement.{statement}
 use Rattle.iset.proofs.Map.open_find_all.Tie as tie
 
 pub open-find-all-spec : {M : Type 1} → statement M
-unfolding openFindAllCall
+unfolding asEight
 open-find-all-spec =
     tie.close
     (tie.spec
     (λ c κs. search needs)
-    (λ c. search needs)
-    (λ c. search needs)
-    (λ c κs. search start-words)
-    (λ c. search needs)
-    (λ c. search (let-through, tally-is))
-    (λ c. search (turned-away, refused-tally)))
+    (λ c. search needs))

@@ -1,21 +1,12 @@
-use Rattle.iset.proofs.Laws.{insertable-words, insertable-bytes, let-through, turned-away, refused-insertion}
-use Rattle.iset.specs.Insert.{openInsertCall}
+use Rattle.words.specs.Layouts.{asEight}
 use borrow.Author.Needs.{needs}
 use Rattle.iset.proofs.Map.open_insert.Statement.{statement}
 use Rattle.iset.proofs.Map.open_insert.Tie as tie
 
 pub open-insert-spec : {M : Type 1} → statement M
-unfolding openInsertCall
+unfolding asEight
 open-insert-spec =
     tie.close
     (tie.spec
     (λ c κs. search needs)
-    (λ c. search needs)
-    (λ c. search needs)
-    (λ c κs. (search insertable-words, search insertable-bytes))
-    (λ c. search needs)
-    (λ c. search needs)
-    (λ c. search let-through)
-    (λ c. search needs)
-    (λ c. search needs)
-    (λ c. search (turned-away, refused-insertion)))
+    (λ c. search needs))

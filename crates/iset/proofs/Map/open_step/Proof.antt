@@ -1,12 +1,12 @@
-use Rattle.iset.proofs.Laws.{let-through, turned-away}
-use Rattle.iset.proofs.Lookups.{step-words, step-few, step-placed, step-is, refused-step}
-use Rattle.iset.specs.Lookup.{openStepCall}
+use Rattle.words.specs.Layouts.{asEight}
 use borrow.Author.Needs.{needs}
 use Rattle.iset.proofs.Map.open_step.Statement.{statement}
 use Rattle.iset.proofs.Map.open_step.Tie as tie
 
 pub open-step-spec : {M : Type 1} → statement M
-unfolding openStepCall
+unfolding asEight
 open-step-spec =
     tie.close
-    (tie.spec (λ c κs. search needs) (λ c. search needs) (λ c. search needs) (λ c κs. (search step-words, search step-few, search step-placed)) (λ c. search (let-through, step-is)) (λ c. search (turned-away, refused-step)))
+    (tie.spec
+    (λ c κs. search needs)
+    (λ c. search needs))

@@ -1,17 +1,12 @@
-use Rattle.iset.proofs.Images.{write-few, write-short, write-words, write-bits, write-places, image-written, image-refused}
+use Rattle.words.specs.Layouts.{asEight}
 use borrow.Author.Needs.{needs}
 use Rattle.iset.proofs.Map.open_write_image.Statement.{statement}
 use Rattle.iset.proofs.Map.open_write_image.Tie as tie
 
 pub open-write-image-spec : {M : Type 1} → statement M
+unfolding asEight
 open-write-image-spec =
     tie.close
     (tie.spec
     (λ c κs. search needs)
-    (λ c. search needs)
-    (λ c. search needs)
-    (λ c κs. (search write-few, search write-words, search write-bits, search write-places))
-    (λ c κs. search write-short)
-    (λ c. search needs)
-    (λ c. search image-written)
-    (λ c. search image-refused))
+    (λ c. search needs))

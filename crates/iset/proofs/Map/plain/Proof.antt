@@ -1,16 +1,12 @@
-use Rattle.iset.proofs.Opened.{plain-through, plain-away}
+use Rattle.words.specs.Layouts.{asEight}
 use borrow.Author.Needs.{needs}
 use Rattle.iset.proofs.Map.plain.Statement.{statement}
 use Rattle.iset.proofs.Map.plain.Tie as tie
 
 pub plain-spec : {M : Type 1} → statement M
+unfolding asEight
 plain-spec =
     tie.close
     (tie.spec
     (λ c κs. search needs)
-    (λ c. search needs)
-    (λ c. search needs)
-    (λ c κs. search needs)
-    (λ c. search needs)
-    (λ c. search plain-through)
-    (λ c. search plain-away))
+    (λ c. search needs))

@@ -1,23 +1,12 @@
-use Rattle.iset.specs.Image.{readImageCall}
-use Rattle.iset.proofs.Laws.{let-through, turned-away, refused-build, done-build}
-use Rattle.iset.proofs.Images.{read-laid, read-few, read-words, read-bits}
+use Rattle.words.specs.Layouts.{asEight}
 use borrow.Author.Needs.{needs}
 use Rattle.iset.proofs.Map.read_image.Statement.{statement}
 use Rattle.iset.proofs.Map.read_image.Tie as tie
 
 pub read-image-spec : {M : Type 1} → statement M
-unfolding readImageCall
+unfolding asEight
 read-image-spec =
     tie.close
     (tie.spec
     (λ c κs. search needs)
-    (λ c. search needs)
-    (λ c. search needs)
-    (λ c κs. (search read-laid, search read-few, search read-words, search read-bits))
-    (λ c κs. search read-laid)
-    (λ c κs. search read-laid)
-    (λ c κs. search needs)
-    (λ c. search needs)
-    (λ c. search needs)
-    (λ c. search (let-through, done-build))
-    (λ c. search (turned-away, refused-build)))
+    (λ c. search needs))

@@ -1,15 +1,12 @@
-use Rattle.iset.proofs.Opened.{step-through, step-away}
+use Rattle.words.specs.Layouts.{asEight}
 use borrow.Author.Needs.{needs}
 use Rattle.iset.proofs.Map.step.Statement.{statement}
 use Rattle.iset.proofs.Map.step.Tie as tie
 
 pub step-spec : {M : Type 1} → statement M
+unfolding asEight
 step-spec =
     tie.close
     (tie.spec
     (λ c κs. search needs)
-    (λ c. search needs)
-    (λ c. search needs)
-    (λ c κs. search needs)
-    (λ c. search step-through)
-    (λ c. search step-away))
+    (λ c. search needs))

@@ -1,3 +1,4 @@
+use Rattle.iset.proofs.Layouts.{capacity-same}
 use Rattle.iset.proofs.Laws.{over-room, in-room}
 use Rattle.iset.specs.Check.{countNumber}
 use borrow.Author.Needs.{needs}
@@ -10,5 +11,5 @@ test-count-spec =
     tie.close
     (tie.spec
     (λ c κs. search needs)
-    (λ c. search over-room)
-    (λ c. search in-room))
+    (λ c. search (over-room, capacity-same))
+    (λ c. search (in-room, capacity-same)))

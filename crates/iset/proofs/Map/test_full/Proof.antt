@@ -1,3 +1,4 @@
+use Rattle.iset.proofs.Layouts.{capacity-same}
 use Rattle.iset.proofs.Laws.{has-room, is-full}
 use Rattle.iset.specs.Insert.{fullNumber}
 use borrow.Author.Needs.{needs}
@@ -10,5 +11,5 @@ test-full-spec =
     tie.close
     (tie.spec
     (λ c κs. search needs)
-    (λ c. search has-room)
-    (λ c. search is-full))
+    (λ c. search (has-room, capacity-same))
+    (λ c. search (is-full, capacity-same)))

@@ -1,5 +1,6 @@
 use Rattle.words.proofs.Tests.{equal, passed, picked, unequal}
 use Rattle.iset.specs.Build.{buildNumber}
+use Rattle.iset.proofs.Layouts.{capacity-same}
 use Rattle.iset.proofs.Laws.{over-room, in-room, tested}
 use borrow.Author.Needs.{needs}
 use Rattle.iset.proofs.build.test_list.Statement.{statement}
@@ -12,9 +13,9 @@ test-list-spec =
     (tie.spec
     (λ c. search unequal)
     (λ c κs. search needs)
-    (λ c. search (equal, over-room))
+    (λ c. search (equal, over-room, capacity-same))
     (λ c κs. search needs)
     (λ c κs. search needs)
     (λ c κs. search needs)
-    (λ c. search (equal, in-room, picked, tested))
-    (λ c. search (equal, in-room, passed)))
+    (λ c. search (equal, in-room, capacity-same, picked, tested))
+    (λ c. search (equal, in-room, capacity-same, passed)))

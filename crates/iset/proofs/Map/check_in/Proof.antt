@@ -1,0 +1,17 @@
+use Rattle.iset.proofs.Layouts.{capacity-same}
+use Rattle.iset.proofs.Laws.{over-room, in-room, tested}
+use Rattle.iset.specs.Check.{checkRule}
+use borrow.Author.Needs.{needs}
+use Rattle.iset.proofs.Map.check_in.Statement.{statement}
+use Rattle.iset.proofs.Map.check_in.Tie as tie
+
+pub check-in-spec : {M : Type 1} → statement M
+unfolding checkRule
+check-in-spec =
+    tie.close
+    (tie.spec
+    (λ c κs. search needs)
+    (λ c. search (over-room, capacity-same))
+    (λ c κs. search needs)
+    (λ c κs. search needs)
+    (λ c. search (in-room, capacity-same, tested)))
