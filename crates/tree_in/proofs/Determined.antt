@@ -1,4 +1,5 @@
--- What an insertion promises determines its answer and every word that it was lent.
+-- What an insertion promises determines its answer and every word that it was lent, in either
+-- layout.
 use mathlib.Core.Path.{_≡_}
 use contract.Lifetimes.{Lfts}
 use borrow.Fn.Kinds as K
@@ -9,5 +10,5 @@ use Rattle.tree_in.proofs.force_insert.Reads as reads
 use Rattle.tree_in.proofs.force_insert.Kinds as kinds
 
 pub force-insert-determined : (κs : Lfts 2) (a : K.Dens κs kinds.ps) (r r′ : K.resT kinds.r κs .Denot) (s s′ : AtExit (K.endedOf 2 kinds.ps kinds.r) κs)
-    → reads.Post κs a r s → reads.Post κs a r′ s′ → (r ≡ r′) × (now (s .0) ≡ now (s′ .0)) × (now (s .1 .0) ≡ now (s′ .1 .0))
-force-insert-determined κs a r r′ s s′ p q = repaired-told _ _ _ _ _ _ r r′ (p .0) (q .0) (p .1) (q .1)
+    → reads.Post κs a r s → reads.Post κs a r′ s′ → (r ≡ r′) × (now (s .0) ≡ now (s′ .0)) × (now (s .1 .1 .0) ≡ now (s′ .1 .1 .0))
+force-insert-determined κs a r r′ s s′ p q = repaired-told (a .1 .0) _ _ _ _ _ _ r r′ (p .0) (q .0) (p .1) (q .1)

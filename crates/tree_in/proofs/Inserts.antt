@@ -5,6 +5,8 @@ use mathlib.Core.List.{List}
 use Prim.Native.Nat.{ℕ, zero, suc, _+_, _-_, _*_, _<_, _≤_}
 use native.Mathlib.Omega.{arith}
 use native.Mathlib.Numerals.{sub-one}
+use Rattle.words.specs.Layouts.{kidFits, Held}
+use Rattle.words.proofs.Layouts.{slot-fits}
 use Rattle.words.specs.Ix.{U, linkOf}
 use Rattle.words.specs.Nodes.{kid, putKid, putNode}
 use Rattle.words.specs.declared.interval.Interval.{Interval}
@@ -46,12 +48,16 @@ module _ (n : ℕ) (W : List ℕ) (x : Interval) (t k : ℕ) where
   down-none (suc h) e z = absurd (omega arith)
 
 -- the slot above has room in words with room for one node more
-module _ (n w s a : ℕ) (l : Link) (e : l ≡ linkOf n w) (q : l ≡ Slot s) (h : n * 8 + 8 ≤ a) where
-  pub room-above : s * 8 + 8 ≤ a
-  room-above = omega (arith, slot-live n w s l e q)
+module _ (narrow : Bool) (n w s a : ℕ) (l : Link) (e : l ≡ linkOf n w) (q : l ≡ Slot s) (h : Held narrow (n + 1) a) where
+  pub room-above : Held narrow (s + 1) a
+  room-above = let z : s < n = slot-live n w s l e q in omega arith
 
-  pub room-then : (b : ℕ) → b ≡ a → s * 8 + 8 ≤ b
-  room-then b i = omega (arith, slot-live n w s l e q)
+  pub room-then : (b : ℕ) → b ≡ a → Held narrow (s + 1) b
+  room-then b i = let z : s < n = slot-live n w s l e q in omega arith
+
+-- the new slot fits in a child link
+pub next-kid : (narrow : Bool) (n a : ℕ) → Held narrow (n + 1) a → kidFits narrow n ≡ true
+next-kid narrow n a h = slot-fits narrow n (omega arith)
 
 -- the new node
 pub node-is : (W X : List ℕ) (n : ℕ) (e : Entry) (i : Interval) (p : ℕ) → i ≡ own e → X ≡ putNode W n e i U U p → X ≡ hungNode W n e p

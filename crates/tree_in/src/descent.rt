@@ -5,8 +5,9 @@ use words::ix::U;
 use words::node::child_of;
 use words::node::interval_of;
 ghost use mathlib.Core.Path.{_≡_};
+ghost use mathlib.Core.Bool.{true};
 ghost use Prim.Native.Nat.{_<_};
-ghost use Rattle.words.specs.Layouts.{asEight, HoldsIn, HasIn};
+ghost use Rattle.words.specs.Layouts.{asEight, upFits, HoldsIn, HasIn};
 ghost use Rattle.words.specs.Nodes.{kid};
 ghost use Rattle.tree_in_rule.specs.Descent.{goesLeft, descend, under};
 
@@ -30,7 +31,7 @@ fn next_down(nodes: &[u64], narrow: bool, interval: Interval, k: u64) -> u64
 // of crate audit that slot has no child on the side that the new interval goes to.
 fn last_down(nodes: &[u64], narrow: bool, count: u64, top: u64, interval: Interval) -> u64
     requires { ⌜ HoldsIn narrow (now nodes) count × (top < count) ⌝ }
-    ensures { λ r. ⌜ r ≡ descend count 32 (asEight narrow (now (nodes .entry))) interval top ⌝ }
+    ensures { λ r. ⌜ (r ≡ descend count 32 (asEight narrow (now (nodes .entry))) interval top) × (r < count) ⌝ }
 {
     let mut current = top;
     let mut height: u64 = 32;
@@ -53,7 +54,7 @@ pub(crate) fn insert_inner(
     interval: Interval,
 ) -> u64
     requires { ⌜ HoldsIn narrow (now nodes) count ⌝ }
-    ensures { λ r. ⌜ r ≡ under count (asEight narrow (now (nodes .entry))) root interval ⌝ }
+    ensures { λ r. ⌜ (r ≡ under count (asEight narrow (now (nodes .entry))) root interval) × (upFits narrow r ≡ true) ⌝ }
 {
     let Link::Slot(top) = Link::new(root, count) else {
         return U;

@@ -17,8 +17,9 @@ use words::node::Entry;
 use words::node::put_child;
 use words::node::put_node;
 ghost use mathlib.Core.Path.{_≡_};
+ghost use mathlib.Core.Bool.{true};
 ghost use Prim.Native.Nat.{_+_};
-ghost use Rattle.words.specs.Layouts.{asEight, HasIn};
+ghost use Rattle.words.specs.Layouts.{asEight, upFits, HasIn};
 ghost use Rattle.tree_edit.specs.Store.{store};
 ghost use Rattle.tree_edit.specs.Reach.{changes};
 ghost use Rattle.tree_in_rule.specs.Insert.{own, hungNode, hungWords, hungRoot, hung, insertAt, insertRule};
@@ -38,7 +39,7 @@ fn interval_in(entry: Entry) -> Interval
 // Writes a new node to slot `index`, below the link word `parent`. Its hull is its own interval at
 // first. The hull of a node is the least interval that contains the intervals of its subtree.
 fn new_node(nodes: &mut [u64], narrow: bool, index: u64, entry: Entry, parent: u64)
-    requires { ⌜ HasIn narrow (now nodes) index ⌝ }
+    requires { ⌜ HasIn narrow (now nodes) index × (upFits narrow parent ≡ true) ⌝ }
     ensures { λ _. ⌜ asEight narrow (now (nodes .exit)) ≡ hungNode (asEight narrow (now (nodes .entry))) index entry parent ⌝ }
 {
     let interval = interval_in(entry);
@@ -55,7 +56,7 @@ fn hang_node(
     entry: Entry,
     parent: u64,
 ) -> u64
-    requires { ⌜ HasIn narrow (now nodes) count ⌝ }
+    requires { ⌜ HasIn narrow (now nodes) count × (upFits narrow parent ≡ true) ⌝ }
     ensures { λ r. ⌜ (r ≡ hungRoot count root parent) × (asEight narrow (now (nodes .exit)) ≡ hungWords (asEight narrow (now (nodes .entry))) count entry parent) ⌝ }
 {
     let Link::Slot(above) = Link::new(parent, count) else {
@@ -78,7 +79,7 @@ fn hang_red(
     entry: Entry,
     parent: u64,
 ) -> u64
-    requires { ⌜ HasIn narrow (now nodes) count × HasBit (now colours) count ⌝ }
+    requires { ⌜ HasIn narrow (now nodes) count × HasBit (now colours) count × (upFits narrow parent ≡ true) ⌝ }
     ensures { λ r. ⌜ store (asEight narrow (now (nodes .exit))) (now (colours .exit)) r ≡ hung (asEight narrow (now (nodes .entry))) (now (colours .entry)) count root entry parent ⌝ }
 {
     set_red(colours, count);
@@ -96,7 +97,7 @@ fn insert_at(
     entry: Entry,
     parent: u64,
 ) -> Repaired
-    requires { ⌜ HasIn narrow (now nodes) count × HasBit (now colours) count ⌝ }
+    requires { ⌜ HasIn narrow (now nodes) count × HasBit (now colours) count × (upFits narrow parent ≡ true) ⌝ }
     ensures { λ r. ⌜ (store (asEight narrow (now (nodes .exit))) (now (colours .exit)) (r .root) ≡ insertAt (asEight narrow (now (nodes .entry))) (now (colours .entry)) count root entry parent)
         × (r .reach ≡ changes (count + 1) (insertAtHulls (asEight narrow (now (nodes .entry))) (now (colours .entry)) count root entry parent)) ⌝ }
 {

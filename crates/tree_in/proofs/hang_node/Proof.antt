@@ -1,4 +1,4 @@
-use Rattle.tree_in.proofs.Inserts.{hung-words, room-above, room-then}
+use Rattle.tree_in.proofs.Inserts.{hung-words, room-above, room-then, next-kid}
 use Rattle.tree_in_rule.specs.Insert.{hungRoot, hungWords}
 use Rattle.words.proofs.Laws.{linked, unlinked}
 use borrow.Author.Needs.{needs}
@@ -19,6 +19,6 @@ hang-node-spec =
     (λ c κs. search needs)
     (λ c κs. search room-above)
     (λ c κs. search needs)
-    (λ c κs. search room-then)
+    (λ c κs. (search room-then, search next-kid))
     (λ c. search needs)
     (λ c. (search linked, search hung-words)))

@@ -1,4 +1,6 @@
 use Rattle.tree_in.proofs.Inserts.{node-is}
+use Rattle.words.proofs.Layouts.{none-fits}
+use native.Mathlib.Omega.{arith}
 use borrow.Author.Needs.{needs}
 use Rattle.tree_in.proofs.new_node.Statement.{statement}
 use Rattle.tree_in.proofs.new_node.Tie as tie
@@ -8,6 +10,6 @@ new-node-spec =
     tie.close
     (tie.spec
     (λ c κs. search needs)
-    (λ c κs. search needs)
+    (λ c κs. (omega arith, search none-fits, search none-fits, search needs))
     (λ c. search needs)
     (λ c. search node-is))

@@ -1,5 +1,6 @@
 use Rattle.tree_in.proofs.Inserts.{down-ends, down-none, down-on}
 use Rattle.tree_in_rule.specs.Descent.{descend}
+use Rattle.words.specs.Layouts.{asEight}
 use Rattle.words.proofs.Laws.{slot-live}
 use Prim.Native.Nat.{_<_}
 use mathlib.Core.Path.{_≡_, refl}
@@ -9,10 +10,11 @@ use Rattle.tree_in.proofs.descent.last_down.Statement.{statement}
 use Rattle.tree_in.proofs.descent.last_down.Tie as tie
 
 abbrev Inv-loop : tie.InvT-loop
-Inv-loop nodes count top interval current₀ height₀ current height = (descend count 32 nodes interval top ≡ descend count height nodes interval current) × (current < count)
+Inv-loop nodes narrow count top interval current₀ height₀ current height =
+    (descend count 32 (asEight narrow nodes) interval top ≡ descend count height (asEight narrow nodes) interval current) × (current < count)
 
 abbrev μ-loop : tie.MeasureT-loop
-μ-loop nodes count top interval current₀ height₀ current height = height
+μ-loop nodes narrow count top interval current₀ height₀ current height = height
 
 pub last-down-spec : {M : Type 1} → statement M
 last-down-spec =
@@ -25,8 +27,8 @@ last-down-spec =
     (λ c κs. search needs)
     (λ c. search needs)
     (λ c. search needs)
-    (λ c. search down-ends)
+    (λ c. (search down-ends, omega arith))
     (λ c. omega arith)
     (λ c. omega arith)
     (λ c. (search down-on, search slot-live))
-    (λ c. search down-none))
+    (λ c. (search down-none, omega arith)))

@@ -1,4 +1,5 @@
 use Rattle.tree_in.proofs.InsertRounds.{insert-stays}
+use Rattle.words.specs.Layouts.{asEight}
 use Rattle.tree_in_rule.specs.InsertRepair.{insertRepair, insertRound}
 use Rattle.tree_in_rule.specs.Reach.{insertRepairHulls, insertRoundHulls}
 use Rattle.tree_edit.specs.Reach.{changes}
@@ -13,10 +14,14 @@ use Rattle.tree_in.proofs.repair.insert_repair.Tie as tie
 use Rattle.tree_in_rule.proofs.Reached.{insertRound-le}
 
 abbrev Inv-loop : tie.InvT-loop
-Inv-loop nodes₀ colours₀ count root index at₀ top₀ reach₀ rounds₀ nodes colours at top reach rounds = (insertRepair count 32 nodes₀ colours₀ root index ≡ insertRepair count rounds nodes colours top at) × (length nodes ≡ length nodes₀) × (length colours ≡ length colours₀) × (at < count) × (changes count (insertRepairHulls count 32 nodes₀ colours₀ root index) ≡ reach + changes count (insertRepairHulls count rounds nodes colours top at)) × (reach + 4 * rounds ≤ 144)
+Inv-loop nodes₀ narrow colours₀ count root index at₀ top₀ reach₀ rounds₀ nodes colours at top reach rounds =
+    (insertRepair count 32 (asEight narrow nodes₀) colours₀ root index ≡ insertRepair count rounds (asEight narrow nodes) colours top at)
+    × (length nodes ≡ length nodes₀) × (length colours ≡ length colours₀) × (at < count)
+    × (changes count (insertRepairHulls count 32 (asEight narrow nodes₀) colours₀ root index)
+    ≡ reach + changes count (insertRepairHulls count rounds (asEight narrow nodes) colours top at)) × (reach + 4 * rounds ≤ 144)
 
 abbrev μ-loop : tie.MeasureT-loop
-μ-loop nodes₀ colours₀ count root index at₀ top₀ reach₀ rounds₀ nodes colours at top reach rounds = rounds
+μ-loop nodes₀ narrow colours₀ count root index at₀ top₀ reach₀ rounds₀ nodes colours at top reach rounds = rounds
 
 pub insert-repair-spec : {M : Type 1} → statement M
 insert-repair-spec =
