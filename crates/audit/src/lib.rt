@@ -227,17 +227,9 @@ fn survey_at(
     let x = node_at(nodes, narrow, colours, link);
     if is_tied(x, parent) {
         let own = x.interval;
-        let l = below(nodes, narrow, colours, count, x.left, link, own, height - 1);
-        let r = below(
-            nodes,
-            narrow,
-            colours,
-            count,
-            x.right,
-            link,
-            own,
-            height - 1,
-        );
+        let rest = height - 1;
+        let l = below(nodes, narrow, colours, count, x.left, link, own, rest);
+        let r = below(nodes, narrow, colours, count, x.right, link, own, rest);
         combine(x, l, r)
     } else {
         no_nodes(false, above)

@@ -1,4 +1,5 @@
 pub mod Spans
 pub mod Levels
 pub mod Parts
+pub mod Layouts
 pub mod Tests

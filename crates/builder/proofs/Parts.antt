@@ -29,20 +29,20 @@ put-node-is W s e h left right up room =
     q ∙ sets-eq w W (s * 8) room ∙ append-assoc (take (s * 8) W) w (drop (s * 8 + 8) W)
 
 -- the part of a list from k on, as it is lent
-abbrev rest : List ℕ → ℕ → List ℕ
+abbrev pub rest : List ℕ → ℕ → List ℕ
 rest l k = take (length l - k) (drop k l)
 
-rest-is : (l : List ℕ) (k : ℕ) → rest l k ≡ drop k l
+pub rest-is : (l : List ℕ) (k : ℕ) → rest l k ≡ drop k l
 rest-is l k = take-all (length l - k) (drop k l) (simp length-drop (omega arith))
 
 length-rest : (l : List ℕ) (k : ℕ) → length (rest l k) ≡ length l - k
 length-rest l k = ap length (rest-is l k) ∙ length-drop k l
 
 -- the words w, whose first m slots came back as x; and then those after slot m as y
-abbrev back : List ℕ → ℕ → List ℕ → List ℕ
+abbrev pub back : List ℕ → ℕ → List ℕ → List ℕ
 back w m x = x ++ drop (m * 8) w
 
-abbrev back-both : List ℕ → ℕ → List ℕ → List ℕ → List ℕ
+abbrev pub back-both : List ℕ → ℕ → List ℕ → List ℕ → List ℕ
 back-both w m x y = take ((m + 1) * 8) (back w m x) ++ (y ++ drop (length (back w m x) - (m + 1) * 8) (drop ((m + 1) * 8) (back w m x)))
 
 module _ (w : List ℕ) (m : ℕ) (x y : List ℕ) (room : Holds w (m + 1)) (kx : length x ≡ length (take (m * 8) w))
@@ -86,7 +86,7 @@ lowest zero = refl
 lowest (suc g) = rw (ne-eqb (suc (suc g)) 1 (omega arith), ne-eqb (suc g) 0 (omega arith))
 
 -- how many slots are left of a span's root
-abbrev half : ℕ → ℕ → ℕ
+abbrev pub half : ℕ → ℕ → ℕ
 half a b = (b - a) / 2
 
 -- A span with a root has a level; its halves are spans of one level less. The bytes D, and then E,

@@ -8,12 +8,13 @@ use crate::list::interval_at;
 use bitvec::put_bit;
 use words::interval::Interval;
 use words::ix::U;
-use words::node::NODE_WORDS;
 use words::node::put_node;
+use words::node::words_of;
 ghost use mathlib.Core.Path.{_≡_};
+ghost use mathlib.Core.Bool.{true};
 ghost use Prim.Native.Nat.{_+_, _*_, _-_, _/_, _≤_, _<_};
 ghost use lib.ListN.{length};
-ghost use Rattle.words.specs.Layouts.{asEight, HoldsIn};
+ghost use Rattle.words.specs.Layouts.{asEight, upFits, HoldsIn};
 ghost use Rattle.words.specs.Nodes.{putNode, HoldsBits, wordsOf};
 ghost use Rattle.builder.specs.Input.{entryOf};
 ghost use Rattle.builder.specs.Build.{center, rootOf, spanHull, spanWords, painted, log, levels, buildWords, buildColours, buildRoot, Lent};
@@ -63,8 +64,9 @@ fn put_root(
     parent: u64,
     hull: Interval,
 )
-    requires { ⌜ (end * 3 ≤ length (now list)) × (length (now nodes) ≡ wordsOf (end - start)) × (start < end) ⌝ }
-    ensures { λ _. ⌜ now (nodes .exit)
+    requires { ⌜ (end * 3 ≤ length (now list)) × (length (asEight narrow (now nodes)) ≡ wordsOf (end - start)) × (start < end)
+        × (end ≤ 65535) × (upFits narrow parent ≡ true) ⌝ }
+    ensures { λ _. ⌜ asEight narrow (now (nodes .exit))
         ≡ putNode (asEight narrow (now (nodes .entry))) ((end - start) / 2) (entryOf (now (list .entry)) (center start end)) hull
         (rootOf start (center start end)) (rootOf (center start end + 1) end) parent ⌝ }
 {
@@ -76,7 +78,7 @@ fn put_root(
     put_node(nodes, narrow, half as u64, entry, hull, left, right, parent);
 }
 
-// Writes the only slot of a span, whose words are `nodes`. Returns `so_far`, extended by the slot's
+// Writes the only slot of a span, whose words are `nodes`. Returns `seen`, extended by the slot's
 // interval.
 fn put_leaf(
     list: &[u64],
@@ -86,22 +88,22 @@ fn put_leaf(
     slot: usize,
     rev_depth: u64,
     parent: u64,
-    so_far: Interval,
+    seen: Interval,
 ) -> Interval
-    requires { ⌜ Lent (now list) (now nodes) (now colours) slot (slot + 1) «rev_depth» ⌝ }
-    ensures { λ r. ⌜ (r ≡ spanHull (now (list .entry)) «rev_depth» slot (slot + 1) «so_far»)
+    requires { ⌜ Lent (now list) (asEight narrow (now nodes)) (now colours) slot (slot + 1) «rev_depth» × (upFits narrow parent ≡ true) ⌝ }
+    ensures { λ r. ⌜ (r ≡ spanHull (now (list .entry)) «rev_depth» slot (slot + 1) seen)
         × (asEight narrow (now (nodes .exit)) ≡ spanWords (now (list .entry)) «rev_depth» slot (slot + 1) parent)
         × (now (colours .exit) ≡ painted «rev_depth» (now (colours .entry)) slot (slot + 1)) ⌝ }
 {
     let own = interval_at(list, slot);
     put_bit(colours, slot, rev_depth == 1);
     put_node(nodes, narrow, 0, entry_at(list, slot), own, U, U, parent);
-    so_far.extend(own)
+    seen.extend(own)
 }
 
 // Initializes the slots [start, end), whose words are `nodes`, below `parent`. `rev_depth` is the
 // inverse depth: it is highest in the top call, and 1 at the lowest level, which is red. Returns
-// `so_far`, extended by the intervals of these slots.
+// `seen`, extended by the intervals of these slots.
 fn init_from_sorted(
     list: &[u64],
     nodes: &mut [u64],
@@ -111,27 +113,18 @@ fn init_from_sorted(
     end: usize,
     rev_depth: u64,
     parent: u64,
-    so_far: Interval,
+    seen: Interval,
 ) -> Interval
-    requires { ⌜ Lent (now list) (now nodes) (now colours) start end «rev_depth» ⌝ }
-    ensures { λ r. ⌜ (r ≡ spanHull (now (list .entry)) «rev_depth» start end «so_far»)
+    requires { ⌜ Lent (now list) (asEight narrow (now nodes)) (now colours) start end «rev_depth» × (end ≤ 65535) × (upFits narrow parent ≡ true) ⌝ }
+    ensures { λ r. ⌜ (r ≡ spanHull (now (list .entry)) «rev_depth» start end seen)
         × (asEight narrow (now (nodes .exit)) ≡ spanWords (now (list .entry)) «rev_depth» start end parent)
         × (now (colours .exit) ≡ painted «rev_depth» (now (colours .entry)) start end) ⌝ }
 {
     if end <= start {
-        return so_far;
+        return seen;
     }
     if end - start == 1 {
-        return put_leaf(
-            list,
-            nodes,
-            narrow,
-            colours,
-            start,
-            rev_depth,
-            parent,
-            so_far,
-        );
+        return put_leaf(list, nodes, narrow, colours, start, rev_depth, parent, seen);
     }
     let half = (end - start) / 2;
     let center = start + half;
@@ -139,7 +132,8 @@ fn init_from_sorted(
     put_bit(colours, center, rev_depth == 1);
     let left = init_from_sorted(
         list,
-        &mut nodes[..half * NODE_WORDS],
+        &mut nodes[..words_of(half, narrow)],
+        narrow,
         colours,
         start,
         center,
@@ -149,7 +143,8 @@ fn init_from_sorted(
     );
     let hull = init_from_sorted(
         list,
-        &mut nodes[(half + 1) * NODE_WORDS..],
+        &mut nodes[words_of(half + 1, narrow)..],
+        narrow,
         colours,
         center + 1,
         end,
@@ -158,7 +153,7 @@ fn init_from_sorted(
         left,
     );
     put_root(list, nodes, narrow, start, end, parent, hull);
-    so_far.extend(hull)
+    seen.extend(hull)
 }
 
 // Builds the store of the first n triples of the list. Returns its root. Slots and colour bits from
@@ -170,14 +165,15 @@ pub fn from_sorted(
     colours: &mut [u8],
     n: usize,
 ) -> u64
-    requires { ⌜ (n ≤ 65535) × (n * 3 ≤ length (now list)) × HoldsIn narrow (now nodes) n × HoldsBits (now colours) n ⌝ }
+    requires { ⌜ (n * 3 ≤ length (now list)) × HoldsIn narrow (now nodes) n × HoldsBits (now colours) n ⌝ }
     ensures { λ r. ⌜ (r ≡ buildRoot n) × (asEight narrow (now (nodes .exit)) ≡ buildWords (now (list .entry)) n (asEight narrow (now (nodes .entry))))
         × (now (colours .exit) ≡ buildColours n (now (colours .entry))) ⌝ }
 {
     let none = Interval { start: 0, end: 0 };
     init_from_sorted(
         list,
-        &mut nodes[..n * NODE_WORDS],
+        &mut nodes[..words_of(n, narrow)],
+        narrow,
         colours,
         0,
         n,

@@ -2,9 +2,11 @@
 -- right, parent, 12 bytes a slot), colours".
 -- Letters: W words, C colours, n count, r root, I image (its bytes), s slot or slots, j place of
 --   the link, b side (true: left)
-use mathlib.Core.Bool.{Bool, cond}
+use mathlib.Core.Path.{_≡_}
+use mathlib.Core.Bool.{Bool, true, cond}
 use mathlib.Core.List.{List}
-use Prim.Native.Nat.{ℕ, zero, suc, _+_, _*_}
+use Prim.Native.Nat.{ℕ, zero, suc, _+_, _*_, _<_}
+use Rattle.words.specs.Layouts.{kidFits, upFits}
 use Rattle.words.specs.Nodes.{putNode}
 use Rattle.words.specs.declared.interval.Interval.{Interval}
 use Rattle.words.specs.declared.node.Entry.{Entry}
@@ -27,6 +29,13 @@ linkIn I n s j = number 4 I (linksAt n + s * 12 + j * 4)
 
 abbrev pub childIn : (image : List ℕ) (count : ℕ) (side : Bool) (slot : ℕ) → ℕ
 childIn I n b s = linkIn I n s (cond b 0 1)
+
+-- Each link of the image's slots fits nodes of the layout. Links in an image have 32 bits, those of
+-- six-word nodes 16.
+pub record LinksFit (narrow : Bool) (I : List ℕ) (n : ℕ) : Type 0 where
+  pub left : (s : ℕ) → s < n → kidFits narrow (linkIn I n s 0) ≡ true
+  pub right : (s : ℕ) → s < n → kidFits narrow (linkIn I n s 1) ≡ true
+  pub up : (s : ℕ) → s < n → upFits narrow (linkIn I n s 2) ≡ true
 
 -- the colour of slot s. An image is a list of bits too: this bit is the slot's.
 abbrev pub redIn : (image : List ℕ) (count slot : ℕ) → Bool

@@ -21,10 +21,10 @@ use Rattle.audit.proofs.+below+survey_at.Tie.{close}
 -- the height that is left, twice: `below` hands its own on to `survey_at`, and `survey_at` one less
 -- to `below`
 abbrev μ-below : Measures 2 below-kinds.ps ℕ
-μ-below κs a = 2 * a .1 .1 .1 .1 .1 .1 .0 + 1
+μ-below κs a = 2 * a .1 .1 .1 .1 .1 .1 .1 .0 + 1
 
 abbrev μ-survey : Measures 2 survey-kinds.ps ℕ
-μ-survey κs a = 2 * a .1 .1 .1 .1 .1 .1 .0
+μ-survey κs a = 2 * a .1 .1 .1 .1 .1 .1 .1 .0
 
 abbrev below-at : ℕ → In 2 below-kinds.ps
 below-at t = and 2 below-kinds.ps (is 2 below-kinds.ps μ-below t) below.Pre
@@ -82,7 +82,6 @@ pub +below+survey-at-spec : {M : Type 1} → statement M
     (λ c κs. tt)
     (λ c. omega arith)
     (λ c κs. omega arith)
-    (λ c. omega arith)
     (λ c κs. omega (arith, c .before .before .before .before .before .before .before .before .before .before .pre))
     (λ c κs. room _ _ _ _ _ _ _ _ _ _
     (c .before .below .ensures)

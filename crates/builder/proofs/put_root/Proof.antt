@@ -1,4 +1,8 @@
 use borrow.Author.Needs.{needs}
+use native.Mathlib.Omega.{arith}
+use Prim.Native.Nat.{_+_}
+use Rattle.builder.specs.Build.{center}
+use Rattle.builder.proofs.Layouts.{root-fits, root-held}
 use Rattle.builder.proofs.put_root.Statement.{statement}
 use Rattle.builder.proofs.put_root.Tie as tie
 
@@ -12,7 +16,17 @@ put-root-spec =
     (λ c κs. search needs)
     (λ c. search needs)
     (λ c κs. search needs)
-    (λ c κs. search needs)
+    (λ c κs.
+    let told = c .before in
+    let begin = told .before .before .before .before .before in
+    let (_, size, some, few, up) = begin .pre in
+    let start = begin .args .start in
+    let end = begin .args .end in (
+      root-held _ _ start end size some few,
+      root-fits _ start (center start end) _ (omega arith) (told .before .root-of .ensures),
+      root-fits _ (center start end + 1) end _ few (told .root-of2 .ensures),
+      up,
+    ))
     (λ c. search needs)
     (λ c. let put = c .before .before in
     let told = put .before .before in
