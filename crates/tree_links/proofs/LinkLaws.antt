@@ -8,6 +8,7 @@ use native.Mathlib.Omega.{arith}
 use native.Mathlib.Numerals.{sub-one}
 use lib.Dec.{leb}
 use borrow.Author.Tests.{le-leb, lt-leb, leb-true}
+use Rattle.words.specs.Layouts.{Held}
 use Rattle.words.specs.Ix.{linkOf, onLink}
 use Rattle.words.specs.Nodes.{kid, par, altered, fix}
 use Rattle.words.specs.declared.ix.Link.{Link}
@@ -55,8 +56,8 @@ nil-is n w l e q = go (leb n w) refl (unlinked true n w l (λ (k : ℕ). false) 
     go false p z = absurd (true≢false z)
 
 -- a slot has room in words that keep their length
-pub room-after : (n w s a b d : ℕ) (l : Link) → l ≡ linkOf n w → l ≡ Slot s → n * 8 ≤ a → b ≡ a → d ≡ b → s * 8 + 8 ≤ d
-room-after n w s a b d l e q h i j = omega (arith, slot-live n w s l e q)
+pub room-after : (narrow : Bool) (n w s a b d : ℕ) (l : Link) → l ≡ linkOf n w → l ≡ Slot s → Held narrow n a → b ≡ a → d ≡ b → Held narrow (s + 1) d
+room-after narrow n w s a b d l e q h i j = let z : s < n = slot-live n w s l e q in omega arith
 
 -- whether a hull changed, as a number
 pub as-number : (n : ℕ) (W : List ℕ) (s : ℕ) (b : Bool) → b ≡ altered n W s → boolByte b ≡ differs n W s

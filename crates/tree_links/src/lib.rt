@@ -9,8 +9,9 @@ use words::node::put_child;
 use words::node::put_parent;
 use words::node::update_subtree_interval;
 ghost use mathlib.Core.Path.{_≡_};
+ghost use mathlib.Core.Bool.{true};
 ghost use Prim.Native.Nat.{_+_, _<_};
-ghost use Rattle.words.specs.Layouts.{asEight, HoldsIn, HasIn};
+ghost use Rattle.words.specs.Layouts.{asEight, kidFits, HoldsIn, HasIn};
 ghost use Rattle.words.specs.Ix.{onLink};
 ghost use Rattle.words.specs.Nodes.{fix};
 ghost use Rattle.tree_edit.specs.Links.{adopt, setChild, redirected, removeChild, redirect, replaced, rootAfter, fixUp, leftmost};
@@ -33,7 +34,7 @@ pub struct Repaired {
 
 // Sets the child's parent link, if `child` is a slot.
 pub fn adopt_child(nodes: &mut [u64], narrow: bool, count: u64, child: u64, parent: u64)
-    requires { ⌜ HoldsIn narrow (now nodes) count ⌝ }
+    requires { ⌜ HoldsIn narrow (now nodes) count × (parent < count) ⌝ }
     ensures { λ _. ⌜ asEight narrow (now (nodes .exit)) ≡ adopt count (asEight narrow (now (nodes .entry))) child parent ⌝ }
 {
     let Link::Slot(s) = Link::new(child, count) else {
@@ -45,7 +46,7 @@ pub fn adopt_child(nodes: &mut [u64], narrow: bool, count: u64, child: u64, pare
 // Makes the link of slot `parent` that leads to `old` lead to `new`: the left link if it leads to
 // `old`, else the right one.
 fn replace_child(nodes: &mut [u64], narrow: bool, parent: u64, old: u64, new: u64)
-    requires { ⌜ HasIn narrow (now nodes) parent ⌝ }
+    requires { ⌜ HasIn narrow (now nodes) parent × (kidFits narrow new ≡ true) ⌝ }
     ensures { λ _. ⌜ asEight narrow (now (nodes .exit)) ≡ redirected (asEight narrow (now (nodes .entry))) parent old new ⌝ }
 {
     let is_left = child_of(nodes, narrow, parent, true) == old;
@@ -61,7 +62,7 @@ pub fn replace_child_at(
     old: u64,
     new: u64,
 )
-    requires { ⌜ HoldsIn narrow (now nodes) count ⌝ }
+    requires { ⌜ HoldsIn narrow (now nodes) count × (kidFits narrow new ≡ true) ⌝ }
     ensures { λ _. ⌜ asEight narrow (now (nodes .exit)) ≡ redirect count (asEight narrow (now (nodes .entry))) parent old new ⌝ }
 {
     let Link::Slot(s) = Link::new(parent, count) else {
@@ -85,7 +86,7 @@ pub fn set_child(
     child: u64,
     left_side: bool,
 )
-    requires { ⌜ HoldsIn narrow (now nodes) count × (parent < count) ⌝ }
+    requires { ⌜ HoldsIn narrow (now nodes) count × (parent < count) × (kidFits narrow child ≡ true) ⌝ }
     ensures { λ _. ⌜ asEight narrow (now (nodes .exit)) ≡ setChild count (asEight narrow (now (nodes .entry))) parent child «left_side» ⌝ }
 {
     adopt_child(nodes, narrow, count, child, parent);

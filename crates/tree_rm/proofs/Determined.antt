@@ -1,12 +1,15 @@
--- What a removal promises determines its answer and every word that it was lent: stated of the
--- generated postcondition.
+-- What a removal promises determines its answer and every word that it was lent, in either
+-- layout: stated of the generated postcondition.
 use mathlib.Core.Path.{_≡_, sym, ap, _∙_}
+use mathlib.Core.Bool.{Bool}
 use mathlib.Core.List.{List}
 use Prim.Native.Nat.{ℕ}
 use contract.Lifetimes.{Lfts}
 use borrow.Fn.Kinds as K
 use denote.Triple.Clauses.{AtExit}
 use denote.Ref.{now}
+use Rattle.words.specs.Layouts.{asEight}
+use Rattle.words.proofs.Layouts.{eight-injective}
 use Rattle.tree_rm_rule.specs.Remove as rule
 use Rattle.tree_rm.specs.Answers.{removal}
 use Rattle.tree_rm.specs.declared.remove.Removed.{Removed}
@@ -21,5 +24,10 @@ removal-told a b W X C D e f = (
 )
 
 pub remove-at-determined : (κs : Lfts 2) (a : K.Dens κs kinds.ps) (r r′ : K.resT kinds.r κs .Denot) (s s′ : AtExit (K.endedOf 2 kinds.ps kinds.r) κs)
-    → reads.Post κs a r s → reads.Post κs a r′ s′ → (r ≡ r′) × (now (s .0) ≡ now (s′ .0)) × (now (s .1 .0) ≡ now (s′ .1 .0))
-remove-at-determined κs a r r′ s s′ p q = removal-told r r′ (now (s .0)) (now (s′ .0)) (now (s .1 .0)) (now (s′ .1 .0)) (p .0 ∙ sym (q .0)) (p .1 ∙ sym (q .1))
+    → reads.Post κs a r s → reads.Post κs a r′ s′ → (r ≡ r′) × (now (s .0) ≡ now (s′ .0)) × (now (s .1 .1 .0) ≡ now (s′ .1 .1 .0))
+remove-at-determined κs a r r′ s s′ p q =
+    let narrow : Bool = a .1 .0 in
+    let N : List ℕ = now (s .0) in
+    let M : List ℕ = now (s′ .0) in
+    let (e, w, c) = removal-told r r′ (asEight narrow N) (asEight narrow M) (now (s .1 .1 .0)) (now (s′ .1 .1 .0)) (p .0 ∙ sym (q .0)) (p .1 ∙ sym (q .1)) in
+    (e, eight-injective narrow N M w, c)

@@ -41,7 +41,7 @@ fn swap_nodes(nodes: &mut [u64], narrow: bool, i: u64, j: u64)
     swap_with(nodes, narrow, i, j);
 }
 
-// Copies all eight words of slot `from` to slot `to`.
+// Copies all words of slot `from` to slot `to`.
 fn copy_node(nodes: &mut [u64], narrow: bool, from: u64, to: u64)
     requires { ⌜ HasIn narrow (now nodes) from × HasIn narrow (now nodes) to ⌝ }
     ensures { λ _. ⌜ asEight narrow (now (nodes .exit)) ≡ copied (asEight narrow (now (nodes .entry))) from to ⌝ }
@@ -72,16 +72,8 @@ fn clear_node(nodes: &mut [u64], narrow: bool, ix: u64)
         end: 0,
         value: 0,
     };
-    put_node(
-        nodes,
-        narrow,
-        ix,
-        nothing,
-        Interval { start: 0, end: 0 },
-        U,
-        U,
-        U,
-    );
+    let hull = Interval { start: 0, end: 0 };
+    put_node(nodes, narrow, ix, nothing, hull, U, U, U);
 }
 
 // Moves the node of slot `from` to slot `to`. Its children's and its parent's links lead there

@@ -14,7 +14,7 @@ use Rattle.tree_links.proofs.+leftmost_from.{statement}
 use Rattle.tree_links.proofs.+leftmost_from.Tie.{close}
 
 abbrev μ-leftmost-from : Measures 1 leftmost-from-kinds.ps ℕ
-μ-leftmost-from κs a = a .1 .1 .1 .0
+μ-leftmost-from κs a = a .1 .1 .1 .1 .0
 
 abbrev leftmost-from-at : ℕ → In 1 leftmost-from-kinds.ps
 leftmost-from-at t =

@@ -1,5 +1,6 @@
 use Rattle.tree_edit.specs.Links.{adopt}
 use Rattle.words.proofs.Laws.{linked, slot-room, unlinked}
+use Rattle.words.proofs.Layouts.{live-up}
 use borrow.Author.Needs.{needs}
 use Rattle.tree_links.proofs.adopt_child.Statement.{statement}
 use Rattle.tree_links.proofs.adopt_child.Tie as tie
@@ -13,6 +14,6 @@ adopt-child-spec =
     (λ c. search needs)
     (λ c. search needs)
     (λ c. search unlinked)
-    (λ c κs. search slot-room)
+    (λ c κs. (search slot-room, search live-up))
     (λ c. search needs)
     (λ c. search linked))

@@ -4,6 +4,7 @@ use borrow.Author.Needs.{needs}
 use mathlib.Core.Path.{refl}
 use native.Mathlib.Omega.{arith}
 use Prim.Native.Nat.{_+_, _≤_}
+use Rattle.words.specs.Layouts.{asEight}
 use Rattle.tree_edit.specs.Links.{fixUp}
 use Rattle.tree_edit.specs.Reach.{changes, upHulls}
 use lib.ListN.{length}
@@ -12,10 +13,12 @@ use Rattle.tree_links.proofs.fix_intervals_up.Statement.{statement}
 use Rattle.tree_links.proofs.fix_intervals_up.Tie as tie
 
 abbrev Inv-loop : tie.InvT-loop
-Inv-loop nodes₀ count from at₀ reach₀ height₀ nodes at reach height = (fixUp count 32 nodes₀ from ≡ fixUp count height nodes at) × (length nodes ≡ length nodes₀) × (changes count (upHulls count 32 nodes₀ from) ≡ reach + changes count (upHulls count height nodes at)) × (reach + height ≤ 32)
+Inv-loop nodes₀ narrow count from at₀ reach₀ height₀ nodes at reach height =
+    (fixUp count 32 (asEight narrow nodes₀) from ≡ fixUp count height (asEight narrow nodes) at) × (length nodes ≡ length nodes₀)
+    × (changes count (upHulls count 32 (asEight narrow nodes₀) from) ≡ reach + changes count (upHulls count height (asEight narrow nodes) at)) × (reach + height ≤ 32)
 
 abbrev μ-loop : tie.MeasureT-loop
-μ-loop nodes₀ count from at₀ reach₀ height₀ nodes at reach height = height
+μ-loop nodes₀ narrow count from at₀ reach₀ height₀ nodes at reach height = height
 
 pub fix-intervals-up-spec : {M : Type 1} → statement M
 fix-intervals-up-spec =

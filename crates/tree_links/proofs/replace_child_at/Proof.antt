@@ -13,6 +13,6 @@ replace-child-at-spec =
     (λ c. search needs)
     (λ c. search needs)
     (λ c. search unlinked)
-    (λ c κs. search slot-room)
+    (λ c κs. (search slot-room, search needs))
     (λ c. search needs)
     (λ c. search linked))

@@ -1,4 +1,5 @@
 use Rattle.tree_edit.specs.Links.{replaced, rootAfter}
+use Rattle.words.proofs.Layouts.{live-kid}
 use borrow.Author.Needs.{needs}
 use Rattle.tree_links.proofs.replace_children.Statement.{statement}
 use Rattle.tree_links.proofs.replace_children.Tie as tie
@@ -9,7 +10,7 @@ replace-children-spec =
     tie.close
     (tie.spec
     (λ c κs. search needs)
-    (λ c κs. search needs)
+    (λ c κs. (search needs, search live-kid))
     (λ c κs. search needs)
     (λ c κs. search needs)
     (λ c. search needs)

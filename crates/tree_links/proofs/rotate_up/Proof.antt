@@ -1,4 +1,6 @@
 use Rattle.tree_edit.specs.Rotations.{rotate}
+use Rattle.words.proofs.Layouts.{live-kid}
+use native.Mathlib.Omega.{arith}
 use borrow.Author.Needs.{needs}
 use Rattle.tree_links.proofs.rotate_up.Statement.{statement}
 use Rattle.tree_links.proofs.rotate_up.Tie as tie
@@ -11,7 +13,7 @@ rotate-up-spec =
     (λ c κs. search needs)
     (λ c κs. search needs)
     (λ c κs. search needs)
-    (λ c κs. search needs)
+    (λ c κs. (omega arith, omega arith, search live-kid))
     (λ c. search needs)
     (λ c. let second = c .before .before in
     let first = second .before .before .before .before in

@@ -1,5 +1,6 @@
 use Rattle.tree_links.proofs.Loops.{loop-on, loop-done, loop-none, loop-stays, count-on, count-done, count-none, sum-fits, last-fits, sum-room}
 use Rattle.tree_rm_repair.proofs.Rounds.{round-stays, most}
+use Rattle.words.specs.Layouts.{asEight}
 use Rattle.tree_rm_rule.specs.Repair.{round, repair}
 use Rattle.tree_edit.specs.Reach.{changes}
 use Rattle.tree_rm_rule.specs.Reach.{roundHulls, repairHulls}
@@ -12,10 +13,14 @@ use Rattle.tree_rm_repair.proofs.restructure_rm_complex_cases.Statement
 use Rattle.tree_rm_repair.proofs.restructure_rm_complex_cases.Tie as tie
 
 abbrev Inv-loop : tie.InvT-loop
-Inv-loop nodes₀ colours₀ count root ix at₀ top₀ reach₀ rounds₀ nodes colours at top reach rounds = (repair count 36 nodes₀ colours₀ root ix ≡ repair count rounds nodes colours top at) × (length nodes ≡ length nodes₀) × (length colours ≡ length colours₀) × (at < count) × (changes count (repairHulls count 36 nodes₀ colours₀ root ix) ≡ reach + changes count (repairHulls count rounds nodes colours top at)) × (reach + 4 * rounds ≤ 144)
+Inv-loop nodes₀ narrow colours₀ count root ix at₀ top₀ reach₀ rounds₀ nodes colours at top reach rounds =
+    (repair count 36 (asEight narrow nodes₀) colours₀ root ix ≡ repair count rounds (asEight narrow nodes) colours top at) × (length nodes ≡ length nodes₀)
+    × (length colours ≡ length colours₀) × (at < count)
+    × (changes count (repairHulls count 36 (asEight narrow nodes₀) colours₀ root ix) ≡ reach + changes count (repairHulls count rounds (asEight narrow nodes) colours top at))
+    × (reach + 4 * rounds ≤ 144)
 
 abbrev μ-loop : tie.MeasureT-loop
-μ-loop nodes₀ colours₀ count root ix at₀ top₀ reach₀ rounds₀ nodes colours at top reach rounds = rounds
+μ-loop nodes₀ narrow colours₀ count root ix at₀ top₀ reach₀ rounds₀ nodes colours at top reach rounds = rounds
 
 pub restructure-rm-complex-cases-spec : {M : Type 1} → statement M
 restructure-rm-complex-cases-spec =

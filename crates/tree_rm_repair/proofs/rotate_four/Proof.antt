@@ -1,4 +1,6 @@
 use Rattle.tree_rm_repair.proofs.Rounds.{four-links}
+use Rattle.words.proofs.Layouts.{live-kid}
+use native.Mathlib.Omega.{arith}
 use borrow.Author.Needs.{needs}
 use Rattle.tree_rm_repair.proofs.rotate_four.Statement.{statement}
 use Rattle.tree_rm_repair.proofs.rotate_four.Tie as tie
@@ -8,8 +10,8 @@ rotate-four-spec =
     tie.close
     (tie.spec
     (λ c κs. search needs)
-    (λ c κs. search needs)
-    (λ c κs. search needs)
-    (λ c κs. search needs)
+    (λ c κs. (omega arith, omega arith, search needs))
+    (λ c κs. (omega arith, omega arith, search live-kid))
+    (λ c κs. (omega arith, omega arith, search live-kid))
     (λ c. search needs)
     (λ c. search four-links))
