@@ -28,4 +28,4 @@ pub step-determined :
     → step-reads.Post κs a r s → step-reads.Post κs a r′ s′ → r ≡ r′
 step-determined κs a r r′ s s′ p q =
     let e : answer r ≡ answer r′ = p .0 ∙ sym (q .0) in
-    told-once r r′ e (p .1 ∙ ap (λ (k : Answer). ltb (k .slot) (a .1 .1 .0)) e ∙ sym (q .1))
+    told-once r r′ e (p .1 ∙ ap (λ (k : Answer). ltb (k .slot) (a .1 .1 .1 .0)) e ∙ sym (q .1))

@@ -2,13 +2,14 @@
 use mathlib.Core.Path.{_≡_, refl, sym, ap, _∙_}
 use mathlib.Core.Bool.{Bool, true, false, cond, _&&_, true≢false}
 use mathlib.Core.List.{List}
-use Prim.Native.Nat.{ℕ, zero, suc, _-_, _*_, _/_, _^_, _<_, _≤_}
+use Prim.Native.Nat.{ℕ, zero, suc, _+_, _-_, _*_, _/_, _^_, _<_, _≤_}
 use native.Mathlib.Omega.{arith}
 use lib.Dec.{eqb, ltb}
 use borrow.Author.Tests.{lt-ltb, le-ltb, ltb-true, eq-eqb, ne-eqb}
 use Rattle.words.specs.Ix.{U, linkOf, onLink}
 use Rattle.words.specs.Intervals.{reached, admits, intersects, le, eq, contains}
-use Rattle.words.specs.Nodes.{interval, kid, Has, Holds}
+use Rattle.words.specs.Layouts.{Held}
+use Rattle.words.specs.Nodes.{interval, kid}
 use Rattle.words.specs.declared.interval.Bound.{Bound}
 use Rattle.words.specs.declared.interval.Span.{Span}
 use Rattle.words.specs.declared.interval.Interval.{Interval}
@@ -154,8 +155,8 @@ module _ (n k v u t : ℕ) (f : k < n → v ≡ u) where
 
 -- a live slot in a state, and its entry
 module _ (b t : Bool) (n k : ℕ) (e : t ≡ (ltb k n && b)) where
-  pub has-live : (W : List ℕ) → Holds W n → t ≡ true → Has W k
-  has-live W h i = let l : k < n = ltb-true k n (and-left (ltb k n) b (sym e ∙ i)) in omega arith
+  pub has-live : (narrow : Bool) (len : ℕ) → Held narrow n len → t ≡ true → Held narrow (k + 1) len
+  has-live narrow len h i = let l : k < n = ltb-true k n (and-left (ltb k n) b (sym e ∙ i)) in omega arith
 
 module _ (a b t m : Bool) (e : t ≡ (a && b)) where
   pub hit-on : (r : Bool) → t ≡ true → r ≡ m → r ≡ (a && (b && m))

@@ -4,6 +4,7 @@ pub mod Steps
 pub mod Drains
 pub mod Laws
 pub mod ByRule
+pub mod Small
 pub mod Plain
 pub mod Moves
 pub mod Calls

@@ -2,18 +2,18 @@
 use mathlib.Core.Path.{_≡_, refl, sym, ap, fun-ext, _∙_}
 use mathlib.Core.Bool.{Bool, true, false, cond, _||_}
 use mathlib.Core.List.{List}
-use Prim.Native.Nat.{ℕ, _+_, _*_, _<_, _≤_}
+use Prim.Native.Nat.{ℕ, _+_, _≤_}
 use native.Mathlib.Omega.{arith}
-use lib.ListN.{getD}
 use lib.Dec.{eqb, leb, ltb}
 use borrow.Author.Tests.{le-leb, le-ltb, lt-ltb, leb-true, leb-false}
 use Rattle.words.specs.Ix.{onLink}
-use Rattle.words.specs.Nodes.{word, start, lo, hi, kid, interval}
+use Rattle.words.specs.Nodes.{start, lo, hi, kid, interval}
 use Rattle.words.specs.Intervals.{passed, reached, admits}
 use Rattle.words.specs.declared.interval.Bound.{Bound}
 use Rattle.words.specs.declared.interval.Bound.the-variants.{Included, Excluded, Unbounded}
 use Rattle.words.specs.declared.interval.Interval.{Interval}
 use Rattle.words.specs.declared.interval.Span.{Span}
+use Rattle.words.specs.declared.node.Field.the-variants.{Start, HullStart}
 use Rattle.iter.specs.Walk.{Rules}
 use Rattle.iter.specs.Overlap.{shouldGo, meets, pruned}
 use Rattle.iter.specs.Queries.{rules}
@@ -28,10 +28,7 @@ use Rattle.iter.specs.declared.rules.Query.the-variants.{Overlap, Ruled,
 use Rattle.iter.specs.declared.rules.Tests.{Tests}
 use Rattle.iter.specs.declared.rules.Tests.the-variants.{Within, Equal}
 use Rattle.iter.specs.declared.limits.Limits.{Limits}
-
--- the words of a store have 64 bits
-abbrev pub Small : List ℕ → Type 0
-Small W = (i : ℕ) → getD W i 0 < 18446744073709551616
+use Rattle.iter.proofs.Small.{Small}
 
 -- a comparison, or no bound
 or-true : (a : Bool) → a || true ≡ true
@@ -95,12 +92,10 @@ admits-same Unbounded s h = refl
 
 module _ (W : List ℕ) (small : Small W) where
   lo-low : (s : ℕ) → lo W s ≤ last
-  unfolding word
-  lo-low s = omega (arith, small (s * 8 + 3))
+  lo-low s = omega (arith, small HullStart s)
 
   start-low : (s : ℕ) → start W s ≤ last
-  unfolding word
-  start-low s = omega (arith, small (s * 8 + 0))
+  start-low s = omega (arith, small Start s)
 
   go-same : (n : ℕ) (q p : Span) (b : Bool) (s : ℕ) → shouldGo W n (spanOf (limitsOf q p)) b s ≡ shouldGo W n q b s
   unfolding shouldGo

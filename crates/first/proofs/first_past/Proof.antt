@@ -1,6 +1,7 @@
 use mathlib.Core.Path.{_≡_, refl}
 use native.Mathlib.Omega.{arith}
 use borrow.Author.Needs.{needs}
+use Rattle.words.specs.Layouts.{asEight}
 use Rattle.words.specs.Intervals.{passed}
 use Rattle.first_rule.specs.First.{firstPast}
 use Rattle.first.proofs.Laws.{past-spent, past-out, past-here, past-on}
@@ -8,10 +9,10 @@ use Rattle.first.proofs.first_past.Statement.{statement}
 use Rattle.first.proofs.first_past.Tie as tie
 
 abbrev Inv-loop : tie.InvT-loop
-Inv-loop nodes count root lo at₀ height₀ at height = firstPast (passed lo) nodes count height₀ at₀ ≡ firstPast (passed lo) nodes count height at
+Inv-loop nodes narrow count root lo at₀ height₀ at height = firstPast (passed lo) (asEight narrow nodes) count height₀ at₀ ≡ firstPast (passed lo) (asEight narrow nodes) count height at
 
 abbrev μ-loop : tie.MeasureT-loop
-μ-loop nodes count root lo at₀ height₀ at height = height
+μ-loop nodes narrow count root lo at₀ height₀ at height = height
 
 pub first-past-spec : {M : Type 1} → statement M
 first-past-spec =

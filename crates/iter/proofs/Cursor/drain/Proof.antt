@@ -1,4 +1,6 @@
-use Rattle.iter.proofs.Plain.{Small, drain-same, filled-same}
+use Rattle.words.specs.Layouts.{asEight}
+use Rattle.iter.proofs.Small.{Small, eight-small}
+use Rattle.iter.proofs.Plain.{drain-same, filled-same}
 use native.Mathlib.Omega.{arith}
 use borrow.Author.Needs.{needs}
 use Rattle.iter.proofs.Cursor.drain.Statement.{statement}
@@ -13,5 +15,7 @@ drain-spec =
     (λ c. search needs)
     (λ c.
     let known = c .before .before .before .before .before .before in
-    let small : Small (known .before .args .nodes .now) = λ i. omega (arith, known .shared-slice-known .given i) in
-    (search (drain-same (known .before .args .nodes .now) small), search (filled-same (known .before .args .nodes .now) small))))
+    let args = known .before .args in
+    let eight = asEight (args .narrow) (args .nodes .now) in
+    let small : Small eight = eight-small (args .narrow) (args .nodes .now) (λ i. omega (arith, known .shared-slice-known .given i)) in
+    (search (drain-same eight small), search (filled-same eight small))))

@@ -1,6 +1,7 @@
 use mathlib.Core.Path.{_≡_, refl}
 use Prim.Native.Nat.{_-_, _≤_}
 use lib.ListN.{length, take, drop, length-set}
+use Rattle.words.specs.Layouts.{asEight}
 use Rattle.iter.specs.Drains.{drain}
 use Rattle.iter.specs.Limits.{tested}
 use Rattle.iter.specs.Places.{Placed}
@@ -13,11 +14,11 @@ use Rattle.iter.proofs.Cursor.drain_by.Statement.{statement}
 use Rattle.iter.proofs.Cursor.drain_by.Tie as tie
 
 abbrev Inv-loop : tie.InvT-loop
-Inv-loop nodes count tests limit out₀ cursor₀ hits₀ entered₀ out cursor hits entered = (drain nodes count (tested nodes count tests) limit cursor₀ ≡ before (take hits out) entered (drain nodes count (tested nodes count tests) (limit - hits) cursor))
+Inv-loop nodes narrow count tests limit out₀ cursor₀ hits₀ entered₀ out cursor hits entered = (drain (asEight narrow nodes) count (tested (asEight narrow nodes) count tests) limit cursor₀ ≡ before (take hits out) entered (drain (asEight narrow nodes) count (tested (asEight narrow nodes) count tests) (limit - hits) cursor))
     × Placed count cursor × (hits ≤ limit) × (drop hits out ≡ drop hits out₀) × (length out ≡ length out₀)
 
 abbrev μ-loop : tie.MeasureT-loop
-μ-loop nodes count tests limit out₀ cursor₀ hits₀ entered₀ out cursor hits entered = limit - hits
+μ-loop nodes narrow count tests limit out₀ cursor₀ hits₀ entered₀ out cursor hits entered = limit - hits
 
 pub drain-by-spec : {M : Type 1} → statement M
 drain-by-spec =

@@ -14,7 +14,7 @@ use Rattle.iter.proofs.forms.+is_way.Tie.{close}
 
 -- the links that are left
 abbrev μ-is-way : Measures 1 is-way-kinds.ps ℕ
-μ-is-way κs a = a .1 .1 .1 .1 .0
+μ-is-way κs a = a .1 .1 .1 .1 .1 .0
 
 abbrev is-way-at : ℕ → In 1 is-way-kinds.ps
 is-way-at t = and 1 is-way-kinds.ps (is 1 is-way-kinds.ps μ-is-way t) is-way.Pre
