@@ -2,13 +2,14 @@
 use mathlib.Core.Path.{_≡_, refl, sym, ap, _∙_}
 use mathlib.Core.Bool.{Bool, true, false, cond}
 use mathlib.Core.List.{List}
-use Prim.Native.Nat.{ℕ, _<_, _≤_}
+use Prim.Native.Nat.{ℕ, _+_, _*_, _<_, _≤_}
 use native.Mathlib.Omega.{arith}
 use lib.ListN.{length}
 use lib.Dec.{ltb}
 use borrow.Author.Tests.{lt-ltb, le-ltb, ne-eqb}
 use Rattle.words.specs.Ix.{U}
-use Rattle.words.specs.Nodes.{capacity, Holds}
+use Rattle.words.specs.Nodes.{capacity}
+use Rattle.words.specs.Layouts.{asEight, spared}
 use Rattle.words.specs.Refusals.{refusalNumber}
 use Rattle.words.specs.declared.node.Entry.{Entry}
 use Rattle.words.specs.declared.refusal.Refusal.{Refusal}
@@ -23,6 +24,7 @@ use Rattle.iset.specs.declared.Checked.the-variants.{Sound}
 use Rattle.iset.specs.declared.insert.Insertion.{Insertion}
 use Rattle.iset.specs.declared.insert.Insertion.the-variants as insertion
 use Rattle.iset.proofs.Checks.{check-zero}
+use Rattle.iset.proofs.Layouts.{held-few, held-six, held-eight}
 use Rattle.disjoint.specs.Point.{pointDone, refusedPoint, openPointCall}
 use Rattle.disjoint.specs.Place.{met, meetNumber, trialNumber, openPlaceNumber, named, TrialAnswer, tried, trialBy, placementOf, refusedPlacement, placeAnswer, placeBy, openPlaceCall}
 use Rattle.disjoint.specs.declared.insert.Placement.{Placement}
@@ -31,8 +33,18 @@ use Rattle.disjoint.specs.declared.insert.Trial.the-variants as trial
 use Rattle.disjoint.proofs.Opened.{some}
 
 -- what the check of crate iset leaves: words that hold the entries
-pub checked-words : (m : Map) (W C : List ℕ) (t : Checked) → checkNumber t ≡ checkRule m W C → t ≡ Sound → Holds W (m .count)
-checked-words m W C t e q = omega (arith, check-zero m W C (sym e ∙ ap checkNumber q) .0)
+module _ (m : Map) (narrow : Bool) (N C : List ℕ) (t : Checked) (e : checkNumber t ≡ checkRule m (asEight narrow N) C) (q : t ≡ Sound) where
+  held : m .count ≤ capacity (length (asEight narrow N)) (length C)
+  held = check-zero m (asEight narrow N) C (sym e ∙ ap checkNumber q) .0
+
+  pub checked-few : m .count ≤ 65535
+  checked-few = held-few narrow N (length C) (m .count) held
+
+  pub checked-six : m .count * 6 ≤ length N
+  checked-six = held-six narrow N (length C) (m .count) held
+
+  pub checked-eight : m .count * 8 ≤ length N + spared narrow
+  checked-eight = held-eight narrow N (length C) (m .count) held
 
 -- the point lookup of an opened store: a count that the slices hold, or not
 module _ (m : Map) (W C : List ℕ) (x c : ℕ) (e : c ≡ capacity (length W) (length C)) where

@@ -10,7 +10,7 @@ use words::ix::U;
 use words::node::capacity;
 use words::refusal::Refusal;
 ghost use mathlib.Core.Path.{_≡_};
-ghost use Rattle.words.specs.Nodes.{Holds};
+ghost use Rattle.words.specs.Layouts.{asEight, HoldsIn};
 ghost use Rattle.iset.specs.Effects.{effect};
 ghost use Rattle.iset.specs.Insert.{entryOf};
 ghost use Rattle.disjoint.specs.Place.{tried, trialBy, meetNumber, trialNumber, met, placementOf, placeAnswer, openPlaceCall, placeCall};
@@ -30,9 +30,9 @@ enum Trial {
 
 // Returns BadInterval if the new interval holds no address, else Overlap with the first slot in tree
 // order whose entry intersects it.
-fn test_overlap(nodes: &[u64], count: u64, root: u64, start: u64, end: u64) -> Trial
-    requires { ⌜ Holds (now nodes) count ⌝ }
-    ensures { λ r. ⌜ tried r ≡ trialBy (meetNumber (now (nodes .entry)) count root start end) (met (now (nodes .entry)) count root start end) ⌝ }
+fn test_overlap(nodes: &[u64], narrow: bool, count: u64, root: u64, start: u64, end: u64) -> Trial
+    requires { ⌜ HoldsIn narrow (now nodes) count ⌝ }
+    ensures { λ r. ⌜ tried r ≡ trialBy (meetNumber (asEight narrow (now (nodes .entry))) count root start end) (met (asEight narrow (now (nodes .entry))) count root start end) ⌝ }
 {
     if end <= start {
         return Trial::Refused(Refusal::BadInterval, U);
@@ -41,7 +41,7 @@ fn test_overlap(nodes: &[u64], count: u64, root: u64, start: u64, end: u64) -> T
         lo: Bound::Included(start),
         hi: Bound::Excluded(end),
     };
-    let slot = first_met(nodes, count, root, range);
+    let slot = first_met(nodes, narrow, count, root, range);
     if slot < count {
         return Trial::Refused(Refusal::Overlap, slot);
     }
@@ -60,32 +60,33 @@ fn placed(insertion: Insertion) -> Placement
 
 impl DisjointMap {
     // The first refusal of an insertion into an opened store (see lib.rt) that has room.
-    fn test_place(self, nodes: &[u64], colours: &[u8], start: u64, end: u64) -> Trial
-        ensures { λ r. ⌜ tried r ≡ trialBy (trialNumber (self .map) (now (nodes .entry)) (now (colours .entry)) start end)
-            (met (now (nodes .entry)) (self .map .count) (self .map .root) start end) ⌝ }
+    fn test_place(self, nodes: &[u64], narrow: bool, colours: &[u8], start: u64, end: u64) -> Trial
+        ensures { λ r. ⌜ tried r ≡ trialBy (trialNumber (self .map) (asEight narrow (now (nodes .entry))) (now (colours .entry)) start end)
+            (met (asEight narrow (now (nodes .entry))) (self .map .count) (self .map .root) start end) ⌝ }
     {
         let map = self.map;
-        if capacity(nodes.len(), colours.len()) < map.count {
+        if capacity(nodes.len(), narrow, colours.len()) < map.count {
             return Trial::Refused(Refusal::NoRoom, U);
         }
-        test_overlap(nodes, map.count, map.root, start, end)
+        test_overlap(nodes, narrow, map.count, map.root, start, end)
     }
 
     // `insert` for an opened store.
-    pub fn open_insert(
+    pub fn open_insert_in(
         self,
         nodes: &mut [u64],
+        narrow: bool,
         colours: &mut [u8],
         start: u64,
         end: u64,
         value: u64,
     ) -> Placement
-        ensures { λ r. ⌜ effect (placeAnswer (self .map) r) (now (nodes .exit)) (now (colours .exit))
-            ≡ openPlaceCall (self .map) (now (nodes .entry)) (now (colours .entry)) (entryOf start end value) ⌝ }
+        ensures { λ r. ⌜ effect (placeAnswer (self .map) r) (asEight narrow (now (nodes .exit))) (now (colours .exit))
+            ≡ openPlaceCall (self .map) (asEight narrow (now (nodes .entry))) (now (colours .entry)) (entryOf start end value) ⌝ }
     {
-        let Trial::Refused(why, slot) = self.test_place(nodes, colours, start, end) else {
+        let Trial::Refused(why, slot) = self.test_place(nodes, narrow, colours, start, end) else {
             let map = self.map;
-            return placed(map.open_insert(nodes, colours, start, end, value));
+            return placed(map.open_insert_in(nodes, narrow, colours, start, end, value));
         };
         Placement::Refused(why, slot)
     }
@@ -93,19 +94,20 @@ impl DisjointMap {
     // Adds one entry in slot `count`. No other entry changes slot. If a stored entry intersects the
     // new one, it returns Overlap with the slot of the first such entry in tree order. A full store
     // is refused after that.
-    pub fn insert(
+    pub fn insert_in(
         self,
         nodes: &mut [u64],
+        narrow: bool,
         colours: &mut [u8],
         start: u64,
         end: u64,
         value: u64,
     ) -> Placement
-        ensures { λ r. ⌜ effect (placeAnswer (self .map) r) (now (nodes .exit)) (now (colours .exit))
-            ≡ placeCall (self .map) (now (nodes .entry)) (now (colours .entry)) (entryOf start end value) ⌝ }
+        ensures { λ r. ⌜ effect (placeAnswer (self .map) r) (asEight narrow (now (nodes .exit))) (now (colours .exit))
+            ≡ placeCall (self .map) (asEight narrow (now (nodes .entry))) (now (colours .entry)) (entryOf start end value) ⌝ }
     {
-        let Checked::Refused(why) = self.check(nodes, colours) else {
-            return self.open_insert(nodes, colours, start, end, value);
+        let Checked::Refused(why) = self.check_in(nodes, narrow, colours) else {
+            return self.open_insert_in(nodes, narrow, colours, start, end, value);
         };
         Placement::Refused(why, U)
     }

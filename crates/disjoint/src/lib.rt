@@ -8,6 +8,7 @@
 // not run the check. Apart from that they do exactly what the public calls do. They require
 // nothing. On any words each of them ends and stays inside what was lent. But what it returns may
 // mean nothing if the store is not opened.
+pub mod eight;
 pub mod insert;
 pub mod point;
 pub mod remove;
@@ -22,7 +23,7 @@ pub use iset::remove::Removed;
 pub use words::refusal::Refusal;
 ghost use mathlib.Core.Path.{_≡_};
 ghost use mathlib.Core.Bool.{cond};
-ghost use Rattle.words.specs.Nodes.{Holds};
+ghost use Rattle.words.specs.Layouts.{asEight, HoldsIn};
 ghost use Rattle.iset.specs.Check.{checkNumber};
 ghost use Rattle.disjoint_rule.specs.Apart.{apartBelow};
 ghost use Rattle.disjoint.specs.Check.{disjointRule};
@@ -34,11 +35,11 @@ pub struct DisjointMap {
 }
 
 // Returns NotDisjoint if two entries of a store that passes the check of crate iset intersect.
-fn test_apart(nodes: &[u64], count: u64) -> Checked
-    requires { ⌜ Holds (now nodes) count ⌝ }
-    ensures { λ r. ⌜ checkNumber r ≡ cond (apartBelow (now (nodes .entry)) count count) 0 14 ⌝ }
+fn test_apart(nodes: &[u64], narrow: bool, count: u64) -> Checked
+    requires { ⌜ HoldsIn narrow (now nodes) count ⌝ }
+    ensures { λ r. ⌜ checkNumber r ≡ cond (apartBelow (asEight narrow (now (nodes .entry))) count count) 0 14 ⌝ }
 {
-    if all_apart(nodes, count) {
+    if all_apart(nodes, narrow, count) {
         Checked::Sound
     } else {
         Checked::Refused(Refusal::NotDisjoint)
@@ -47,14 +48,14 @@ fn test_apart(nodes: &[u64], count: u64) -> Checked
 
 impl DisjointMap {
     // The check: that of crate iset, and then NotDisjoint if two entries intersect.
-    pub fn check(self, nodes: &[u64], colours: &[u8]) -> Checked
-        ensures { λ r. ⌜ checkNumber r ≡ disjointRule (self .map) (now (nodes .entry)) (now (colours .entry)) ⌝ }
+    pub fn check_in(self, nodes: &[u64], narrow: bool, colours: &[u8]) -> Checked
+        ensures { λ r. ⌜ checkNumber r ≡ disjointRule (self .map) (asEight narrow (now (nodes .entry))) (now (colours .entry)) ⌝ }
     {
         let map = self.map;
-        let checked = map.check(nodes, colours);
+        let checked = map.check_in(nodes, narrow, colours);
         let Checked::Sound = checked else {
             return checked;
         };
-        test_apart(nodes, map.count)
+        test_apart(nodes, narrow, map.count)
     }
 }

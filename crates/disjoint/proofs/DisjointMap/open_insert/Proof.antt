@@ -1,20 +1,12 @@
-use Rattle.disjoint.proofs.Laws.{placed-through, placed-away}
+use Rattle.words.specs.Layouts.{asEight}
 use borrow.Author.Needs.{needs}
 use Rattle.disjoint.proofs.DisjointMap.open_insert.Statement.{statement}
 use Rattle.disjoint.proofs.DisjointMap.open_insert.Tie as tie
 
 pub open-insert-spec : {M : Type 1} → statement M
+unfolding asEight
 open-insert-spec =
     tie.close
     (tie.spec
     (λ c κs. search needs)
-    (λ c. search needs)
-    (λ c. search needs)
-    (λ c κs. search needs)
-    (λ c κs. search needs)
-    (λ c. search needs)
-    (λ c. search needs)
-    (λ c. search placed-through)
-    (λ c. search needs)
-    (λ c. search needs)
-    (λ c. search placed-away))
+    (λ c. search needs))

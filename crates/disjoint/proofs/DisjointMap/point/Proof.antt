@@ -1,15 +1,12 @@
-use Rattle.disjoint.proofs.Opened.{point-through, point-away}
+use Rattle.words.specs.Layouts.{asEight}
 use borrow.Author.Needs.{needs}
 use Rattle.disjoint.proofs.DisjointMap.point.Statement.{statement}
 use Rattle.disjoint.proofs.DisjointMap.point.Tie as tie
 
 pub point-spec : {M : Type 1} → statement M
+unfolding asEight
 point-spec =
     tie.close
     (tie.spec
     (λ c κs. search needs)
-    (λ c. search needs)
-    (λ c. search needs)
-    (λ c κs. search needs)
-    (λ c. search point-through)
-    (λ c. search point-away))
+    (λ c. search needs))

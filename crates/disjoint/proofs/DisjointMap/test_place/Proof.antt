@@ -1,3 +1,4 @@
+use Rattle.iset.proofs.Layouts.{capacity-same, room-few, room-six, room-eight}
 use Rattle.disjoint.proofs.Laws.{trial-over, trial-in}
 use borrow.Author.Needs.{needs}
 use Rattle.disjoint.proofs.DisjointMap.test_place.Statement.{statement}
@@ -8,6 +9,6 @@ test-place-spec =
     tie.close
     (tie.spec
     (λ c κs. search needs)
-    (λ c. search trial-over)
-    (λ c κs. search needs)
-    (λ c. search trial-in))
+    (λ c. search (trial-over, capacity-same))
+    (λ c κs. (search room-few, search room-six, search room-eight))
+    (λ c. search (trial-in, capacity-same)))

@@ -1,0 +1,12 @@
+use Rattle.words.specs.Layouts.{asEight}
+use borrow.Author.Needs.{needs}
+use Rattle.disjoint.proofs.DisjointMap.open_remove.Statement.{statement}
+use Rattle.disjoint.proofs.DisjointMap.open_remove.Tie as tie
+
+pub open-remove-spec : {M : Type 1} → statement M
+unfolding asEight
+open-remove-spec =
+    tie.close
+    (tie.spec
+    (λ c κs. search needs)
+    (λ c. search needs))
