@@ -5,18 +5,33 @@ use mathlib.Core.List.{List}
 use Prim.Native.Nat.{ℕ, zero, suc, _+_, _-_, _<_, _≤_}
 use native.Mathlib.Omega.{arith}
 use native.Mathlib.Numerals.{add-one}
+use Rattle.words.specs.Layouts.{kidFits, upFits}
 use Rattle.words.specs.Nodes.{kid, altered, fix, putNode}
 use Rattle.words.specs.declared.node.Entry.{Entry}
 use Rattle.bitvec.specs.Bits.{setBit}
 use Rattle.tree_edit.proofs.Links.{on-slot, on-none}
 use Rattle.image_rule.specs.Judge.{worked}
 use Rattle.image_rule.specs.Layout.{countIn, rootIn}
-use Rattle.image_rule.specs.Stored.{intervalIn, entryIn, linkIn, redIn, unpacked, painted, loadedWords, loadedColours}
+use Rattle.image_rule.specs.Stored.{intervalIn, entryIn, linkIn, LinksFit, redIn, unpacked, painted, loadedWords, loadedColours}
 
 pub slot-is : (I : List ℕ) (n : ℕ) (W X : List ℕ) (s i j k : ℕ) (e : Entry) → e ≡ entryIn I s → i ≡ linkIn I n s 0 → j ≡ linkIn I n s 1
     → k ≡ linkIn I n s 2 → X ≡ putNode W s e (record { start = e .start; end = e .end }) i j k
     → X ≡ putNode W s (entryIn I s) (intervalIn I s) (linkIn I n s 0) (linkIn I n s 1) (linkIn I n s 2)
 slot-is I n W X s i j k e a b c d q = q ∙ rw (a, b, c, d) refl
+
+-- the links of a slot, as they were read, fit the layout
+module _ (narrow : Bool) (I : List ℕ) (n s v : ℕ) (fit : LinksFit narrow I n) (live : s < n) where
+  pub left-fits : v ≡ linkIn I n s 0 → kidFits narrow v ≡ true
+  left-fits e = rw e (fit .left s live)
+
+  pub right-fits : v ≡ linkIn I n s 1 → kidFits narrow v ≡ true
+  right-fits e = rw e (fit .right s live)
+
+  pub up-fits : v ≡ linkIn I n s 2 → upFits narrow v ≡ true
+  up-fits e = rw e (fit .up s live)
+
+pub fit-counted : (narrow : Bool) (I : List ℕ) (n : ℕ) → n ≡ countIn I → LinksFit narrow I (countIn I) → LinksFit narrow I n
+fit-counted narrow I n e h = rw e h
 
 module _ (I : List ℕ) (n : ℕ) (W : List ℕ) where
   pub unpack-none : W ≡ unpacked I n 0 W

@@ -16,11 +16,11 @@ ghost use Rattle.words.specs.Layouts.{asEight, HoldsIn};
 ghost use Rattle.words.specs.Nodes.{putNode, HoldsBits};
 ghost use Rattle.image_rule.specs.Judge.{worked};
 ghost use Rattle.image_rule.specs.Layout.{Bodies, countIn, rootIn, laidOut};
-ghost use Rattle.image_rule.specs.Stored.{intervalIn, entryIn, linkIn, unpacked, painted, loadedWords, loadedColours};
+ghost use Rattle.image_rule.specs.Stored.{intervalIn, entryIn, linkIn, LinksFit, unpacked, painted, loadedWords, loadedColours};
 
 // Writes all words of one slot. Its own interval stands for its hull until that is worked out.
 fn unpack_slot(nodes: &mut [u64], narrow: bool, image: &[u8], count: u64, s: u64)
-    requires { ⌜ HoldsIn narrow (now nodes) count × Bodies (now image) count × (s < count) ⌝ }
+    requires { ⌜ HoldsIn narrow (now nodes) count × Bodies (now image) count × LinksFit narrow (now image) count × (s < count) ⌝ }
     ensures { λ _. ⌜ asEight narrow (now (nodes .exit)) ≡ putNode (asEight narrow (now (nodes .entry))) s (entryIn (now (image .entry)) s) (intervalIn (now (image .entry)) s) (linkIn (now (image .entry)) count s 0) (linkIn (now (image .entry)) count s 1) (linkIn (now (image .entry)) count s 2) ⌝ }
 {
     let e = entry_in(image, count, s);
@@ -36,7 +36,7 @@ fn unpack_slot(nodes: &mut [u64], narrow: bool, image: &[u8], count: u64, s: u64
 
 // Writes the words of all slots.
 fn unpack(nodes: &mut [u64], narrow: bool, image: &[u8], count: u64)
-    requires { ⌜ HoldsIn narrow (now nodes) count × Bodies (now image) count ⌝ }
+    requires { ⌜ HoldsIn narrow (now nodes) count × Bodies (now image) count × LinksFit narrow (now image) count ⌝ }
     ensures { λ _. ⌜ asEight narrow (now (nodes .exit)) ≡ unpacked (now (image .entry)) count count (asEight narrow (now (nodes .entry))) ⌝ }
 {
     let mut s: u64 = 0;
@@ -79,9 +79,10 @@ fn paint(colours: &mut [u8], image: &[u8], count: u64)
 }
 
 // Writes the map of an image to the words and the colours. Words and bits from the count up stay
-// unchanged.
+// unchanged. The links of an image that was judged good fit the nodes of either layout (`links-fit`
+// of image_rule/proofs/Fitting).
 pub fn load(nodes: &mut [u64], narrow: bool, colours: &mut [u8], image: &[u8])
-    requires { ⌜ (laidOut (now image) ≡ true) × (countIn (now image) ≤ 65535) × HoldsIn narrow (now nodes) (countIn (now image)) × HoldsBits (now colours) (countIn (now image)) ⌝ }
+    requires { ⌜ (laidOut (now image) ≡ true) × LinksFit narrow (now image) (countIn (now image)) × HoldsIn narrow (now nodes) (countIn (now image)) × HoldsBits (now colours) (countIn (now image)) ⌝ }
     ensures { λ _. ⌜ (asEight narrow (now (nodes .exit)) ≡ loadedWords (now (image .entry)) (countIn (now (image .entry))) (rootIn (now (image .entry))) (asEight narrow (now (nodes .entry)))) × (now (colours .exit) ≡ loadedColours (now (image .entry)) (countIn (now (image .entry))) (now (colours .entry))) ⌝ }
 {
     let count = count_in(image);

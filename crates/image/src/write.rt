@@ -66,7 +66,7 @@ fn put_entry(out: &mut [u8], at: usize, e: Entry)
 
 // Writes the entries of all slots.
 fn put_entries(nodes: &[u64], narrow: bool, count: u64, out: &mut [u8])
-    requires { ⌜ (count ≤ 65535) × HoldsIn narrow (now nodes) count × (linksAt count ≤ length (now out)) ⌝ }
+    requires { ⌜ HoldsIn narrow (now nodes) count × (linksAt count ≤ length (now out)) ⌝ }
     ensures { λ _. ⌜ now (out .exit) ≡ sets (now (out .entry)) 44 (entries (asEight narrow (now (nodes .entry))) count) ⌝ }
 {
     let mut s: u64 = 0;
@@ -79,7 +79,7 @@ fn put_entries(nodes: &[u64], narrow: bool, count: u64, out: &mut [u8])
 
 // Writes the links of all slots.
 fn put_links(nodes: &[u64], narrow: bool, count: u64, out: &mut [u8])
-    requires { ⌜ (count ≤ 65535) × HoldsIn narrow (now nodes) count × (coloursAt count ≤ length (now out)) ⌝ }
+    requires { ⌜ HoldsIn narrow (now nodes) count × (coloursAt count ≤ length (now out)) ⌝ }
     ensures { λ _. ⌜ now (out .exit) ≡ sets (now (out .entry)) (linksAt count) (links (asEight narrow (now (nodes .entry))) count) ⌝ }
 {
     let mut s: u64 = 0;
@@ -128,7 +128,7 @@ fn put_colours(colours: &[u8], count: u64, out: &mut [u8])
 
 // Writes the image of a map. Bytes after the image stay unchanged.
 pub fn write(nodes: &[u64], narrow: bool, colours: &[u8], count: u64, root: u64, out: &mut [u8])
-    requires { ⌜ (count ≤ 65535) × HoldsIn narrow (now nodes) count × HoldsBits (now colours) count × (imageLength count ≤ length (now out)) ⌝ }
+    requires { ⌜ HoldsIn narrow (now nodes) count × HoldsBits (now colours) count × (imageLength count ≤ length (now out)) ⌝ }
     ensures { λ _. ⌜ now (out .exit) ≡ sets (now (out .entry)) 0 (imageOf count root (asEight narrow (now (nodes .entry))) (now (colours .entry))) ⌝ }
 {
     put_header(out, count, root);

@@ -13,7 +13,7 @@ use Rattle.image.proofs.load.+work.{statement}
 use Rattle.image.proofs.load.+work.Tie.{close}
 
 abbrev μ-work : Measures 1 work-kinds.ps ℕ
-μ-work κs a = a .1 .1 .1 .0
+μ-work κs a = a .1 .1 .1 .1 .0
 
 abbrev work-at : ℕ → In 1 work-kinds.ps
 work-at t = and 1 work-kinds.ps (is 1 work-kinds.ps μ-work t) work.Pre

@@ -1,6 +1,6 @@
 use native.Mathlib.Omega.{arith}
 use Rattle.image.proofs.Layouts.{bodies}
-use Rattle.image.proofs.Loads.{load-words, load-colours}
+use Rattle.image.proofs.Loads.{fit-counted, load-words, load-colours}
 use borrow.Author.Needs.{needs}
 use Rattle.image.proofs.load.load.Statement.{statement}
 use Rattle.image.proofs.load.load.Tie as tie
@@ -11,7 +11,7 @@ load-spec =
     (tie.spec
     (λ c κs. search needs)
     (λ c κs. search needs)
-    (λ c κs. (omega arith, search bodies))
+    (λ c κs. (omega arith, search bodies, search fit-counted))
     (λ c κs. search needs)
     (λ c κs. (omega arith, search bodies))
     (λ c. search needs)
