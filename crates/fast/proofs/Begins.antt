@@ -2,14 +2,14 @@
 use mathlib.Core.Path.{_≡_, refl, sym, _∙_}
 use mathlib.Core.Bool.{Bool, true, false, cond, _&&_, _||_, true≢false}
 use mathlib.Core.List.{List, [], _∷_}
-use Prim.Native.Nat.{ℕ, _+_, _-_, _*_, _<_, _≤_}
+use Prim.Native.Nat.{ℕ, _+_, _-_, _<_, _≤_}
 use native.Mathlib.Omega.{arith}
-use lib.ListN.{length, getD}
+use lib.ListN.{length}
 use lib.Seq.{take-nil}
 use lib.Dec.{leb, ltb}
 use borrow.Author.Tests.{ltb-true, ltb-false, le-leb, lt-leb, le-ltb, eqb-true, eqb-false}
 use Rattle.words.specs.Ix.{linkOf, onLink}
-use Rattle.words.specs.Nodes.{word, start, stop, lo, hi, kid}
+use Rattle.words.specs.Nodes.{start, stop, lo, hi, kid}
 use Rattle.words.specs.Intervals.{passed, admits}
 use Rattle.words.specs.declared.interval.Bound.{Bound}
 use Rattle.words.specs.declared.interval.Bound.the-variants.{Included, Excluded, Unbounded}
@@ -17,6 +17,7 @@ use Rattle.words.specs.declared.interval.Interval.{Interval}
 use Rattle.words.specs.declared.interval.Span.{Span}
 use Rattle.words.specs.declared.ix.Link.{Link}
 use Rattle.words.specs.declared.ix.Link.the-variants.{Slot, Nil}
+use Rattle.words.specs.declared.node.Field.the-variants.{Start, End, HullStart, HullEnd}
 use Rattle.iter.specs.Drains.{filled}
 use Rattle.iter.specs.Exact.{exact, findFrom}
 use Rattle.words.specs.Lists.{filter}
@@ -25,6 +26,7 @@ use Rattle.iter.specs.Overlap.{meets}
 use Rattle.iter.specs.declared.rules.Query.{Query}
 use Rattle.iter.specs.declared.rules.Query.the-variants.{Overlap, Ruled, Exact}
 use Rattle.iter.proofs.Bools.{and-false}
+use Rattle.iter.proofs.Small.{Small}
 use Rattle.iter.proofs.Laws.{child-there, child-gone}
 use Rattle.fast_rule.specs.Fast.{nears, shouldEnter, narrow, fastRules, startAt, entering, fastNodes, fastHits, fitted}
 use Rattle.fast.specs.Numbers.{last, noEnd, noStart, leastEnd, lastStart, goesTo, liesIn, between}
@@ -32,10 +34,6 @@ use Rattle.fast.specs.Answers.{tally, Found, beyond, Down}
 use Rattle.plain.specs.declared.Tally.{Tally}
 use Rattle.fast.proofs.Writes.{sets-fitted}
 use Rattle.fast.proofs.Rounds.{step}
-
--- the words of a store have 64 bits
-abbrev pub Small : List ℕ → Type 0
-Small W = (i : ℕ) → getD W i 0 < 18446744073709551616
 
 -- two tests that say the same
 same-test : (a b c d : ℕ) → (a < b → c ≤ d) → (b ≤ a → d < c) → ltb a b ≡ leb c d
@@ -87,12 +85,11 @@ module _ (W : List ℕ) (small : Small W) (n : ℕ) (q : Span) where
   -- the rules by the two numbers are those by the range
   module _ (h : noStart (q .hi) ≡ false) where
     near-is : (a : ℕ) → leb (leastEnd (q .lo)) (hi W a) && leb (lo W a) (lastStart (q .hi)) ≡ nears W q a
-    unfolding word
-    near-is a = rw (← (passed-is (q .lo) (hi W a)), ← (admits-is (q .hi) (lo W a) h (small (a * 8 + 3))))
+    near-is a = rw (← (passed-is (q .lo) (hi W a)), ← (admits-is (q .hi) (lo W a) h (small HullStart a)))
 
     meets-is : (a : ℕ) → liesIn W (leastEnd (q .lo)) (lastStart (q .hi)) a ≡ meets W q a
-    unfolding word liesIn meets
-    meets-is a = rw (← (passed-is (q .lo) (stop W a)), ← (admits-is (q .hi) (start W a) h (small (a * 8 + 0))))
+    unfolding liesIn meets
+    meets-is a = rw (← (passed-is (q .lo) (stop W a)), ← (admits-is (q .hi) (start W a) h (small Start a)))
 
     rules-are : between W n (leastEnd (q .lo)) (lastStart (q .hi)) ≡ narrow W n q
     unfolding goesTo shouldEnter
@@ -108,8 +105,8 @@ module _ (W : List ℕ) (small : Small W) (n : ℕ) (q : Span) where
         go false j k = rw (admits-never (q .hi) s k) (and-false (passed (q .lo) e))
 
     stays : (b : Bool) (s : ℕ) → shouldEnter W n q b s ≡ false
-    unfolding shouldEnter onLink word
-    stays b s = rw (never (hi W (kid W b s)) (lo W (kid W b s)) (small (kid W b s * 8 + 4))) (go (leb n (kid W b s)))
+    unfolding shouldEnter onLink
+    stays b s = rw (never (hi W (kid W b s)) (lo W (kid W b s)) (small HullEnd (kid W b s))) (go (leb n (kid W b s)))
       where
         go : (t : Bool) → cond t false false ≡ false
         go true = refl
@@ -120,8 +117,8 @@ module _ (W : List ℕ) (small : Small W) (n : ℕ) (q : Span) where
     void-nodes top = rw (step W (narrow W n q) 32 top (omega arith), stays true top, stays false top)
 
     void-hits : (top : ℕ) → filter (meets W q) (top ∷ []) ≡ []
-    unfolding meets word
-    void-hits top = rw (never (stop W top) (start W top) (small (top * 8 + 1)))
+    unfolding meets
+    void-hits top = rw (never (stop W top) (start W top) (small End top))
 
 -- from where the lookup begins
 module _ (W : List ℕ) (n : ℕ) (query : Query) (root w : ℕ) (l : Link) (e : w ≡ startAt W n query root) (p : l ≡ linkOf n w) where

@@ -7,7 +7,6 @@ use iter::ranges::by_rule;
 use iter::rules::Query;
 use iter::rules::find_index;
 use iter::rules::goes_exact;
-use iter::rules::matches;
 use plain::Tally;
 use words::interval::Bound;
 use words::interval::Interval;
@@ -133,17 +132,11 @@ fn is_toward(
     )
 }
 
-fn is_equal(nodes: &[u64], narrow: bool, count: u64, start: u64, end: u64, slot: u64) -> bool
-    requires { ⌜ HoldsIn narrow (now nodes) count × (slot < count) ⌝ }
+fn is_equal(nodes: &[u64], narrow: bool, start: u64, end: u64, slot: u64) -> bool
+    requires { ⌜ HasIn narrow (now nodes) slot ⌝ }
     ensures { λ r. ⌜ r ≡ equals (asEight narrow (now (nodes .entry))) (record { start = start; end = end }) slot ⌝ }
 {
-    matches(
-        nodes,
-        narrow,
-        count,
-        Query::Exact(Interval { start, end }),
-        slot,
-    )
+    iter::rules::is_equal(nodes, narrow, Interval { start, end }, slot)
 }
 
 // Writes a slot to a place of the output, if the output has that place.
@@ -184,8 +177,7 @@ fn overlap_left(
     entered: u64,
 ) -> Tally
     requires { ⌜ HoldsIn narrow (now nodes) count × (slot < count) × Room hits entered height ⌝ }
-    ensures { λ r. ⌜ Left (asEight narrow (now (nodes .entry))) (between (asEight narrow (now (nodes .entry))) count low high) height slot
-        hits entered r (now (out .entry)) (now (out .exit)) ⌝ }
+    ensures { λ r. ⌜ Left (asEight narrow (now (nodes .entry))) (between (asEight narrow (now (nodes .entry))) count low high) height slot hits entered r (now (out .entry)) (now (out .exit)) ⌝ }
 {
     if is_near(nodes, narrow, count, low, high, slot, true) {
         let child = child_of(nodes, narrow, slot, true);
@@ -221,8 +213,7 @@ fn overlap_down(
     entered: u64,
 ) -> Tally
     requires { ⌜ HoldsIn narrow (now nodes) count × (slot < count) × Room hits entered height ⌝ }
-    ensures { λ r. ⌜ Down (asEight narrow (now (nodes .entry))) (between (asEight narrow (now (nodes .entry))) count low high) height slot
-        hits entered r (now (out .entry)) (now (out .exit)) ⌝ }
+    ensures { λ r. ⌜ Down (asEight narrow (now (nodes .entry))) (between (asEight narrow (now (nodes .entry))) count low high) height slot hits entered r (now (out .entry)) (now (out .exit)) ⌝ }
 {
     let mut at = slot;
     let mut left = height;
@@ -230,18 +221,8 @@ fn overlap_down(
     let mut seen = entered;
     while left > 0 {
         left -= 1;
-        let part = overlap_left(
-            nodes,
-            narrow,
-            count,
-            low,
-            high,
-            at,
-            left,
-            out,
-            found,
-            seen + 1,
-        );
+        seen += 1;
+        let part = overlap_left(nodes, narrow, count, low, high, at, left, out, found, seen);
         found = note(out, part.hits, at, is_within(nodes, narrow, low, high, at));
         seen = part.entered;
         if is_near(nodes, narrow, count, low, high, at, false) {
@@ -273,8 +254,7 @@ fn exact_left(
     entered: u64,
 ) -> Tally
     requires { ⌜ HoldsIn narrow (now nodes) count × (slot < count) × Room hits entered height ⌝ }
-    ensures { λ r. ⌜ Left (asEight narrow (now (nodes .entry))) (exact (asEight narrow (now (nodes .entry))) count (record { start = start; end = end })) height slot
-        hits entered r (now (out .entry)) (now (out .exit)) ⌝ }
+    ensures { λ r. ⌜ Left (asEight narrow (now (nodes .entry))) (exact (asEight narrow (now (nodes .entry))) count (record { start = start; end = end })) height slot hits entered r (now (out .entry)) (now (out .exit)) ⌝ }
 {
     if is_toward(nodes, narrow, count, start, end, slot, true) {
         let child = child_of(nodes, narrow, slot, true);
@@ -308,8 +288,7 @@ fn exact_down(
     entered: u64,
 ) -> Tally
     requires { ⌜ HoldsIn narrow (now nodes) count × (slot < count) × Room hits entered height ⌝ }
-    ensures { λ r. ⌜ Down (asEight narrow (now (nodes .entry))) (exact (asEight narrow (now (nodes .entry))) count (record { start = start; end = end })) height slot
-        hits entered r (now (out .entry)) (now (out .exit)) ⌝ }
+    ensures { λ r. ⌜ Down (asEight narrow (now (nodes .entry))) (exact (asEight narrow (now (nodes .entry))) count (record { start = start; end = end })) height slot hits entered r (now (out .entry)) (now (out .exit)) ⌝ }
 {
     let mut at = slot;
     let mut left = height;
@@ -317,24 +296,9 @@ fn exact_down(
     let mut seen = entered;
     while left > 0 {
         left -= 1;
-        let part = exact_left(
-            nodes,
-            narrow,
-            count,
-            start,
-            end,
-            at,
-            left,
-            out,
-            found,
-            seen + 1,
-        );
-        found = note(
-            out,
-            part.hits,
-            at,
-            is_equal(nodes, narrow, count, start, end, at),
-        );
+        seen += 1;
+        let part = exact_left(nodes, narrow, count, start, end, at, left, out, found, seen);
+        found = note(out, part.hits, at, is_equal(nodes, narrow, start, end, at));
         seen = part.entered;
         if is_toward(nodes, narrow, count, start, end, at, false) {
             at = child_of(nodes, narrow, at, false);

@@ -4,6 +4,7 @@ use native.Mathlib.Omega.{arith}
 use borrow.Author.Needs.{needs}
 use borrow.Fn.Kinds.{In}
 use borrow.Fn.PlainCycle.{Measures, is, falls, and}
+use Rattle.words.specs.Layouts.{asEight}
 use Rattle.iter.specs.Exact.{exact}
 use Rattle.fast.proofs.Rounds.{Going, begin, left-room, kept-length, note-room, next-room, again, stops, ends, left-there, left-none}
 use Rattle.fast.proofs.Bounds.{exact-live}
@@ -22,10 +23,10 @@ use Rattle.fast.proofs.+exact_down+exact_left.Tie.{close}
 
 -- the height that is left, twice: the left part hands its own on, and the way down one less
 abbrev μ-exact-down : Measures 2 exact-down-kinds.ps ℕ
-μ-exact-down κs a = 2 * a .1 .1 .1 .1 .1 .0
+μ-exact-down κs a = 2 * a .1 .1 .1 .1 .1 .1 .0
 
 abbrev μ-exact-left : Measures 2 exact-left-kinds.ps ℕ
-μ-exact-left κs a = 2 * a .1 .1 .1 .1 .1 .0 + 1
+μ-exact-left κs a = 2 * a .1 .1 .1 .1 .1 .1 .0 + 1
 
 abbrev exact-down-at : ℕ → In 2 exact-down-kinds.ps
 exact-down-at t = and 2 exact-down-kinds.ps (is 2 exact-down-kinds.ps μ-exact-down t) exact-down.Pre
@@ -40,10 +41,10 @@ abbrev exact-left-below : ℕ → In 2 exact-left-kinds.ps
 exact-left-below t = and 2 exact-left-kinds.ps (falls 2 exact-left-kinds.ps _<_ μ-exact-left t) exact-left.Pre
 
 abbrev exact-down-Inv-loop : exact-down-lts.InvT-loop
-exact-down-Inv-loop nodes count start end slot height out₀ hits entered at₀ left₀ found₀ seen₀ out at left found seen = Going nodes (exact nodes count (record { start = start; end = end })) count slot height out₀ hits entered out at left found seen
+exact-down-Inv-loop nodes narrow count start end slot height out₀ hits entered at₀ left₀ found₀ seen₀ out at left found seen = Going (asEight narrow nodes) (exact (asEight narrow nodes) count (record { start = start; end = end })) count slot height out₀ hits entered out at left found seen
 
 abbrev exact-down-μ-loop : exact-down-lts.MeasureT-loop
-exact-down-μ-loop nodes count start end slot height out₀ hits entered at₀ left₀ found₀ seen₀ out at left found seen = left
+exact-down-μ-loop nodes narrow count start end slot height out₀ hits entered at₀ left₀ found₀ seen₀ out at left found seen = left
 
 pub +exact-down+exact-left-spec : {M : Type 1} → statement M
 +exact-down+exact-left-spec = close μ-exact-down μ-exact-left

@@ -4,6 +4,7 @@ use native.Mathlib.Omega.{arith}
 use borrow.Author.Needs.{needs}
 use borrow.Fn.Kinds.{In}
 use borrow.Fn.PlainCycle.{Measures, is, falls, and}
+use Rattle.words.specs.Layouts.{asEight}
 use Rattle.fast.specs.Numbers.{between}
 use Rattle.fast.proofs.Rounds.{Going, begin, left-room, kept-length, note-room, next-room, again, stops, ends, left-there, left-none}
 use Rattle.fast.proofs.Bounds.{near-live}
@@ -22,10 +23,10 @@ use Rattle.fast.proofs.+overlap_down+overlap_left.Tie.{close}
 
 -- the height that is left, twice: the left part hands its own on, and the way down one less
 abbrev μ-overlap-down : Measures 2 overlap-down-kinds.ps ℕ
-μ-overlap-down κs a = 2 * a .1 .1 .1 .1 .1 .0
+μ-overlap-down κs a = 2 * a .1 .1 .1 .1 .1 .1 .0
 
 abbrev μ-overlap-left : Measures 2 overlap-left-kinds.ps ℕ
-μ-overlap-left κs a = 2 * a .1 .1 .1 .1 .1 .0 + 1
+μ-overlap-left κs a = 2 * a .1 .1 .1 .1 .1 .1 .0 + 1
 
 abbrev overlap-down-at : ℕ → In 2 overlap-down-kinds.ps
 overlap-down-at t = and 2 overlap-down-kinds.ps (is 2 overlap-down-kinds.ps μ-overlap-down t) overlap-down.Pre
@@ -40,10 +41,10 @@ abbrev overlap-left-below : ℕ → In 2 overlap-left-kinds.ps
 overlap-left-below t = and 2 overlap-left-kinds.ps (falls 2 overlap-left-kinds.ps _<_ μ-overlap-left t) overlap-left.Pre
 
 abbrev overlap-down-Inv-loop : overlap-down-lts.InvT-loop
-overlap-down-Inv-loop nodes count low high slot height out₀ hits entered at₀ left₀ found₀ seen₀ out at left found seen = Going nodes (between nodes count low high) count slot height out₀ hits entered out at left found seen
+overlap-down-Inv-loop nodes narrow count low high slot height out₀ hits entered at₀ left₀ found₀ seen₀ out at left found seen = Going (asEight narrow nodes) (between (asEight narrow nodes) count low high) count slot height out₀ hits entered out at left found seen
 
 abbrev overlap-down-μ-loop : overlap-down-lts.MeasureT-loop
-overlap-down-μ-loop nodes count low high slot height out₀ hits entered at₀ left₀ found₀ seen₀ out at left found seen = left
+overlap-down-μ-loop nodes narrow count low high slot height out₀ hits entered at₀ left₀ found₀ seen₀ out at left found seen = left
 
 pub +overlap-down+overlap-left-spec : {M : Type 1} → statement M
 +overlap-down+overlap-left-spec = close μ-overlap-down μ-overlap-left

@@ -3,6 +3,7 @@ use mathlib.Core.List.{_++_}
 use Prim.Native.Nat.{_+_, _-_, _≤_}
 use native.Mathlib.Omega.{arith}
 use lib.ListN.{length, take, drop}
+use Rattle.words.specs.Layouts.{asEight}
 use Rattle.words.specs.Lists.{filter}
 use Rattle.words.proofs.Laws.{slot-live}
 use Rattle.iter.specs.Queries.{rules}
@@ -13,11 +14,11 @@ use Rattle.plain.proofs.scan.Statement.{statement}
 use Rattle.plain.proofs.scan.Tie as tie
 
 abbrev Inv-loop : tie.InvT-loop
-Inv-loop nodes count root query out₀ all at₀ hits₀ seen₀ out at hits seen = (plain count nodes (rules nodes count query) root ≡ take hits out ++ filter (rules nodes count query .match) (tour count (count - seen) nodes at))
-    × (length (entries count nodes root) ≡ seen + length (tour count (count - seen) nodes at)) × (hits ≤ seen) × (seen ≤ count) × (drop hits out ≡ drop hits out₀) × (length out ≡ length out₀)
+Inv-loop nodes narrow count root query out₀ all at₀ hits₀ seen₀ out at hits seen = (plain count (asEight narrow nodes) (rules (asEight narrow nodes) count query) root ≡ take hits out ++ filter (rules (asEight narrow nodes) count query .match) (tour count (count - seen) (asEight narrow nodes) at))
+    × (length (entries count (asEight narrow nodes) root) ≡ seen + length (tour count (count - seen) (asEight narrow nodes) at)) × (hits ≤ seen) × (seen ≤ count) × (drop hits out ≡ drop hits out₀) × (length out ≡ length out₀)
 
 abbrev μ-loop : tie.MeasureT-loop
-μ-loop nodes count root query out₀ all at₀ hits₀ seen₀ out at hits seen = count - seen
+μ-loop nodes narrow count root query out₀ all at₀ hits₀ seen₀ out at hits seen = count - seen
 
 pub scan-spec : {M : Type 1} → statement M
 scan-spec =
