@@ -44,7 +44,7 @@ module _ (W C : List ℕ) (n r : ℕ) (P : Passes W C n r) (Q : ℕ → Type 0) 
   root-is : Q r
   root-is = link-is W n Q none slot U r (P .tree) (P .shape)
 
-  passing-links : (s : ℕ) → s < n → ((b : Bool) → Q (kid W b s)) × Q (par W s)
+  pub passing-links : (s : ℕ) → s < n → ((b : Bool) → Q (kid W b s)) × Q (par W s)
   passing-links s q = links-are W n Q none slot U r (P .tree) (P .shape) none s (omega (arith, P .once s q))
 
 module _ (W C : List ℕ) (n r : ℕ) (small : n ≤ 65535) (wide : Words W) (P : Passes W C n r) where

@@ -3,7 +3,7 @@
 use mathlib.Core.Path.{_≡_, refl, sym, ap, _∙_}
 use mathlib.Core.Bool.{Bool, true, false, cond}
 use mathlib.Core.List.{List, _++_}
-use Prim.Native.Nat.{ℕ, _<_, _≤_}
+use Prim.Native.Nat.{ℕ, _<_, _≤_, _+_, _*_}
 use native.Mathlib.Omega.{arith}
 use native.Mathlib.Nat.{zero-add}
 use lib.ListN.{length, drop}
@@ -20,7 +20,7 @@ use Rattle.audit.specs.Survey.{wholeOf}
 use Rattle.audit.proofs.Decides.{audit-sound, audit-complete}
 use Rattle.iter.specs.Drains.{filled}
 use Rattle.image_rule.specs.Layout.{imageLength, countIn, rootIn, laidOut}
-use Rattle.image_rule.specs.Stored.{isGood, loadedWords, loadedColours}
+use Rattle.image_rule.specs.Stored.{LinksFit, isGood, loadedWords, loadedColours}
 use Rattle.image_rule.specs.Written.{imageOf}
 use Rattle.image_rule.proofs.Stores.{good-whole}
 use Rattle.image_rule.proofs.Reread.{length-image}
@@ -30,6 +30,7 @@ use Rattle.iset.specs.Image.{openWriteImageNumber, writeDone, refusedWri
 use Rattle.iset.specs.declared.Map.{Map}
 use Rattle.iset.specs.declared.Checked.{Checked}
 use Rattle.iset.specs.declared.Checked.the-variants.{Sound, Refused}
+use Rattle.image_rule.proofs.Fitting.{links-fit}
 use Rattle.iset.proofs.Layouts.{capacity-same, held-few, held-six, held-eight}
 use Rattle.iset.proofs.Checks.{both-zero, places-held, count-zero}
 
@@ -183,3 +184,6 @@ module _ (narrow : Bool) (N C I : List ℕ) (t : Checked) (e : checkNumber t ≡
 
   pub read-bits : HoldsBits C (countIn I)
   read-bits = omega (arith, passed-read .1)
+
+  pub read-links : LinksFit narrow I (countIn I)
+  read-links = links-fit narrow I (countIn I) (rootIn I) read-few (passed-read .2)

@@ -12,7 +12,7 @@ use Rattle.words.specs.declared.node.Field.the-variants.{Parent}
 use Rattle.words.proofs.Layouts.{length-unpack, eight-injective, eight-slots, word-unpack, tops-high}
 use Rattle.tree.specs.Passes.{Passes}
 use Rattle.tree.proofs.Cases.{compare}
-use Rattle.image_rule.proofs.Fitting.{links-low}
+use Rattle.image_rule.proofs.Fitting.{passing-links}
 use Rattle.iset.specs.Check.{checkRule}
 use Rattle.iset.specs.declared.Map.{Map}
 use Rattle.iset.proofs.Checks.{two-check}
@@ -50,6 +50,9 @@ module _ (narrow : Bool) (n len bytes c : ℕ) (e : c ≡ capacityAs narrow len 
   pub room-few : n ≤ 65535
   room-few = omega arith
 
+  pub room-bits : n ≤ bitsOf bytes
+  room-bits = omega arith
+
   pub room-six : n * 6 ≤ len
   room-six = go narrow e
     where
@@ -81,7 +84,7 @@ tops-clear N C n r small h s l room =
     (λ q. q)
   where
     low : par (unpack N) s ≤ U
-    low = links-low (unpack N) n small U r (h .tree) (h .shape) (omega arith) s (omega (arith, h .once s l)) .1
+    low = passing-links (unpack N) C n r h (λ k. k ≤ U) (omega arith) (λ a i. omega arith) s l .1
 
 -- "2 where top bits are set", of a slot below the count
 pub tops-refused : (m : Map) (N C : List ℕ) (s : ℕ) → m .count ≤ capacityAs true (length N) (length C) → s < m .count

@@ -1,4 +1,4 @@
-use Rattle.iset.proofs.Layouts.{capacity-same}
+use Rattle.iset.proofs.Layouts.{capacity-same, room-few, room-six, room-eight, room-bits}
 use Rattle.iset.proofs.Laws.{over-room, in-room, tested}
 use Rattle.iset.specs.Check.{checkRule}
 use borrow.Author.Needs.{needs}
@@ -12,6 +12,6 @@ check-in-spec =
     (tie.spec
     (λ c κs. search needs)
     (λ c. search (over-room, capacity-same))
-    (λ c κs. search needs)
+    (λ c κs. ((search room-few, search room-six, search room-eight), search room-bits))
     (λ c κs. search needs)
     (λ c. search (in-room, capacity-same, tested)))

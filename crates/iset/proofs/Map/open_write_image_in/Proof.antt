@@ -10,7 +10,7 @@ open-write-image-in-spec =
     (λ c κs. search needs)
     (λ c. search needs)
     (λ c. search needs)
-    (λ c κs. (search write-few, (search write-few, search write-six, search write-eight), search write-bits, search write-places))
+    (λ c κs. ((search write-few, search write-six, search write-eight), search write-bits, search write-places))
     (λ c κs. search write-short)
     (λ c. search needs)
     (λ c. search image-written)

@@ -1,6 +1,6 @@
 use Rattle.iset.specs.Image.{readImageCall}
 use Rattle.iset.proofs.Laws.{let-through, turned-away, refused-build, done-build}
-use Rattle.iset.proofs.Images.{read-laid, read-few, read-six, read-eight, read-bits}
+use Rattle.iset.proofs.Images.{read-laid, read-few, read-links, read-six, read-eight, read-bits}
 use borrow.Author.Needs.{needs}
 use Rattle.iset.proofs.Map.read_image_in.Statement.{statement}
 use Rattle.iset.proofs.Map.read_image_in.Tie as tie
@@ -13,11 +13,12 @@ read-image-in-spec =
     (λ c κs. search needs)
     (λ c. search needs)
     (λ c. search needs)
-    (λ c κs. (search read-laid, search read-few, (search read-few, search read-six, search read-eight), search read-bits))
+    (λ c κs. (search read-laid, search read-links, (search read-few, search read-six, search read-eight), search read-bits))
     (λ c κs. search read-laid)
     (λ c κs. search read-laid)
     (λ c κs. search needs)
     (λ c. search needs)
     (λ c. search needs)
     (λ c. search (let-through, done-build))
+    (λ c. search needs)
     (λ c. search (turned-away, refused-build)))
