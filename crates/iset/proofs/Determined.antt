@@ -103,13 +103,13 @@ use Rattle.iset.proofs.Map.check.Reads as check-reads
 use Rattle.iset.proofs.Map.check.Kinds as check-kinds
 
 -- One equation determines each part. The answer is read back from what it stands for.
-same-effect : {A B : Type 0} {a a′ : A} {r r′ : B} {W W′ C C′ : List ℕ} {x : Effect A} (at : A → B) → at a ≡ r → at a′ ≡ r′
+pub same-effect : {A B : Type 0} {a a′ : A} {r r′ : B} {W W′ C C′ : List ℕ} {x : Effect A} (at : A → B) → at a ≡ r → at a′ ≡ r′
     → effect a W C ≡ x → effect a′ W′ C′ ≡ x → (r ≡ r′) × (W ≡ W′) × (C ≡ C′)
 same-effect {A = A} {a = a} {a′ = a′} {W = W} {W′ = W′} {C = C} {C′ = C′} at b b′ p q =
     let e : effect a W C ≡ effect a′ W′ C′ = p ∙ sym q in
     (sym b ∙ ap (λ (c : Effect A). at (c .answer)) e ∙ b′, ap (λ (c : Effect A). c .words) e, ap (λ (c : Effect A). c .colours) e)
 
-same-output : {A B : Type 0} {a a′ : A} {r r′ : B} {X X′ : List ℕ} {x : Output A} (at : A → B) → at a ≡ r → at a′ ≡ r′
+pub same-output : {A B : Type 0} {a a′ : A} {r r′ : B} {X X′ : List ℕ} {x : Output A} (at : A → B) → at a ≡ r → at a′ ≡ r′
     → output a X ≡ x → output a′ X′ ≡ x → (r ≡ r′) × (X ≡ X′)
 same-output {A = A} {a = a} {a′ = a′} {X = X} {X′ = X′} at b b′ p q =
     let e : output a X ≡ output a′ X′ = p ∙ sym q in
@@ -126,10 +126,10 @@ pub number-determined :
 number-determined κs a r r′ s s′ p q = p ∙ sym q
 
 -- the check's number says which answer it is
-abbrev checkedAt : ℕ → Checked
+abbrev pub checkedAt : ℕ → Checked
 checkedAt k = cond (eqb k 0) Sound (Refused (refusalAt k))
 
-checked-back : (r : Checked) → checkedAt (checkNumber r) ≡ r
+pub checked-back : (r : Checked) → checkedAt (checkNumber r) ≡ r
 checked-back Sound = refl
 checked-back (Refused y) = rw (ne-eqb (refusalNumber y) 0 (omega (arith, number-pos y)), at-number y)
 
@@ -139,10 +139,10 @@ pub check-determined :
 check-determined κs a r r′ s s′ p q = sym (checked-back r) ∙ ap checkedAt (p ∙ sym q) ∙ checked-back r′
 
 -- and so do a build's
-abbrev builtAt : BuildAnswer → Built
+abbrev pub builtAt : BuildAnswer → Built
 builtAt x = cond (eqb (x .no) 0) (Done (x .map)) (built.Refused (refusalAt (x .no)))
 
-built-back : (m : Map) (r : Built) → builtAt (buildAnswer m r) ≡ r
+pub built-back : (m : Map) (r : Built) → builtAt (buildAnswer m r) ≡ r
 built-back m (Done n) = refl
 built-back m (built.Refused y) = rw (ne-eqb (refusalNumber y) 0 (omega (arith, number-pos y)), at-number y)
 
@@ -152,13 +152,13 @@ pub build-determined :
 build-determined κs a r r′ s s′ p q = same-effect builtAt (built-back _ r) (built-back _ r′) p q
 
 -- and a removal's
-abbrev removalAt : RemoveAnswer → Removal
+abbrev pub removalAt : RemoveAnswer → Removal
 removalAt x =
     cond (eqb (x .no) 0)
     (removal.Done (record { map = x .map; value = x .value; pairs = x .pairs; reach = x .reach }))
     (removal.Refused (refusalAt (x .no)))
 
-removal-back : (m : Map) (r : Removal) → removalAt (removeAnswer m r) ≡ r
+pub removal-back : (m : Map) (r : Removal) → removalAt (removeAnswer m r) ≡ r
 removal-back m (removal.Done g) = refl
 removal-back m (removal.Refused y) = rw (ne-eqb (refusalNumber y) 0 (omega (arith, number-pos y)), at-number y)
 
@@ -168,13 +168,13 @@ pub remove-determined :
 remove-determined κs a r r′ s s′ p q = same-effect removalAt (removal-back _ r) (removal-back _ r′) p q
 
 -- and an insertion's
-abbrev insertionAt : InsertAnswer → Insertion
+abbrev pub insertionAt : InsertAnswer → Insertion
 insertionAt x =
     cond (eqb (x .no) 0)
     (insertion.Done (record { map = x .map; slot = x .slot; reach = x .reach }))
     (insertion.Refused (refusalAt (x .no)))
 
-insertion-back : (m : Map) (r : Insertion) → insertionAt (insertAnswer m r) ≡ r
+pub insertion-back : (m : Map) (r : Insertion) → insertionAt (insertAnswer m r) ≡ r
 insertion-back m (insertion.Done g) = refl
 insertion-back m (insertion.Refused y) = rw (ne-eqb (refusalNumber y) 0 (omega (arith, number-pos y)), at-number y)
 
@@ -195,10 +195,10 @@ pub ticket-determined :
     → ticket-reads.Post κs a r s → ticket-reads.Post κs a r′ s′ → r ≡ r′
 ticket-determined κs a r r′ s s′ p q = p ∙ sym q
 
-abbrev readingAt : ReadAnswer → Reading
+abbrev pub readingAt : ReadAnswer → Reading
 readingAt x = cond (eqb (x .no) 0) (reading.Done (x .entry)) (reading.Refused (refusalAt (x .no)))
 
-reading-back : (r : Reading) → readingAt (readAnswer r) ≡ r
+pub reading-back : (r : Reading) → readingAt (readAnswer r) ≡ r
 reading-back (reading.Done e) = refl
 reading-back (reading.Refused y) = rw (ne-eqb (refusalNumber y) 0 (omega (arith, number-pos y)), at-number y)
 
@@ -208,10 +208,10 @@ pub read-determined :
 read-determined κs a r r′ s s′ p q = sym (reading-back r) ∙ ap readingAt (p ∙ sym q) ∙ reading-back r′
 
 -- an image's
-abbrev writtenAt : WriteAnswer → Written
+abbrev pub writtenAt : WriteAnswer → Written
 writtenAt x = cond (eqb (x .no) 0) (written.Done (x .length)) (written.Refused (refusalAt (x .no)))
 
-written-back : (r : Written) → writtenAt (writeAnswer r) ≡ r
+pub written-back : (r : Written) → writtenAt (writeAnswer r) ≡ r
 written-back (written.Done v) = refl
 written-back (written.Refused y) = rw (ne-eqb (refusalNumber y) 0 (omega (arith, number-pos y)), at-number y)
 
@@ -228,10 +228,10 @@ pub read-image-determined :
 read-image-determined κs a r r′ s s′ p q = same-effect builtAt (built-back _ r) (built-back _ r′) p q
 
 -- a fresh cursor's, a step's and a drain's
-abbrev startedAt : StartAnswer → Started
+abbrev pub startedAt : StartAnswer → Started
 startedAt x = cond (eqb (x .no) 0) (started.Done (x .cursor)) (started.Refused (refusalAt (x .no)))
 
-started-back : (r : Started) → startedAt (startAnswer r) ≡ r
+pub started-back : (r : Started) → startedAt (startAnswer r) ≡ r
 started-back (started.Done c) = refl
 started-back (started.Refused y) = rw (ne-eqb (refusalNumber y) 0 (omega (arith, number-pos y)), at-number y)
 
@@ -254,10 +254,10 @@ fresh-exact-determined κs a r r′ s s′ p q = sym (started-back r) ∙ ap sta
 abbrev stepAt : StepAnswer → Step
 stepAt x = cond (x .hit) (Hit (x .next) (x .entered)) (End (x .entered))
 
-abbrev steppedAt : StepAnswer → Stepped
+abbrev pub steppedAt : StepAnswer → Stepped
 steppedAt x = cond (eqb (x .no) 0) (stepped.Done (stepAt x)) (stepped.Refused (refusalAt (x .no)))
 
-stepped-back : (c : Cursor) (r : Stepped) → steppedAt (stepAnswer c r) ≡ r
+pub stepped-back : (c : Cursor) (r : Stepped) → steppedAt (stepAnswer c r) ≡ r
 stepped-back c (stepped.Done (Hit d e)) = refl
 stepped-back c (stepped.Done (End e)) = refl
 stepped-back c (stepped.Refused y) = rw (ne-eqb (refusalNumber y) 0 (omega (arith, number-pos y)), at-number y)
@@ -267,11 +267,11 @@ pub step-determined :
     → step-reads.Post κs a r s → step-reads.Post κs a r′ s′ → r ≡ r′
 step-determined κs a r r′ s s′ p q = sym (stepped-back _ r) ∙ ap steppedAt (p ∙ sym q) ∙ stepped-back _ r′
 
-abbrev drainAt : DrainAnswer → Drain
+abbrev pub drainAt : DrainAnswer → Drain
 drainAt x =
     cond (eqb (x .no) 0) (drain.Done (record { hits = x .hits; entered = x .entered; next = x .next })) (drain.Refused (refusalAt (x .no)))
 
-drain-back : (c : Cursor) (r : Drain) → drainAt (drainAnswer c r) ≡ r
+pub drain-back : (c : Cursor) (r : Drain) → drainAt (drainAnswer c r) ≡ r
 drain-back c (drain.Done d) = refl
 drain-back c (drain.Refused y) = rw (ne-eqb (refusalNumber y) 0 (omega (arith, number-pos y)), at-number y)
 
@@ -280,10 +280,10 @@ pub drain-determined :
     → drain-reads.Post κs a r s → drain-reads.Post κs a r′ s′ → (r ≡ r′) × (now (s .1 .1 .1 .1 .1 .1 .0) ≡ now (s′ .1 .1 .1 .1 .1 .1 .0))
 drain-determined κs a r r′ s s′ p q = same-output drainAt (drain-back _ r) (drain-back _ r′) p q
 
-abbrev lookedAt : TallyAnswer → Looked
+abbrev pub lookedAt : TallyAnswer → Looked
 lookedAt x = cond (eqb (x .no) 0) (looked.Done (record { hits = x .hits; entered = x .entered })) (looked.Refused (refusalAt (x .no)))
 
-looked-back : (r : Looked) → lookedAt (tallyAnswer r) ≡ r
+pub looked-back : (r : Looked) → lookedAt (tallyAnswer r) ≡ r
 looked-back (looked.Done a) = refl
 looked-back (looked.Refused y) = rw (ne-eqb (refusalNumber y) 0 (omega (arith, number-pos y)), at-number y)
 

@@ -28,6 +28,7 @@ pub mod Below
 pub mod Laws
 pub mod Layouts
 pub mod Determined
+pub mod DeterminedIn
 pub mod Demands
 pub mod Saves
 pub mod Fits
