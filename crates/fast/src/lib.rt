@@ -292,26 +292,26 @@ fn exact_down(
 {
     let mut at = slot;
     let mut left = height;
-    let mut found = hits;
-    let mut seen = entered;
+    let mut same = hits;
+    let mut tried = entered;
     while left > 0 {
         left -= 1;
-        seen += 1;
-        let part = exact_left(nodes, narrow, count, start, end, at, left, out, found, seen);
-        found = note(out, part.hits, at, is_equal(nodes, narrow, start, end, at));
-        seen = part.entered;
+        tried += 1;
+        let part = exact_left(nodes, narrow, count, start, end, at, left, out, same, tried);
+        same = note(out, part.hits, at, is_equal(nodes, narrow, start, end, at));
+        tried = part.entered;
         if is_toward(nodes, narrow, count, start, end, at, false) {
             at = child_of(nodes, narrow, at, false);
         } else {
             return Tally {
-                hits: found,
-                entered: seen,
+                hits: same,
+                entered: tried,
             };
         }
     }
     Tally {
-        hits: found,
-        entered: seen,
+        hits: same,
+        entered: tried,
     }
 }
 

@@ -41,10 +41,10 @@ abbrev exact-left-below : ℕ → In 2 exact-left-kinds.ps
 exact-left-below t = and 2 exact-left-kinds.ps (falls 2 exact-left-kinds.ps _<_ μ-exact-left t) exact-left.Pre
 
 abbrev exact-down-Inv-loop : exact-down-lts.InvT-loop
-exact-down-Inv-loop nodes narrow count start end slot height out₀ hits entered at₀ left₀ found₀ seen₀ out at left found seen = Going (asEight narrow nodes) (exact (asEight narrow nodes) count (record { start = start; end = end })) count slot height out₀ hits entered out at left found seen
+exact-down-Inv-loop nodes narrow count start end slot height out₀ hits entered at₀ left₀ same₀ tried₀ out at left same tried = Going (asEight narrow nodes) (exact (asEight narrow nodes) count (record { start = start; end = end })) count slot height out₀ hits entered out at left same tried
 
 abbrev exact-down-μ-loop : exact-down-lts.MeasureT-loop
-exact-down-μ-loop nodes narrow count start end slot height out₀ hits entered at₀ left₀ found₀ seen₀ out at left found seen = left
+exact-down-μ-loop nodes narrow count start end slot height out₀ hits entered at₀ left₀ same₀ tried₀ out at left same tried = left
 
 pub +exact-down+exact-left-spec : {M : Type 1} → statement M
 +exact-down+exact-left-spec = close μ-exact-down μ-exact-left
