@@ -22,6 +22,7 @@ use Rattle.iset.specs.declared.Checked.{Checked}
 use Rattle.iset.specs.declared.Checked.the-variants as checked
 use Rattle.iset.specs.declared.remove.Removal.{Removal}
 use Rattle.iset.specs.declared.remove.Removal.the-variants as removal
+use Rattle.iset.proofs.Determined.{same-effect, checkedAt, checked-back, removalAt, removal-back}
 use Rattle.disjoint.specs.Point.{PointAnswer, pointAnswer}
 use Rattle.disjoint.specs.Place.{placeAnswer}
 use Rattle.disjoint.specs.declared.point.Pointed.{Pointed}
@@ -43,30 +44,16 @@ use Rattle.disjoint.proofs.DisjointMap.remove.Kinds as remove-kinds
 use Rattle.disjoint.proofs.DisjointMap.open_remove.Reads as open-remove-reads
 use Rattle.disjoint.proofs.DisjointMap.open_remove.Kinds as open-remove-kinds
 
--- One equation determines each part. The answer is read back from what it stands for.
-same-effect : {A B : Type 0} {a a′ : A} {r r′ : B} {W W′ C C′ : List ℕ} {x : Effect A} (at : A → B) → at a ≡ r → at a′ ≡ r′
-    → effect a W C ≡ x → effect a′ W′ C′ ≡ x → (r ≡ r′) × (W ≡ W′) × (C ≡ C′)
-same-effect {A = A} {a = a} {a′ = a′} {W = W} {W′ = W′} {C = C} {C′ = C′} at b b′ p q =
-    let e : effect a W C ≡ effect a′ W′ C′ = p ∙ sym q in
-    (sym b ∙ ap (λ (c : Effect A). at (c .answer)) e ∙ b′, ap (λ (c : Effect A). c .words) e, ap (λ (c : Effect A). c .colours) e)
-
-abbrev checkedAt : ℕ → Checked
-checkedAt k = cond (eqb k 0) checked.Sound (checked.Refused (refusalAt k))
-
-checked-back : (r : Checked) → checkedAt (checkNumber r) ≡ r
-checked-back checked.Sound = refl
-checked-back (checked.Refused y) = rw (ne-eqb (refusalNumber y) 0 (omega (arith, number-pos y)), at-number y)
-
 pub check-determined :
     (κs : Lfts 2) (a : K.Dens κs check-kinds.ps) (r r′ : K.resT check-kinds.r κs .Denot) (s s′ : AtExit (K.endedOf 2 check-kinds.ps check-kinds.r) κs)
     → check-reads.Post κs a r s → check-reads.Post κs a r′ s′ → r ≡ r′
 check-determined κs a r r′ s s′ p q = sym (checked-back r) ∙ ap checkedAt (p ∙ sym q) ∙ checked-back r′
 
 -- a point lookup's
-abbrev pointedAt : PointAnswer → Pointed
+abbrev pub pointedAt : PointAnswer → Pointed
 pointedAt x = cond (eqb (x .no) 0) (pointed.Done (record { slot = x .slot; entered = x .entered })) (pointed.Refused (refusalAt (x .no)))
 
-pointed-back : (r : Pointed) → pointedAt (pointAnswer r) ≡ r
+pub pointed-back : (r : Pointed) → pointedAt (pointAnswer r) ≡ r
 pointed-back (pointed.Done a) = refl
 pointed-back (pointed.Refused y) = rw (ne-eqb (refusalNumber y) 0 (omega (arith, number-pos y)), at-number y)
 
@@ -82,13 +69,13 @@ pub open-point-determined :
 open-point-determined κs a r r′ s s′ p q = sym (pointed-back r) ∙ ap pointedAt (p ∙ sym q) ∙ pointed-back r′
 
 -- an insertion's, with the slot that a refusal names
-abbrev placementAt : InsertAnswer → Placement
+abbrev pub placementAt : InsertAnswer → Placement
 placementAt x =
     cond (eqb (x .no) 0)
     (placement.Done (record { map = x .map; slot = x .slot; reach = x .reach }))
     (placement.Refused (refusalAt (x .no)) (x .slot))
 
-placement-back : (m : Map) (r : Placement) → placementAt (placeAnswer m r) ≡ r
+pub placement-back : (m : Map) (r : Placement) → placementAt (placeAnswer m r) ≡ r
 placement-back m (placement.Done g) = refl
 placement-back m (placement.Refused y v) = rw (ne-eqb (refusalNumber y) 0 (omega (arith, number-pos y)), at-number y)
 
@@ -102,17 +89,6 @@ pub open-insert-determined :
     (s s′ : AtExit (K.endedOf 2 open-insert-kinds.ps open-insert-kinds.r) κs)
     → open-insert-reads.Post κs a r s → open-insert-reads.Post κs a r′ s′ → (r ≡ r′) × (now (s .1 .0) ≡ now (s′ .1 .0)) × (now (s .1 .1 .0) ≡ now (s′ .1 .1 .0))
 open-insert-determined κs a r r′ s s′ p q = same-effect placementAt (placement-back _ r) (placement-back _ r′) p q
-
--- and a removal's
-abbrev removalAt : RemoveAnswer → Removal
-removalAt x =
-    cond (eqb (x .no) 0)
-    (removal.Done (record { map = x .map; value = x .value; pairs = x .pairs; reach = x .reach }))
-    (removal.Refused (refusalAt (x .no)))
-
-removal-back : (m : Map) (r : Removal) → removalAt (removeAnswer m r) ≡ r
-removal-back m (removal.Done g) = refl
-removal-back m (removal.Refused y) = rw (ne-eqb (refusalNumber y) 0 (omega (arith, number-pos y)), at-number y)
 
 pub remove-determined :
     (κs : Lfts 2) (a : K.Dens κs remove-kinds.ps) (r r′ : K.resT remove-kinds.r κs .Denot) (s s′ : AtExit (K.endedOf 2 remove-kinds.ps remove-kinds.r) κs)

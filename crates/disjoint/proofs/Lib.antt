@@ -6,5 +6,6 @@ pub mod Opened
 pub mod Sequence
 pub mod Laws
 pub mod Determined
+pub mod DeterminedIn
 pub mod Demands
 pub mod Three
