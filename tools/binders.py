@@ -56,6 +56,9 @@ MEANINGS = {
     'words/Intervals': """
         x number of a bound; x:Interval interval; e end; s start; q range; a first interval;
         b second interval; a:2 hull; b:2 interval""",
+    'words/Layouts': """
+        k link in 16 bits; v link or new word; w word of a node; b side (true: left); n count; s slot;
+        N six-word nodes; W words; a start; b:ℕ end; c value; d hull start; e hull end""",
     'words/Nodes': """
         W words; f field; s slot; v new word; b side (true: left); e entry; h hull; n count; k link;
         i one slot; j other slot; d interval to extend""",
@@ -102,6 +105,11 @@ MEANINGS = {
     'image_host': """
         I image (its bytes); a address; k index of the hit asked for; L children (by side and slot);
         n count; s slot; m map; W words; C colours; c reading (what the reader left); d drain""",
+    'layouts': """
+        o operation; m map; n map at the end; M memory; X memory afterwards; Z memory at the end;
+        a answer; l triples; l:[Told] operations with their answers; x operation with its answer;
+        I image (its bytes); s slot; e entry; t ticket; q query; c cursor;
+        x:Interval interval; x:ℕ address; A any type""",
     'builder/Build': """
         S triples; a start of the span; b end of the span; f levels left for the span;
         d interval to extend; e entry; h hull; p parent; w words of the span; m number;

@@ -1,5 +1,7 @@
--- An operation in a layout, and any list of them, each on the map and the memory that the one before
--- it answered and left.
+-- An operation in a layout, and any list of them, each on the map and the memory that the one
+-- before it answered and left.
+-- Letters: m map, o operation, n map at the end, M memory, X memory afterwards, Z memory at the
+--   end, a answer, l operations with their answers, x operation with its answer
 use mathlib.Core.Path.{_≡_}
 use mathlib.Core.Bool.{Bool}
 use mathlib.Core.List.{List, [], _∷_}

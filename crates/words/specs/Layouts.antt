@@ -1,6 +1,8 @@
--- Where the words of a node stand. A node has eight words, or six: document 02, item 12, "start, end,
--- value, hull start, hull end, links (left in the lowest bits, then right, then parent, top 16 bits
--- 0)". What is said of a store is said of the eight-word form of its words, `asEight`.
+-- Where the words of a node stand. A node has eight words, or six: document 02, item 12, "start,
+-- end, value, hull start, hull end, links (left in the lowest bits, then right, then parent, top 16
+-- bits 0)". What is said of a store is said of the eight-word form of its words, `asEight`.
+-- Letters: W words, n count, k short, v link or new word or new, w word of a node, b side (true:
+--   left) or end, s slot, N six-word nodes or words, a start, c value, d hull start, e hull end
 use mathlib.Core.Bool.{Bool, true, false, cond, not, _||_, _&&_}
 use mathlib.Core.List.{List, [], _∷_}
 use Prim.Native.Nat.{ℕ, _+_, _*_, _-_, _/_, _%_, _≤_, min}
@@ -67,8 +69,8 @@ unfoldable pub asEight : (narrow : Bool) (words : List ℕ) → List ℕ
 asEight true N = unpack N
 asEight false W = W
 
--- A child link, and a parent link, that the layout can hold: any in eight words; in six a slot below
--- 65,535, or U, and for a parent also what top bits say.
+-- A child link, and a parent link, that the layout can hold: any in eight words; in six a slot
+-- below 65,535, or U, and for a parent also what top bits say.
 unfoldable pub kidFits : (narrow : Bool) (link : ℕ) → Bool
 kidFits narrow v = not narrow || (ltb v 65535 || eqb v U)
 
