@@ -71,7 +71,7 @@ pub unpack-injective : (N M : List ℕ) → unpack N ≡ unpack M → N ≡ M
 unfolding asEight
 unpack-injective N M e = eight-injective true N M e
 
-capacity-unpacked : (N : List ℕ) (bytes : ℕ) → capacityAs true (length N) bytes ≡ capacity (length (unpack N)) bytes
+pub capacity-unpacked : (N : List ℕ) (bytes : ℕ) → capacityAs true (length N) bytes ≡ capacity (length (unpack N)) bytes
 unfolding asEight
 capacity-unpacked N bytes = capacity-same true N bytes (capacityAs true (length N) bytes) refl
 
