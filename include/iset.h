@@ -90,7 +90,7 @@ enum iset_refusal {
     ISET_BROKEN = 2,          /* the store does not pass the check */
     ISET_NO_SUCH = 3,         /* the slot is not below the count */
     ISET_BAD_RANGE = 4,       /* neither bound is Unbounded, and lo > hi, or lo == hi unless both
-                                 are Included */
+                                 are Included; of a lookup by a rule, see iset_ruled.h too */
     ISET_BAD_INTERVAL = 5,    /* a given interval has start >= end */
     ISET_NOT_SORTED = 6,      /* the list to build is not sorted by start, then end */
     ISET_BAD_CURSOR = 7,      /* no lookup of this query in this store has this cursor */
