@@ -13,8 +13,8 @@
  * it. iset_map_at and iset_map_open_at make the calls find_all for one address.
  *
  * iset_map_disjoint_NAME and iset_map_open_disjoint_NAME make the calls of iset_disjoint.h; for
- * these link libiset_disjoint.a. An insertion that they refuse with OVERLAP has the slot that is named in
- * its answer.
+ * these link libiset_disjoint.a. An insertion that they refuse with OVERLAP has the slot that is
+ * named in its answer.
  *
  * An example is examples/host_map.c. */
 #ifndef ISET_MAP_H
