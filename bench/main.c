@@ -5,8 +5,8 @@
    of both sides are compared. This library's calls are the exports. These are the opened calls,
    from C and through the Rust type `Store`, and of the public calls the check, the build, the
    writing and reading of an image, the lookup in one and, if the case says so, the point lookups,
-   each of which checks the whole store. If a case says `against` another call of this library, both sides are this
-   library's. */
+   each of which checks the whole store. If a case says `against` another call of this library, both
+   sides are this library's. */
 #include <stdbool.h>
 #include <stdint.h>
 #include <stdio.h>
@@ -17,6 +17,7 @@
 #include "iset_disjoint.h"
 #include "iset_image.h"
 #include "iset_open.h"
+#include "iset_ruled.h"
 
 typedef struct map map;
 map *rust_build(const uint64_t *list, size_t n);
@@ -272,6 +273,19 @@ static uint64_t points_found(void) {
     return sum;
 }
 
+/* The same by the number of a rule, beside the drain without one. At one address the rules agree. */
+static uint64_t some_ruled(uint64_t rule) {
+    uint64_t sum = 0, answer[5] = {0};
+    for (size_t k = 0; k < LOOKUPS; k++) {
+        iset_open_drain_ruled(n, root, words, 8 * n, bytes, colour_bytes, rule, ISET_INCLUDED, points[k], ISET_INCLUDED, points[k], root, 1, 0, 0,
+                              out, PIECE, answer, 5);
+        sum = 3 * sum + values(answer[0]);
+    }
+    return sum;
+}
+static uint64_t points_any(void) { return some_ruled(ISET_RULE_ANY); }
+static uint64_t points_whole(void) { return some_ruled(ISET_RULE_WHOLE); }
+
 /* Windows: the entries that intersect a range of WINDOW addresses. */
 static uint64_t windows_theirs(void) {
     uint64_t sum = 0;
@@ -494,6 +508,8 @@ int main(int words_given, char **given) {
         point = {"point lookups by a drain, opened", before_points, points_theirs, points_ours, nothing, 0},
         point_found = {"point lookups by find_all, opened", before_points, points_theirs, points_found, nothing, 0},
         point_faster = {"point lookups by find_all, against the drain", before_points, points_ours, points_found, nothing, 0},
+        point_any = {"point lookups by rule 1, against a drain without a rule", before_points, points_ours, points_any, nothing, 0},
+        point_whole = {"point lookups by rule 2, against a drain without a rule", before_points, points_ours, points_whole, nothing, 0},
         window = {"windows by a drain, opened", before_points, windows_theirs, windows_drained, nothing, 0},
         window_found = {"windows by find_all, opened", before_points, windows_theirs, windows_found, nothing, 0},
         window_faster = {"windows by find_all, against the drain", before_points, windows_drained, windows_found, nothing, 0},
@@ -528,6 +544,8 @@ int main(int words_given, char **given) {
         measure(&point, LOOKUPS);
         measure(&point_found, LOOKUPS);
         measure(&point_faster, LOOKUPS);
+        measure(&point_any, LOOKUPS);
+        measure(&point_whole, LOOKUPS);
         measure(&window, WINDOWS);
         measure(&window_found, WINDOWS);
         measure(&window_faster, WINDOWS);

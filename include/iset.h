@@ -90,7 +90,7 @@ enum iset_refusal {
     ISET_BROKEN = 2,          /* the store does not pass the check */
     ISET_NO_SUCH = 3,         /* the slot is not below the count */
     ISET_BAD_RANGE = 4,       /* neither bound is Unbounded, and lo > hi, or lo == hi unless both
-                                 are Included */
+                                 are Included; of a lookup by a rule, see iset_ruled.h too */
     ISET_BAD_INTERVAL = 5,    /* a given interval has start >= end */
     ISET_NOT_SORTED = 6,      /* the list to build is not sorted by start, then end */
     ISET_BAD_CURSOR = 7,      /* no lookup of this query in this store has this cursor */
@@ -247,7 +247,8 @@ uint64_t iset_read(uint64_t count, uint64_t root, uint32_t version, const uint64
 
 /* Writes a map as an image, to save it or to send it: its count, root, entries, links and colours,
  * without pointers, in bytes that docs/IMAGE.md describes. The image has ISET_IMAGE_LEN(count)
- * bytes. It is at the front of `out`, and the bytes past it are unchanged. The version is not in it.
+ * bytes. It is at the front of `out`, and the bytes past it are unchanged. The version is not in
+ * it.
  * Answer: the image's length.
  * Refusals: SHORT_ANSWER, NO_ROOM, BROKEN, SHORT_OUTPUT. */
 uint64_t iset_write_image(uint64_t count, uint64_t root, const uint64_t *nodes, size_t nodes_len,

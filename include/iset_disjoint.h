@@ -13,8 +13,8 @@
  * passed in are those of the last answer, and so is the version. Then each returns, answers and
  * leaves exactly what the call does that has its name without `open_`, and the store still passes
  * the check. Its time grows with the height of the tree and not with the count. If the three things
- * do not hold, answers may be wrong. Even then every call ends, and none reads or writes outside the
- * arrays.
+ * do not hold, answers may be wrong. Even then every call ends, and none reads or writes outside
+ * the arrays.
  *
  * Link libiset_disjoint.a beside libiset.a; `./archive` writes both:
  *

@@ -25,8 +25,8 @@
  * calls: first those of the test, and after all of them have returned, those of the search. The
  * compiled code takes 10,592 bytes at the deepest, 304 for each call of the test. A handler's
  * stack should have ISET_IMAGE_STACK bytes for a call, besides what the handler and the system
- * take. These numbers are measured, not proved: tests/c/stacks.c measures them again, on a stack of
- * 64 KiB. */
+ * take. These numbers are measured, not proved: tests/c/stacks.c measures what the calls take, on a
+ * stack of 64 KiB, and holds it to ISET_IMAGE_STACK. */
 #ifndef ISET_IMAGE_H
 #define ISET_IMAGE_H
 

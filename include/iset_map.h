@@ -1,5 +1,5 @@
-/* The calls of iset.h, iset_open.h and iset_disjoint.h with structs: one for each thing that those take or answer as
- * single numbers. All of it is static inline code over those calls.
+/* The calls of iset.h, iset_open.h and iset_disjoint.h with structs: one for each thing that those
+ * take or answer as single numbers. All of it is static inline code over those calls.
  *
  * A wrapper takes the arguments of its call in its call's order, with a struct for a map, for the
  * two arrays, for a range and for a cursor. It returns the call's number: ISET_OK, or a refusal. It
@@ -12,9 +12,9 @@
  * who may use it. For these link libiset_open.a too. A host that uses none of them does not need
  * it. iset_map_at and iset_map_open_at make the calls find_all for one address.
  *
- * iset_map_disjoint_NAME and iset_map_open_disjoint_NAME make the calls of iset_disjoint.h; for these
- * link libiset_disjoint.a. An insertion that they refuse with OVERLAP has the slot that is named in
- * its answer.
+ * iset_map_disjoint_NAME and iset_map_open_disjoint_NAME make the calls of iset_disjoint.h; for
+ * these link libiset_disjoint.a. An insertion that they refuse with OVERLAP has the slot that is
+ * named in its answer.
  *
  * An example is examples/host_map.c. */
 #ifndef ISET_MAP_H

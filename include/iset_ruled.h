@@ -5,16 +5,16 @@
  *   ISET_RULE_WHOLE   2   an entry intersects if some whole address from 0 to
  *                         18446744073709551615 lies in both.
  *
- * They differ only if lo is Excluded. With Excluded 5 as lo, [3,6) intersects by rule 1. By rule 2 it
- * does not: 5 is its only address from there. The rule decides which entries are hits. A drain to
- * the end enters the same nodes by both, and a cursor of the one may be carried on by the other;
+ * They differ only if lo is Excluded. With Excluded 5 as lo, [3,6) intersects by rule 1. By rule 2
+ * it does not: 5 is its only address from there. The rule decides which entries are hits. A drain
+ * to the end enters the same nodes by both, and a cursor of the one may be carried on by the other;
  * iset_find_all_ruled may enter fewer by rule 2.
  *
  * Each call is that of iset.h or iset_open.h that has its name without `_ruled`, with the number of
  * the rule before lo_kind. Answers, outputs and refusals have the same form and order. BAD_RANGE is
- * also returned if `rule` is not 1 or 2 and, by rule 2, if no whole address lies in the range, as in
- * one from Excluded 18446744073709551615 on. The calls whose names begin with iset_open_ are for a
- * store that iset_open.h allows.
+ * also returned if `rule` is not 1 or 2 and, by rule 2, if no whole address lies in the range, as
+ * in one from Excluded 18446744073709551615 on. The calls whose names begin with iset_open_ are for
+ * a store that iset_open.h allows.
  *
  * Link libiset_ruled.a beside libiset.a; `./archive` writes both:
  *

@@ -142,6 +142,32 @@ static void damages(void) {
     damaged("start = end", 52, 10), damaged("entries that fall", 44, 11), damaged("another value", 60, 77), damaged("another end", 52, 21);
 }
 
+// 2^32 - 1 at each place of a number or of half of one, and in all of them. An image that is refused
+// leaves the memory as it was; one that is accepted is written back to the same bytes.
+static void greatest(void) {
+    size_t bad = 0, broken = 0, accepted = 0;
+    for (size_t at = 0; at < 224; at += 4) {
+        uint64_t answer[3] = {FILL, FILL, FILL};
+        uint8_t old[4];
+        memcpy(old, image + at, 4);
+        put(at, UINT32_MAX);
+        lend();
+        uint64_t no = iset_read_image(6, target, ISET_NODES_LEN(5), shades, 1, image, 225, answer, 3);
+        bad += no == ISET_BAD_IMAGE, broken += no == ISET_BROKEN, accepted += no == ISET_OK;
+        if (no != ISET_OK && !is_kept()) printf("at %zu: MEMORY CHANGED\n", at);
+        if (no == ISET_OK) {
+            iset_map map = {answer[0], answer[1], 7};
+            size_t len = 0;
+            no = iset_map_write_image(map, iset_memory_of(target, ISET_NODES_LEN(5), shades, 1), again, 225, &len);
+            if (no || len != 225 || memcmp(image, again, 225)) printf("at %zu: OTHER BYTES\n", at);
+        }
+        memcpy(image + at, old, 4);
+    }
+    printf("2^32 - 1 at each place: 12 %zu times, 2 %zu times, accepted %zu times\n", bad, broken, accepted);
+    memset(image, 255, 225);
+    whole("2^32 - 1 everywhere", 225);
+}
+
 static void rooms(iset_map map) {
     uint64_t answer[2] = {FILL, FILL};
     load("four slots of words", 225, 39, 1, 3), printf("\n");
@@ -166,6 +192,7 @@ int main(void) {
     for (size_t i = 0; i < sizeof counts / sizeof *counts; i++) round_trip(counts[i]);
     rooms(store_a());
     store_a(), damages();
+    store_a(), greatest();
     lay_out(MOST), whole("65535 slots of zeros", ISET_IMAGE_LEN(MOST));
     lay_out(MOST + 1), whole("65536 slots of zeros", ISET_IMAGE_LEN(MOST + 1)), whole("a byte short", ISET_IMAGE_LEN(MOST + 1) - 1);
     return 0;

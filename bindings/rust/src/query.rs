@@ -1,12 +1,12 @@
 //! What is looked for.
 use core::ops::{Bound, RangeBounds};
 
-/// When an entry intersects a range. The two rules differ only if the lower bound is excluded. A drain
-/// to the end visits the same nodes by both.
+/// When an entry intersects a range. The two rules differ only if the lower bound is excluded. A
+/// drain to the end visits the same nodes by both.
 #[derive(Clone, Copy, Debug, PartialEq, Eq, Hash)]
 pub enum Rule {
-    /// Rule 1, that of the crate iset: it ends after the lower bound, and starts before the upper one,
-    /// or at it if it is included. Suits any ordered key.
+    /// Rule 1, that of the crate iset: it ends after the lower bound, and starts before the upper
+    /// one, or at it if it is included. Suits any ordered key.
     Any = 1,
     /// Rule 2: some whole address lies in both. A range in which no whole address lies is refused as
     /// [`BadRange`](crate::Refusal::BadRange).
@@ -17,8 +17,8 @@ pub enum Rule {
 #[derive(Clone, Copy, Debug, PartialEq, Eq, Hash)]
 pub enum Query {
     /// The entries that intersect the range between two bounds. An entry does if it ends after the
-    /// lower bound, and starts before the upper one, or at it if it is included.
-    /// That is rule 1.
+    /// lower bound, and starts before the upper one, or at it if it is included. That is
+    /// [`Rule::Any`].
     Overlap(Bound<u64>, Bound<u64>),
     /// The entries that intersect the range between two bounds by a rule.
     Ruled(Rule, Bound<u64>, Bound<u64>),

@@ -23,7 +23,8 @@ pub enum Refusal {
     /// The slot is not below the count.
     NoSuch,
     /// Neither bound is unbounded, and the lower one is above the upper one, or equal to it unless
-    /// both are included.
+    /// both are included; or, by [`Rule::Whole`](crate::Rule::Whole), no whole address lies in the
+    /// range.
     BadRange,
     /// A given interval does not end after its start.
     BadInterval,

@@ -9,7 +9,7 @@ use Rattle.iset.specs.declared.Map.{Map}
 use Rattle.disjoint.specs.Demands.{Request10}
 use Rattle.disjoint.proofs.Checks.{disjoint-refusals, disjoint-zero, empty-sound}
 use Rattle.disjoint.proofs.Pointing.{drain-no, point-no, point-refusals, point-leaves, enters-few, same-step, same-drain}
-use Rattle.disjoint.proofs.Placings.{place-no, place-check, place-refusals, place-names, place-refused, places}
+use Rattle.disjoint.proofs.Placings.{place-no, place-check, place-refusals, place-names, place-refused, place-low, places}
 use Rattle.disjoint.proofs.Takings.{take-no, take-refusals, take-refused, takes}
 use Rattle.disjoint.proofs.Opened.{point-is, place-is, take-is}
 use Rattle.disjoint.proofs.Sequence.{disjoint-calls-sound, disjoint-opened-calls}
@@ -30,6 +30,7 @@ request-10 m W C =
       place-refusals = λ e z. place-refusals m W C e z;
       place-names = λ e z P. place-names m W C e (sym (place-no m W C e) ∙ z) P;
       place-refused = λ e. place-refused m W C e;
+      place-low = λ e z P. place-low m W C e z P;
       places = λ e z. places m W C e (sym (place-no m W C e) ∙ z);
       take-refusals = λ s. take-refusals m W C s;
       take-refused = λ s. take-refused m W C s;

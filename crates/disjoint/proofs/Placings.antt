@@ -12,9 +12,12 @@ use Rattle.words.specs.Ix.{U}
 use Rattle.words.specs.Intervals.{intersects}
 use Rattle.words.specs.Nodes.{capacity, interval}
 use Rattle.words.specs.declared.node.Entry.{Entry}
+use Rattle.tree.specs.Tree.{height}
 use Rattle.tree.specs.Passes.{Passes}
 use Rattle.tree_in_rule.specs.Insert.{own}
-use Rattle.disjoint_rule.specs.Disjoint.{Disjoint}
+use Rattle.first_rule.specs.First.{firstNodes}
+use Rattle.first_rule.proofs.Firsts.{first-low}
+use Rattle.disjoint_rule.specs.Disjoint.{rangeOf, Disjoint}
 use Rattle.disjoint_rule.proofs.Overlaps.{overlap-first, overlap-some, overlap-none}
 use Rattle.disjoint_rule.proofs.Kept.{insertion-keeps}
 use Rattle.iset.specs.Effects.{Effect, effect}
@@ -104,6 +107,10 @@ module _ (m : Map) (W C : List ℕ) (e : Entry) where
 
     pub place-accepted : e .start < e .end → (Met m W e → ⊥) → n < held → placeNumber m W C e ≡ 0
     place-accepted h f r = place-rows .1 (λ b. omega (arith, h)) .1 f .1 (λ b. omega (arith, r))
+
+    -- the search visits at most as many nodes as the tree is high
+    pub place-low : (P : Passes W C n (m .root)) → length (firstNodes (rangeOf (own e)) W n (m .root)) ≤ height (P .tree)
+    place-low P = first-low W C n (m .root) small P (rangeOf (own e))
 
   -- 13 names the first entry in tree order that intersects the new one
   module _ (h : placeNumber m W C e ≡ 13) where

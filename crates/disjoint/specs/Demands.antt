@@ -19,6 +19,7 @@ use Rattle.iter.specs.Cursors.{fresh, ended}
 use Rattle.iter.specs.Drains.{limitOf, filled}
 use Rattle.iter.specs.Lists.{firstOr}
 use Rattle.iter.specs.declared.rules.Query.the-variants.{Overlap}
+use Rattle.first_rule.specs.First.{firstNodes}
 use Rattle.disjoint_rule.specs.Disjoint.{rangeOf, Disjoint}
 use Rattle.disjoint_rule.specs.Point.{only, found}
 use Rattle.iset.specs.Effects.{effect}
@@ -91,6 +92,9 @@ pub record Request10 (m : Map) (W C : List ℕ) : Type 0 where
       → placeCall m W C e ≡ effect (refusedPlacement m 13 (firstMeeting W (P .tree) e)) W C
   pub place-refused : (e : Entry) → (placeCall m W C e .answer .no ≡ 0 → ⊥) → (placeCall m W C e .answer .no ≡ 13 → ⊥)
       → placeCall m W C e ≡ effect (refusedPlacement m (placeCall m W C e .answer .no) U) W C
+  -- the search for an entry that intersects the new one visits at most h nodes, whatever it finds
+  pub place-low : (e : Entry) → disjointRule m W C ≡ 0 → (P : Passes W C (m .count) (m .root))
+      → length (firstNodes (rangeOf (own e)) W (m .count) (m .root)) ≤ height (P .tree)
   -- one that is not refused is that of `Map::insert`, and the store is disjoint with one entry more
   pub places : (e : Entry) → placeCall m W C e .answer .no ≡ 0
       → (placeCall m W C e ≡ insertCall m W C e) × Disjoint (placeCall m W C e .words) (m .count + 1)

@@ -5,6 +5,7 @@ pub mod Stores
 pub mod Parts
 pub mod Laid
 pub mod Rewritten
+pub mod Below
 pub mod Reread
 pub mod Unique
 pub mod Fitting

@@ -1,5 +1,6 @@
 -- "Slots from count up are not read": on two stores that agree below the count each public call
--- answers the same, and leaves stores that agree below the count that it answers.
+-- answers the same and writes the same into its output, and a removal or an insertion leaves stores
+-- that agree below the count that it answers.
 use mathlib.Core.Path.{_≡_, refl}
 use mathlib.Core.Bool.{Bool, true, false, cond, _&&_}
 use mathlib.Core.List.{List, [], _∷_, _++_}
@@ -19,6 +20,7 @@ use Rattle.words.specs.declared.node.Field.the-variants.{Start, End, Value, Hul
 use Rattle.audit.proofs.Unread.{whole-below}
 use Rattle.tree_rm_rule.specs.Remove.{removeRule}
 use Rattle.tree.specs.Below.{Agree}
+use Rattle.tree_edit.specs.Links.{leftmost}
 use Rattle.tree_edit.specs.Below.{Alike}
 use Rattle.tree_edit.proofs.Below.{link-same}
 use Rattle.tree_rm_rule.proofs.Below.{SameRemoved, removed-below}
@@ -42,21 +44,27 @@ use Rattle.iter.specs.declared.rules.Query.the-variants.{Overlap, Ruled, Exact}
 use Rattle.words.proofs.Lists.{filter-append}
 use Rattle.iter_laws.proofs.Script.{Linked}
 use Rattle.iter_laws.proofs.Walks.{links}
+use Rattle.plain_rule.specs.Tour.{ascend, nextOf, firstOf, tour, plain}
+use Rattle.plain_rule.specs.Tour as tours
 use Rattle.fast_rule.specs.Fast.{nears, shouldEnter, fastRules, startAt, entering, fastNodes, fastHits}
 use Rattle.fast_rule.proofs.Narrow.{narrow-linked}
+use Rattle.little.specs.Numbers.{Bytes}
+use Rattle.image_rule.proofs.Below.{image-below}
 use Rattle.iset.specs.Effects.{Effect, effect}
 use Rattle.iset.specs.Check.{checkRule}
 use Rattle.iset.specs.Build.{buildNumber, refusedBuild, buildList, buildCall}
 use Rattle.iset.specs.Remove.{removeNumber, RemoveAnswer, refusedRemoval, removeReach, removeSlot, removeCall}
 use Rattle.iset.specs.Insert.{insertNumber, InsertAnswer, refusedInsertion, insertReach, insertEntry, insertCall}
 use Rattle.iset.specs.Lookup.{beginning, startNumber, stepNumber, drainNumber, startCall, stepCall, drainCall}
+use Rattle.iset.specs.Plain.{plainNumber, plainCall}
 use Rattle.iset.specs.Find.{findAllCall}
+use Rattle.iset.specs.Image.{writeImageNumber, writeImageCall, readImageNumber, readStore, readImageCall}
 use Rattle.iset.specs.Ticket.{readNumber, readBy, readCall}
 use Rattle.iset.specs.Below.{SameBelow, SameEffect}
 use Rattle.iset.specs.declared.Map.{Map}
 use Rattle.iset.specs.declared.ticket.Ticket.{Ticket}
 use Rattle.iset.proofs.Checks.{check-zero}
-use Rattle.iset.proofs.Orders.{remove-order, read-order, insert-order, start-order, step-order, drain-order}
+use Rattle.iset.proofs.Orders.{remove-order, read-order, write-image-order, insert-order, start-order, plain-order, step-order, drain-order}
 use Rattle.iset.proofs.Removals as removals
 use Rattle.iset.proofs.Insertions as insertions
 use Rattle.iset.proofs.Readings as readings
@@ -74,6 +82,17 @@ build-below m W C X D S e f = rw (e, f) (go (eqb (buildNumber (length X) (length
     go : (t : Bool)
         → cond t (buildList m W C S) (effect (refusedBuild m (buildNumber (length X) (length D) S)) W C) .answer
         ≡ cond t (buildList m X D S) (effect (refusedBuild m (buildNumber (length X) (length D) S)) X D) .answer
+    go true = refl
+    go false = refl
+
+-- nor does the reading of an image: its answer goes by the two lengths and the image
+pub read-image-below : (m : Map) (W C X D I : List ℕ) → length W ≡ length X → length C ≡ length D → readImageCall m W C I .answer ≡ readImageCall m X D I .answer
+unfolding readImageCall
+read-image-below m W C X D I e f = rw (e, f) (go (eqb (readImageNumber (length X) (length D) I) 0))
+  where
+    go : (t : Bool)
+        → cond t (readStore m W C I) (effect (refusedBuild m (readImageNumber (length X) (length D) I)) W C) .answer
+        ≡ cond t (readStore m X D I) (effect (refusedBuild m (readImageNumber (length X) (length D) I)) X D) .answer
     go true = refl
     go false = refl
 
@@ -195,6 +214,51 @@ module _ (n : ℕ) (W X : List ℕ) (A : Agree n W X) where
   unfolding formOf
   same-form k c = rw (same-held k c)
 
+  -- the plain lookup: the tour by links, and those of its slots that a query asks for
+  same-ascend : (height s : ℕ) → s < n → ascend n height W s ≡ ascend n height X s
+  unfolding ascend
+  same-ascend zero s l = refl
+  same-ascend (suc height) s l =
+      rw (A .1 Parent s l)
+      (link-same n {A = ℕ} (λ i j. i ≡ j) (par X s) (λ p. cond (eqb (kid W true p) s) p (ascend n height W (par X s)))
+      (λ p. cond (eqb (kid X true p) s) p (ascend n height X (par X s))) U U
+      (λ h. rw (A .1 (Child true) (par X s) h, same-ascend height (par X s) h)) refl)
+
+  same-leftmost : (k : ℕ) → k < n → leftmost n 32 W k ≡ leftmost n 32 X k
+  same-leftmost k l = removal.same-leftmost n 32 W X k A l
+
+  same-next : (s : ℕ) → s < n → nextOf n W s ≡ nextOf n X s
+  unfolding nextOf
+  same-next s l =
+      rw (A .1 (Child false) s l, same-ascend 32 s l)
+      (link-same n {A = ℕ} (λ i j. i ≡ j) (kid X false s) (leftmost n 32 W) (leftmost n 32 X) (ascend n 32 X s) (ascend n 32 X s)
+      (same-leftmost (kid X false s)) refl)
+
+  same-tour : (left k : ℕ) → tour n left W k ≡ tour n left X k
+  unfolding tour
+  same-tour zero k = refl
+  same-tour (suc left) k =
+      link-same n {A = List ℕ} (λ i j. i ≡ j) k (λ s. k ∷ tour n left W (nextOf n W k)) (λ s. k ∷ tour n left X (nextOf n X k)) [] []
+      (λ h. rw (same-next k h, same-tour left (nextOf n X k))) refl
+
+  same-entries : (r : ℕ) → tours.entries n W r ≡ tours.entries n X r
+  unfolding tours.entries firstOf
+  same-entries r =
+      rw (link-same n {A = ℕ} (λ i j. i ≡ j) r (leftmost n 32 W) (leftmost n 32 X) U U (same-leftmost r) refl)
+      (same-tour n (firstOf n X r))
+
+  module _ (q : Query) where
+    same-asked-for : (left k : ℕ) → filter (rules W n q .match) (tour n left X k) ≡ filter (rules X n q .match) (tour n left X k)
+    unfolding tour
+    same-asked-for zero k = refl
+    same-asked-for (suc left) k =
+        link-same n {A = List ℕ} (λ i j. filter (rules W n q .match) i ≡ filter (rules X n q .match) j) k (λ s. k ∷ tour n left X (nextOf n X k))
+        (λ s. k ∷ tour n left X (nextOf n X k)) [] [] (λ h. rw (same-match q k h, same-asked-for left (nextOf n X k))) refl
+
+    same-plain : (r : ℕ) → plain n W (rules W n q) r ≡ plain n X (rules X n q) r
+    unfolding plain tours.entries
+    same-plain r = rw (same-entries r) (same-asked-for n (firstOf n X r))
+
   -- the fast lookup
   module _ (q : Query) where
     abbrev F : Rules
@@ -294,6 +358,14 @@ module _ (m : Map) (W C X D : List ℕ) (s : SameBelow (m .count) W C X D) where
   unfolding findAllCall
   find-all-below q out = rw (same-start q, same-fastNodes n W X (s .words) q (m .root), same-fastHits n W X (s .words) q (m .root))
 
+  module _ (q : Query) where
+    same-plainNumber : (places : ℕ) → plainNumber m W C q places ≡ plainNumber m X D q places
+    same-plainNumber places = rw (plain-order m W C q places, plain-order m X D q places, same-start q)
+
+    pub plain-below : (out : List ℕ) → plainCall m W C q out ≡ plainCall m X D q out
+    unfolding plainCall
+    plain-below out = rw (same-plainNumber (length out), same-plain n W X (s .words) q (m .root), same-entries n W X (s .words) (m .root))
+
   module _ (q : Query) (c : Cursor) where
     same-stepNumber : stepNumber m W C q c ≡ stepNumber m X D q c
     same-stepNumber =
@@ -316,6 +388,15 @@ module _ (m : Map) (W C X D : List ℕ) (s : SameBelow (m .count) W C X D) where
       → SameEffect (f (cond (eqb k 0) x (effect a W C) .answer)) (cond (eqb k 0) x (effect a W C)) (cond (eqb k 0) y (effect a X D))
   by-number f zero x y a g h = g refl
   by-number f (suc k) x y a g h = rw (ne-eqb (suc k) 0 (λ z. omega arith)) (record { answers = refl; leaves = h })
+
+  -- the image: the colour bytes are bytes, as in every lent slice of them
+  same-writeImageNumber : (places : ℕ) → writeImageNumber m W C places ≡ writeImageNumber m X D places
+  same-writeImageNumber places = rw (write-image-order m W C places, write-image-order m X D places, check-below m W C X D s)
+
+  pub write-image-below : Bytes C → Bytes D → (out : List ℕ) → writeImageCall m W C out ≡ writeImageCall m X D out
+  unfolding writeImageCall
+  write-image-below bytes too out =
+      rw (same-writeImageNumber (length out), image-below n C D (s .colours) bytes too (m .root) W X (s .words))
 
   -- a reading through a ticket
   module _ (t : Ticket) where

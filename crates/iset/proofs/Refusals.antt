@@ -311,7 +311,7 @@ module _ (m : Map) (W C : List ℕ) (e : Entry) where
   insert-leaves d = rw insert-no (kept (insertNumber m W C e) _ _ (λ z. d (insert-no ∙ z)))
 
 -- BadRange, as the test of the bounds has it
-ordered-not : (x y : Bound) → ordered x y ≡ true → BadRange x y → ⊥
+pub ordered-not : (x y : Bound) → ordered x y ≡ true → BadRange x y → ⊥
 ordered-not (Included a) (Included b) e p = omega (arith, leb-true a b e)
 ordered-not (Included a) (Excluded b) e p = omega (arith, ltb-true a b e)
 ordered-not (Included a) Unbounded e p = p

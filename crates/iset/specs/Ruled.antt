@@ -50,3 +50,5 @@ pub record Request11 (m : Map) (W C : List ℕ) : Type 0 where
       → (meets W (byRule 2 q) s ≡ true) ↔ ((a : ℕ) × Shared q (interval W s) a)
   -- so no rule finds what rule 1 does not find
   pub part : (k : ℕ) (q : Span) (s : ℕ) → meets W (byRule k q) s ≡ true → meets W q s ≡ true
+  -- a range that holds a whole address is ordered: rule 2 refuses every range that rule 1 refuses
+  pub stricter : (q : Span) → BadRuled 1 q → BadRuled 2 q

@@ -111,7 +111,7 @@ module _ (n : ℕ) where
       go false true e = (A, both-paint n C D y true (red-slot n D y e) B, refl)
       go false false e = same-ending n (repair n 36 W C r x) (repair n 36 X D r x) (same-repair 36 W X C D r x A B l)
 
-  same-leftmost : (height : ℕ) (W X : List ℕ) (k : ℕ) → Agree n W X → k < n → leftmost n height W k ≡ leftmost n height X k
+  pub same-leftmost : (height : ℕ) (W X : List ℕ) (k : ℕ) → Agree n W X → k < n → leftmost n height W k ≡ leftmost n height X k
   unfolding leftmost
   same-leftmost zero W X k A l = refl
   same-leftmost (suc height) W X k A l =
