@@ -85,7 +85,7 @@ def check(name, count, wrong):
 
 def declared(line):
     """The indent and the name of a declaration, a field or an equation; None for any other line."""
-    m = re.match(r'( *)(?!--)(?:abbrev |unfoldable )?(?:pub )?(?:record |data )?([^\s()]+) ', line)
+    m = re.match(r'( *)(?!--|→)(?:abbrev |unfoldable )?(?:pub )?(?:record |data )?([^\s()]+) ', line)
     return m and (m[1], m[2])
 
 
