@@ -73,7 +73,7 @@ def settings():
     ask("fresh o 2 0 2 0", "insert 1 2 3", "build 0", "build 3 1 2 3", "find o 2 0 2 0 1")
     comment("and so it is on the way back; a setting of the layout that is there changes nothing")
     show(six(built(A)))
-    assert ask("version 7", "layout 6", "remove 0", "layout 6", "last") == "8 1"
+    assert ask("version 7", "layout 6", "remove 0", "layout 6", "last") == "8 0"
     ask("commit", "check", "ticket 0", "layout 7", "check", "remove 0")
     assert ask("layout 8", "last") == "what"
     ask("commit", "check", "ticket 0", "layout 6", "commit", "check")

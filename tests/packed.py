@@ -3,6 +3,7 @@
 
     packed.py REQUESTS ANSWERS SIX_REQUESTS SIX_ANSWERS    from the first two files to the other two
     packed.py --vectors        makes the second half of crates/test_vectors, from `layout 6` on, again
+    packed.py --compare REQUESTS EXPECTED ANSWERS          of a run in six words; the status is 1 if one differs
 
 Each store is packed, and so are the node words that an answer says have changed. All else of a
 request and of its answer is as it was recorded: nothing is worked out here. Left out are lines that
@@ -56,20 +57,27 @@ def packed(words):
 
 
 def changed(content, numbers):
-    """The content after the CHANGES at the front of the numbers, which are taken from them."""
-    content = list(content)
-    for _ in range(numbers.pop(0)):
-        at, to = numbers.pop(0), numbers.pop(0)
-        content[at] = to
-    return content
+    """The content after the CHANGES that the numbers begin with, and the places that changed."""
+    content, places = list(content), numbers[1:2 * numbers[0] + 1:2]
+    for k, at in enumerate(places):
+        content[at] = numbers[2 * k + 2]
+    return content, places
+
+
+def packed_after(six, words, places):
+    """`packed(words)`, if all but these places of the words are packed in `six`."""
+    six = list(six)
+    for slot in {at // 8 for at in places}:
+        six[6 * slot:6 * slot + 6] = packed(words[8 * slot:8 * slot + 8])
+    return six
 
 
 class Run:
-    """Follows the recorded run by its own answers: the store's words, the bytes, and what the last request left of them. `kept`
-    says that the run in six words has the same store, `left_kept` that it made the last request."""
+    """Follows the recorded run by its own answers: the store's words, also in six words a node, the bytes, and what the last request
+    left of them. `kept` says that the run in six words has the same store, `left_kept` that it made the last request."""
 
     def __init__(self):
-        self.words, self.bytes, self.left = [], [], {}
+        self.words, self.six, self.bytes, self.left = [], [], [], {}
         self.kept = self.left_kept = True
         self.six_bytes, self.comment = [], None
         self.requests, self.answers, self.left_out = [], [], 0
@@ -86,9 +94,9 @@ class Run:
         if name == "store":
             self.words = numbers[3:3 + numbers[2]]
             self.kept = links_fit(numbers[0], self.words)
+            self.six = packed(self.words)
             if self.kept:
-                six = packed(self.words)
-                self.emit(" ".join(map(str, ["store", *numbers[:2], len(six), *six, *numbers[3 + numbers[2]:]])))
+                self.emit(" ".join(map(str, ["store", *numbers[:2], len(self.six), *self.six, *numbers[3 + numbers[2]:]])))
         elif name == "bytes":
             self.bytes = numbers[1:]
         elif name == "commit":
@@ -108,9 +116,9 @@ class Run:
         """A bit call can leave bytes, and `chost` leaves the store, for `commit`."""
         if name in drive.BIT_CALLS:
             numbers = list(map(int, answer.split(" @ ")[1].split(" ")))
-            self.left, self.left_kept = {"bytes": changed(self.bytes, numbers)}, False
+            self.left, self.left_kept = {"bytes": changed(self.bytes, numbers)[0]}, False
         elif name == "chost":
-            self.left, self.left_kept = {"words": self.words}, False
+            self.left, self.left_kept = {"words": self.words, "six": self.six}, False
 
     def request(self, name, text, answer):
         head, sign, tail = answer.partition(" @ ")
@@ -120,11 +128,12 @@ class Run:
             self.emit(" ".join(map(str, ["bytes", len(self.bytes), *self.bytes])))
         if sign:
             numbers = list(map(int, tail.split(" ")))
-            after = changed(self.words, numbers)
+            after, places = changed(self.words, numbers)
+            six = packed_after(self.six, after, places)
             shown = list(map(int, head.split(" ")))
-            self.left = {"bytes": shown[3:3 + shown[1]]} if name == "write" and shown[0] == 0 else {"words": after}
+            self.left = {"bytes": shown[3:3 + shown[1]]} if name == "write" and shown[0] == 0 else {"words": after, "six": six}
             self.left_kept = kept
-            answer = " ".join([head, "@", drive.changes(packed(self.words), packed(after)), *map(str, numbers)])
+            answer = " ".join([head, "@", drive.changes(self.six, six), *map(str, numbers[2 * len(places) + 1:])])
         if kept:
             self.emit(text, answer)
         else:
@@ -174,9 +183,24 @@ def vectors():
     told(run)
 
 
+def compare(requests, expected, answers):
+    """Shows the first difference, as the store line, the request and both answers."""
+    requests, expected, answers = map(read, (requests, expected, answers))
+    store = ""
+    if len(expected) != len(answers):
+        sys.exit(f"in six words: {len(answers)} answers to {len(expected)} requests")
+    for text, both in paired(requests[1:], zip(expected, answers)):
+        store = text if text.startswith("store ") else store
+        if both and both[0] != both[1]:
+            sys.exit("in six words an answer differs\n%s\n%s\ncrate: %s\ndrive: %s" % (store, text, *both))
+    print(f"{len(answers)} answers compared in six words, all equal")
+
+
 def main():
     if sys.argv[1:] == ["--vectors"]:
         return vectors()
+    if sys.argv[1:2] == ["--compare"]:
+        return compare(*sys.argv[2:])
     requests, answers, six_requests, six_answers = sys.argv[1:]
     run = run_of(read(requests), read(answers))
     write(six_requests, [BEGIN] + run.requests)
