@@ -1,5 +1,5 @@
-// The settings: the store, its version and its layout, the bytes of the bit calls and of images, and
-// `commit`, which takes over what the last request left.
+// The settings: the store, its version and its layout, the bytes of the bit calls and of images,
+// and `commit`, which takes over what the last request left.
 use crate::arena;
 use crate::arena::BYTES;
 use crate::arena::COLOURS;

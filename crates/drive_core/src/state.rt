@@ -38,7 +38,7 @@ pub struct State {
 }
 
 impl State {
-    // The state before the first line: the empty map, and no words or bytes. Nodes have eight words.
+    // The state before the first line: the empty map, and no words or bytes. A node has eight words.
     pub(crate) fn new() -> State {
         State {
             map: Map::new(),
@@ -78,8 +78,8 @@ impl State {
         }
     }
 
-    // The state after the layout changed: no words and no store that a request left, so that none is
-    // read in the other layout. Bytes have no layout, so those that were given or left stay.
+    // The state after the layout changed: no words and no store that a request left, so that none
+    // is read in the other layout. Bytes have no layout, so those that were given or left stay.
     pub(crate) fn with_layout(self, narrow: bool) -> State {
         let left = self.left;
         State {
