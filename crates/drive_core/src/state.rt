@@ -38,7 +38,7 @@ pub struct State {
 }
 
 impl State {
-    // The state before the first line: the empty map, no words and no bytes. A node has eight words.
+    // The state before the first line: the empty map, no words, no bytes. A node has eight words.
     pub(crate) fn new() -> State {
         State {
             map: Map::new(),
