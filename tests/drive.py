@@ -69,6 +69,7 @@ class Drive:
         self.store = model.Store(0, U, [], [])
         self.bytes = []
         self.left = {}
+        self.narrow = False
 
     def do_store(self, numbers):
         store = model.Store(numbers.one(), numbers.one(), numbers.list(MOST_WORDS), numbers.list(MOST_COLOURS, 256))
@@ -84,9 +85,18 @@ class Drive:
         numbers.end()
         vars(self).update(self.left)
 
+    def do_layout(self, numbers):
+        words = numbers.one()
+        numbers.end()
+        fits(words in (6, 8))
+        if self.narrow != (words == 6):
+            self.narrow = words == 6
+            self.store = model.Store(0, U, [], [])
+            self.left.pop("store", None)
+
     def on_store(self, call, *args):
         copy = self.store.copy()
-        answer = call(copy, *args)
+        answer = model.in_six(call, copy, *args) if self.narrow else call(copy, *args)
         self.left = {"store": copy}
         return f"{answer} @ {changes(self.store.words, copy.words)} {changes(self.store.colours, copy.colours)}"
 
@@ -154,8 +164,9 @@ class Drive:
         numbers.end()
         if query[0] != "e":
             return f"0 {self.store.root} 1 0"
-        no = model.refuse_store(self.store) or model.refuse_query(query)
-        return f"{no} {U} 0 0" if no else f"0 {model.first(self.store, query)} 1 0"
+        store = model.unpacked(self.store) if self.narrow else self.store
+        no = model.refuse_store(store) or model.refuse_query(query)
+        return f"{no} {U} 0 0" if no else f"0 {model.first(store, query)} 1 0"
 
     def do_step(self, numbers):
         query, cursor = numbers.query(), numbers.cursor()

@@ -1,8 +1,8 @@
 #!/usr/bin/env python3
 """What the calls return and leave, from the words of document 01, of document 02 for insertion,
-tickets, images, the plain lookup, disjoint maps and the second rule of ranges, and of docs/RULES.md
-for the fast lookup, in plain lists and recursion. It takes nothing from the code of the crate iset
-or of this project. tests/drive.py prints what it returns."""
+tickets, images, the plain lookup, disjoint maps, the second rule of ranges and nodes of six words,
+and of docs/RULES.md for the fast lookup, in plain lists and recursion. It takes nothing from the
+code of the crate iset or of this project. tests/drive.py prints what it returns."""
 import struct
 
 U = 4294967295
@@ -10,16 +10,20 @@ START, END, VALUE, LO, HI, LEFT, RIGHT, PARENT = range(8)
 
 
 class Store:
+    """Nodes of eight words. `tops` is what a store of six-word nodes has besides (`unpack`)."""
+
     def __init__(self, count, root, words, colours, version=0):
         self.count, self.root, self.words, self.colours, self.version = count, root, words, colours, version
         self.reach = 0
+        self.tops = []
 
     def copy(self):
         return Store(self.count, self.root, list(self.words), list(self.colours), self.version)
 
     def raise_version(self):
-        """One accepted build, removal, insertion or reading of an image."""
+        """One accepted build, removal, insertion or reading of an image. Every node below the count has top bits 0 then."""
         self.version = (self.version + 1) % 2**32
+        self.tops[:self.count] = [0] * len(self.tops[:self.count])
 
     def get(self, slot, word):
         return self.words[8 * slot + word]
@@ -52,6 +56,8 @@ class Store:
 
     def passes(self):
         """The check, but for the room."""
+        if any(self.tops[:self.count]):
+            return False
         if self.count == 0 or self.root == U:
             return self.count == 0 and self.root == U
         seen, order = set(), []
@@ -80,6 +86,45 @@ class Store:
 
 def refuse_store(s):
     return 1 if s.count > s.capacity() else 0 if s.passes() else 2
+
+
+# Nodes of six words, by document 02, item 12: start, end, value, hull start, hull end, links. The word of links has the left one in
+# its lowest 16 bits, then the right one, then the parent, then 16 bits 0. The undefined link is 65535 there.
+
+def unpack(words):
+    """Each six words as eight, and the top bits of each word of links. What is left after the last whole node stays."""
+    wide, tops = [], []
+    for at in range(0, len(words) - 5, 6):
+        *links, top = (words[at + 5] // 65536**k % 65536 for k in range(4))
+        wide += words[at:at + 5] + [U if link == 65535 else link for link in links]
+        tops.append(top)
+    return wide + words[6 * len(tops):], tops
+
+
+def pack(wide, tops):
+    """The words whose `unpack` this is."""
+    words = []
+    for slot, top in enumerate(tops):
+        links = [65535 if link == U else link for link in wide[8 * slot + LEFT:8 * slot + 8]]
+        assert max(links) <= 65535
+        words += wide[8 * slot:8 * slot + LEFT] + [sum(x * 65536**k for k, x in enumerate(links + [top]))]
+    return words + wide[8 * len(tops):]
+
+
+def unpacked(s):
+    """A store of six-word nodes as one of eight-word nodes."""
+    wide = s.copy()
+    wide.words, wide.tops = unpack(s.words)
+    return wide
+
+
+def in_six(call, s, *args):
+    """A call on a store of six-word nodes: unpack, the call on eight words, pack."""
+    wide = unpacked(s)
+    answer = call(wide, *args)
+    wide.words = pack(wide.words, wide.tops)
+    vars(s).update(vars(wide))
+    return answer
 
 
 # Building

@@ -1,8 +1,8 @@
 #!/usr/bin/env python3
 """lines.py REQUESTS ANSWERS: takes the recorded lines of the programs drive and test_vectors that
-lines.c takes, if the store passes the check or the line is about bytes alone. It writes them, each
-after a line `store` or `bytes`, to REQUESTS, and the recorded answers to ANSWERS. A line `store` has
-the version in front."""
+lines.c takes, if the store has nodes of eight words and passes the check, or if the line is about
+bytes alone. It writes them, each after a line `store` or `bytes`, to REQUESTS, and the recorded
+answers to ANSWERS. A line `store` has the version in front."""
 import pathlib
 import sys
 
@@ -23,7 +23,7 @@ def setting_of(session, text):
     """The line that gives what the request works on, or nothing if it is not taken."""
     if text.startswith('chost '):
         return ' '.join(map(str, ['bytes', len(session.bytes), *session.bytes]))
-    if text.startswith(TAKEN) and model.refuse_store(session.store) == 0:
+    if text.startswith(TAKEN) and not session.narrow and model.refuse_store(session.store) == 0:
         return store_line(session.store)
     return None
 

@@ -76,8 +76,8 @@ fn byte_call(name: &[u8]) -> Call {
 }
 
 fn call_named(name: &[u8]) -> Call {
-    let k = given::which(name, b"store ;bytes ;commit;version ;");
-    if k < 4 {
+    let k = given::which(name, b"store ;bytes ;commit;version ;layout ;");
+    if k < 5 {
         return Call::Setting(settings::call_at(k));
     }
     match given::which(name, b"last;ticket ;") {

@@ -96,15 +96,16 @@ fn done(
     kind: Kind,
     numbers: &[u64],
     nodes: &[u64],
+    narrow: bool,
     colours: &[u8],
     hits: &mut [u64],
 ) -> Reply {
     match call {
-        Call::Fresh => fresh::fresh(m, kind, numbers, nodes, colours),
-        Call::Step => step::step(m, kind, numbers, nodes, colours),
-        Call::Drain => drain::drain(m, kind, numbers, nodes, colours, hits),
-        Call::Plain => scan::plain(m, kind, numbers, nodes, colours, hits),
-        Call::FindAll => scan::find_all(m, kind, numbers, nodes, colours, hits),
+        Call::Fresh => fresh::fresh(m, kind, numbers, nodes, narrow, colours),
+        Call::Step => step::step(m, kind, numbers, nodes, narrow, colours),
+        Call::Drain => drain::drain(m, kind, numbers, nodes, narrow, colours, hits),
+        Call::Plain => scan::plain(m, kind, numbers, nodes, narrow, colours, hits),
+        Call::FindAll => scan::find_all(m, kind, numbers, nodes, narrow, colours, hits),
     }
 }
 
@@ -129,6 +130,7 @@ fn in_store(
         kind,
         numbers,
         &words[w..w + n],
+        s.narrow,
         &colours[..b],
         hits,
     )

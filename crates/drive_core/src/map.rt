@@ -53,13 +53,14 @@ fn done(
     m: Map,
     numbers: &[u64],
     nodes: &mut [u64],
+    narrow: bool,
     colours: &mut [u8],
     image: &mut [u8],
 ) -> Reply {
     match call {
-        Call::Store(c) => store::done(c, m, numbers, nodes, colours),
-        Call::Apart(c) => apart::done(c, m, numbers, nodes, colours),
-        Call::Image(c) => images::done(c, m, numbers, nodes, colours, image),
+        Call::Store(c) => store::done(c, m, numbers, nodes, narrow, colours),
+        Call::Apart(c) => apart::done(c, m, numbers, nodes, narrow, colours),
+        Call::Image(c) => images::done(c, m, numbers, nodes, narrow, colours, image),
     }
 }
 
@@ -75,7 +76,15 @@ fn on_copy(
     let m = s.map;
     let nodes = least(s.words, words.len());
     arena::load(words, NEW_COLOURS, colours);
-    let a = done(call, m, numbers, &mut words[..nodes], colours, image);
+    let a = done(
+        call,
+        m,
+        numbers,
+        &mut words[..nodes],
+        s.narrow,
+        colours,
+        image,
+    );
     arena::save(words, NEW_COLOURS, colours);
     a
 }

@@ -1,5 +1,5 @@
-// The settings: the store and its version, the bytes of the bit calls and of images, and `commit`, which takes
-// over what the last request left.
+// The settings: the store, its version and its layout, the bytes of the bit calls and of images,
+// and `commit`, which takes over what the last request left.
 use crate::arena;
 use crate::arena::BYTES;
 use crate::arena::COLOURS;
@@ -19,6 +19,7 @@ pub enum Call {
     Bytes,
     Commit,
     Version,
+    Layout,
 }
 
 // The calls in the order of their names (crate::call).
@@ -27,7 +28,8 @@ pub(crate) fn call_at(place: usize) -> Call {
         0 => Call::Store,
         1 => Call::Bytes,
         2 => Call::Commit,
-        _ => Call::Version,
+        3 => Call::Version,
+        _ => Call::Layout,
     }
 }
 
@@ -44,6 +46,12 @@ fn is_bytes(numbers: &[u64]) -> bool {
     (n <= MOST_BYTES) & given::ends_in_bytes(numbers, 1, 1 + n)
 }
 
+// `6` or `8`: how many words a node has.
+fn is_layout(numbers: &[u64]) -> bool {
+    let n = given::number(numbers, 0);
+    (numbers.len() == 1) & ((n == 6) | (n == 8))
+}
+
 // Whether the numbers are those of the setting.
 pub(crate) fn fits(call: Call, numbers: &[u64]) -> bool {
     match call {
@@ -51,6 +59,7 @@ pub(crate) fn fits(call: Call, numbers: &[u64]) -> bool {
         Call::Bytes => is_bytes(numbers),
         Call::Commit => numbers.len() == 0,
         Call::Version => (numbers.len() == 1) & given::is_version(numbers, 0),
+        Call::Layout => is_layout(numbers),
     }
 }
 
@@ -105,11 +114,22 @@ fn version(s: State, numbers: &[u64]) -> State {
     s.with_store(map, s.words, s.colours)
 }
 
+// A setting of the layout that is there changes nothing.
+fn layout(s: State, numbers: &[u64]) -> State {
+    let narrow = given::number(numbers, 0) == 6;
+    if narrow == s.narrow {
+        s
+    } else {
+        s.with_layout(narrow)
+    }
+}
+
 pub(crate) fn set(s: State, call: Call, numbers: &[u64], words: &mut [u64]) -> State {
     match call {
         Call::Store => store(s, numbers, words),
         Call::Bytes => bytes(s, numbers, words),
         Call::Commit => commit(s, words),
         Call::Version => version(s, numbers),
+        Call::Layout => layout(s, numbers),
     }
 }

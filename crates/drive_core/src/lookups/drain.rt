@@ -40,11 +40,12 @@ pub(crate) fn drain(
     kind: Kind,
     numbers: &[u64],
     nodes: &[u64],
+    narrow: bool,
     colours: &[u8],
     hits: &mut [u64],
 ) -> Reply {
     let q = query::query(kind, numbers);
     let c = query::cursor(kind, numbers);
     let limit = query::after(kind, numbers, 3);
-    reply_of(m.drain(nodes, colours, q, c, limit, hits), c)
+    reply_of(m.drain_in(nodes, narrow, colours, q, c, limit, hits), c)
 }

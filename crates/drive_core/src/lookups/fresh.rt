@@ -21,9 +21,16 @@ fn reply_of(a: Started) -> Reply {
     }
 }
 
-pub(crate) fn fresh(m: Map, kind: Kind, numbers: &[u64], nodes: &[u64], colours: &[u8]) -> Reply {
+pub(crate) fn fresh(
+    m: Map,
+    kind: Kind,
+    numbers: &[u64],
+    nodes: &[u64],
+    narrow: bool,
+    colours: &[u8],
+) -> Reply {
     match kind {
-        Kind::Exact => reply_of(m.fresh_exact(nodes, colours, query::interval(numbers))),
+        Kind::Exact => reply_of(m.fresh_exact_in(nodes, narrow, colours, query::interval(numbers))),
         _ => reply(0, m.fresh()),
     }
 }

@@ -26,10 +26,11 @@ pub(crate) fn plain(
     kind: Kind,
     numbers: &[u64],
     nodes: &[u64],
+    narrow: bool,
     colours: &[u8],
     hits: &mut [u64],
 ) -> Reply {
-    reply_of(m.plain(nodes, colours, query::query(kind, numbers), hits))
+    reply_of(m.plain_in(nodes, narrow, colours, query::query(kind, numbers), hits))
 }
 
 pub(crate) fn find_all(
@@ -37,8 +38,9 @@ pub(crate) fn find_all(
     kind: Kind,
     numbers: &[u64],
     nodes: &[u64],
+    narrow: bool,
     colours: &[u8],
     hits: &mut [u64],
 ) -> Reply {
-    reply_of(m.find_all(nodes, colours, query::query(kind, numbers), hits))
+    reply_of(m.find_all_in(nodes, narrow, colours, query::query(kind, numbers), hits))
 }

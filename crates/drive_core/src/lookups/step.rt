@@ -31,7 +31,17 @@ fn reply_of(a: Stepped, given: Cursor) -> Reply {
     }
 }
 
-pub(crate) fn step(m: Map, kind: Kind, numbers: &[u64], nodes: &[u64], colours: &[u8]) -> Reply {
+pub(crate) fn step(
+    m: Map,
+    kind: Kind,
+    numbers: &[u64],
+    nodes: &[u64],
+    narrow: bool,
+    colours: &[u8],
+) -> Reply {
     let c = query::cursor(kind, numbers);
-    reply_of(m.step(nodes, colours, query::query(kind, numbers), c), c)
+    reply_of(
+        m.step_in(nodes, narrow, colours, query::query(kind, numbers), c),
+        c,
+    )
 }

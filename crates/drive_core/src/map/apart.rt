@@ -33,9 +33,9 @@ pub(crate) fn fits(call: Call, numbers: &[u64]) -> bool {
     }
 }
 
-fn check(m: Map, nodes: &[u64], colours: &[u8]) -> Reply {
+fn check(m: Map, nodes: &[u64], narrow: bool, colours: &[u8]) -> Reply {
     let d = DisjointMap { map: m };
-    let checked = d.check(nodes, colours);
+    let checked = d.check_in(nodes, narrow, colours);
     Reply::new(checked.number(), m, 0, 0, 0)
 }
 
@@ -47,17 +47,17 @@ fn placed(a: Placement, m: Map) -> Reply {
     }
 }
 
-fn insert(m: Map, numbers: &[u64], nodes: &mut [u64], colours: &mut [u8]) -> Reply {
+fn insert(m: Map, numbers: &[u64], nodes: &mut [u64], narrow: bool, colours: &mut [u8]) -> Reply {
     let d = DisjointMap { map: m };
     let start = given::number(numbers, 0);
     let end = given::number(numbers, 1);
     let value = given::number(numbers, 2);
-    placed(d.insert(nodes, colours, start, end, value), m)
+    placed(d.insert_in(nodes, narrow, colours, start, end, value), m)
 }
 
-fn remove(m: Map, slot: u64, nodes: &mut [u64], colours: &mut [u8]) -> Reply {
+fn remove(m: Map, slot: u64, nodes: &mut [u64], narrow: bool, colours: &mut [u8]) -> Reply {
     let d = DisjointMap { map: m };
-    remove::reply_of(d.remove(nodes, colours, slot), m)
+    remove::reply_of(d.remove_in(nodes, narrow, colours, slot), m)
 }
 
 pub(crate) fn done(
@@ -65,12 +65,13 @@ pub(crate) fn done(
     m: Map,
     numbers: &[u64],
     nodes: &mut [u64],
+    narrow: bool,
     colours: &mut [u8],
 ) -> Reply {
     match call {
-        Call::Check => check(m, nodes, colours),
-        Call::Point => point::point(m, given::number(numbers, 0), nodes, colours),
-        Call::Insert => insert(m, numbers, nodes, colours),
-        Call::Remove => remove(m, given::number(numbers, 0), nodes, colours),
+        Call::Check => check(m, nodes, narrow, colours),
+        Call::Point => point::point(m, given::number(numbers, 0), nodes, narrow, colours),
+        Call::Insert => insert(m, numbers, nodes, narrow, colours),
+        Call::Remove => remove(m, given::number(numbers, 0), nodes, narrow, colours),
     }
 }

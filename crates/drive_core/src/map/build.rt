@@ -28,8 +28,18 @@ pub(crate) fn reply_of(a: Built, m: Map, n: usize) -> Reply {
     }
 }
 
-pub(crate) fn build(m: Map, numbers: &[u64], nodes: &mut [u64], colours: &mut [u8]) -> Reply {
+pub(crate) fn build(
+    m: Map,
+    numbers: &[u64],
+    nodes: &mut [u64],
+    narrow: bool,
+    colours: &mut [u8],
+) -> Reply {
     let from = least(1, numbers.len());
     let n = least(given::size(numbers, 0), numbers.len() - from);
-    reply_of(m.build(nodes, colours, &numbers[from..from + n]), m, 2)
+    reply_of(
+        m.build_in(nodes, narrow, colours, &numbers[from..from + n]),
+        m,
+        2,
+    )
 }

@@ -69,12 +69,13 @@ pub(crate) fn done(
     m: Map,
     numbers: &[u64],
     nodes: &mut [u64],
+    narrow: bool,
     colours: &mut [u8],
     image: &mut [u8],
 ) -> Reply {
     match call {
-        Call::Write => write::write(m, nodes, colours, image),
-        Call::Load => load::load(given::version(numbers, 0), nodes, colours, image),
+        Call::Write => write::write(m, nodes, narrow, colours, image),
+        Call::Load => load::load(given::version(numbers, 0), nodes, narrow, colours, image),
         Call::Host => host::host(m, numbers, image),
     }
 }

@@ -13,9 +13,15 @@ fn reply_of(a: Insertion, m: Map) -> Reply {
     }
 }
 
-pub(crate) fn insert(m: Map, numbers: &[u64], nodes: &mut [u64], colours: &mut [u8]) -> Reply {
+pub(crate) fn insert(
+    m: Map,
+    numbers: &[u64],
+    nodes: &mut [u64],
+    narrow: bool,
+    colours: &mut [u8],
+) -> Reply {
     let start = given::number(numbers, 0);
     let end = given::number(numbers, 1);
     let value = given::number(numbers, 2);
-    reply_of(m.insert(nodes, colours, start, end, value), m)
+    reply_of(m.insert_in(nodes, narrow, colours, start, end, value), m)
 }

@@ -11,11 +11,17 @@ pub(crate) fn fits(numbers: &[u64]) -> bool {
 }
 
 // Of the map that is replaced only the version is read.
-pub(crate) fn load(version: u32, nodes: &mut [u64], colours: &mut [u8], image: &[u8]) -> Reply {
+pub(crate) fn load(
+    version: u32,
+    nodes: &mut [u64],
+    narrow: bool,
+    colours: &mut [u8],
+    image: &[u8],
+) -> Reply {
     let m = Map {
         count: 0,
         root: U,
         version,
     };
-    build::reply_of(m.read_image(nodes, colours, image), m, 3)
+    build::reply_of(m.read_image_in(nodes, narrow, colours, image), m, 3)
 }

@@ -13,7 +13,7 @@ fn reply_of(a: Pointed, m: Map) -> Reply {
     }
 }
 
-pub(crate) fn point(m: Map, address: u64, nodes: &[u64], colours: &[u8]) -> Reply {
+pub(crate) fn point(m: Map, address: u64, nodes: &[u64], narrow: bool, colours: &[u8]) -> Reply {
     let d = DisjointMap { map: m };
-    reply_of(d.point(nodes, colours, address), m)
+    reply_of(d.point_in(nodes, narrow, colours, address), m)
 }

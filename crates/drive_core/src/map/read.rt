@@ -31,10 +31,10 @@ fn reply_of(a: Reading, m: Map) -> Reply {
     }
 }
 
-pub(crate) fn read(m: Map, numbers: &[u64], nodes: &[u64], colours: &[u8]) -> Reply {
+pub(crate) fn read(m: Map, numbers: &[u64], nodes: &[u64], narrow: bool, colours: &[u8]) -> Reply {
     let ticket = Ticket {
         slot: given::number(numbers, 0),
         version: given::version(numbers, 1),
     };
-    reply_of(m.read(nodes, colours, ticket), m)
+    reply_of(m.read_in(nodes, narrow, colours, ticket), m)
 }

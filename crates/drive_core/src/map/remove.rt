@@ -55,6 +55,12 @@ pub(crate) fn reply_of(a: Removal, m: Map) -> Reply {
     }
 }
 
-pub(crate) fn remove(m: Map, slot: u64, nodes: &mut [u64], colours: &mut [u8]) -> Reply {
-    reply_of(m.remove(nodes, colours, slot), m)
+pub(crate) fn remove(
+    m: Map,
+    slot: u64,
+    nodes: &mut [u64],
+    narrow: bool,
+    colours: &mut [u8],
+) -> Reply {
+    reply_of(m.remove_in(nodes, narrow, colours, slot), m)
 }

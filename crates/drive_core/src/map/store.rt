@@ -42,13 +42,14 @@ pub(crate) fn done(
     m: Map,
     numbers: &[u64],
     nodes: &mut [u64],
+    narrow: bool,
     colours: &mut [u8],
 ) -> Reply {
     match call {
-        Call::Check => check::check(m, nodes, colours),
-        Call::Build => build::build(m, numbers, nodes, colours),
-        Call::Remove => remove::remove(m, given::number(numbers, 0), nodes, colours),
-        Call::Insert => insert::insert(m, numbers, nodes, colours),
-        Call::Read => read::read(m, numbers, nodes, colours),
+        Call::Check => check::check(m, nodes, narrow, colours),
+        Call::Build => build::build(m, numbers, nodes, narrow, colours),
+        Call::Remove => remove::remove(m, given::number(numbers, 0), nodes, narrow, colours),
+        Call::Insert => insert::insert(m, numbers, nodes, narrow, colours),
+        Call::Read => read::read(m, numbers, nodes, narrow, colours),
     }
 }

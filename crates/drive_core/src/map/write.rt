@@ -17,6 +17,12 @@ fn reply_of(a: Written, m: Map) -> Reply {
     }
 }
 
-pub(crate) fn write(m: Map, nodes: &[u64], colours: &[u8], image: &mut [u8]) -> Reply {
-    reply_of(m.write_image(nodes, colours, image), m)
+pub(crate) fn write(
+    m: Map,
+    nodes: &[u64],
+    narrow: bool,
+    colours: &[u8],
+    image: &mut [u8],
+) -> Reply {
+    reply_of(m.write_image_in(nodes, narrow, colours, image), m)
 }
