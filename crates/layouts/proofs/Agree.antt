@@ -43,8 +43,8 @@ slots-agree o m N X Y a b d e f s = ap (λ (M : Memory). word (M .words) f s) (a
 
 -- any list of operations
 pub agrees-runs : (m n : Map) (N Z : Memory) (l : List Told) → Runs true m N l n Z → Runs false m (seen true N) l n (seen true Z)
-agrees-runs m n N Z l (end m N) = end m (seen true N)
-agrees-runs m n N Z _ (next m n N X Z l o a d r) =
+agrees-runs _ _ _ _ _ (end m N) = end m (seen true N)
+agrees-runs _ _ _ _ _ (next m n N X Z l o a d r) =
     next m n (seen true N) (seen true X) (seen true Z) l o a (agrees o m N X a d) (agrees-runs (mapAfter o m a) n X Z l r)
 
 -- what a list of operations comes to by the rules
@@ -69,8 +69,8 @@ record Ends (l : List Told) (m : Map) (M : Memory) (n : Map) (Z : Memory) : Type
 
 runs-end : (m n : Map) (M Z : Memory) (l : List Told) → Runs false m M l n Z → Ends l m M n Z
 unfolding asEight
-runs-end m n M Z l (end m M) = record { told = refl; map = refl; memory = refl }
-runs-end m n M Z _ (next m n M X Z l o a d r) =
+runs-end _ _ _ _ _ (end m M) = record { told = refl; map = refl; memory = refl }
+runs-end _ _ _ _ _ (next m n M X Z l o a d r) =
     let i : Ends l (mapAfter o m a) X n Z = runs-end (mapAfter o m a) n X Z l r in
     let p : a ≡ result o m M .answer = d .answers in
     let q : X ≡ result o m M .memory = d .leaves in
