@@ -3,6 +3,7 @@
 // intersects a range if some whole address lies in both. Answers, refusals and their order are those
 // of the calls without a rule; a number that is no rule is a BadRange.
 pub mod closed;
+pub mod exports;
 pub mod opened;
 
 use iset::Bound;
