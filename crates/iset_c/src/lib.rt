@@ -2,11 +2,15 @@
 // include/iset.h declares them. Over extern "C" a slice is two scalars, its pointer and its length.
 // A map, a range and a cursor are the numbers that they hold.
 //
-// These functions are the exports. An export returns the refusal's number, or 0 if there is none.
-// It writes the answer's numbers to the front of the slice `answer`. It has two refusals of its
-// own, which come before those of the call. The first is ShortAnswer, if that slice is too short
-// for the numbers. The second is BadBound, if a bound's kind is not 0, 1 or 2. If anything is
-// refused, nothing lent has changed, the answer slice included.
+// The exports that are lent node words are in exports.rt; iset_slot_after is here, iset_fresh in
+// lookup.rt. An export returns the refusal's number, or 0 if there is none. It writes the answer's
+// numbers to the front of the slice `answer`. It has two refusals of its own, which come before
+// those of the call. The first is ShortAnswer, if that slice is too short for the numbers. The
+// second is BadBound, if a bound's kind is not 0, 1 or 2. If anything is refused, nothing lent has
+// changed, the answer slice included.
+//
+// A function whose name ends in `_in` does the work of an export for nodes of either layout: `narrow`
+// says that a node has six words and not eight. Crate iset_c_narrow has the exports for six words.
 pub mod answer;
 pub mod call;
 pub mod exports;

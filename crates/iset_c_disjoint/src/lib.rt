@@ -2,6 +2,9 @@
 // over lent slices and numbers, as include/iset_disjoint.h declares them. Answers and refusals have
 // the form of crate iset_c's. One call is an exception to the rule that a refusal leaves `answer`
 // alone: an insertion that is refused with Overlap writes its answer too, since it names a slot.
+//
+// The exports are in exports.rt. A function whose name ends in `_in` does the work of an export for
+// nodes of either layout: `narrow` says that a node has six words and not eight.
 pub mod answer;
 pub mod exports;
 pub mod open;

@@ -1,4 +1,5 @@
-// A step and a drain for any query, in an opened store, with the numbers of their answers. They serve the exports.
+// A step and a drain for any query, in an opened store, with the numbers of their answers. They
+// serve the exports.
 use iset::Cursor;
 use iset::Map;
 use iset::Query;

@@ -1,6 +1,9 @@
 // The map for hosts in C and Rust that check a store once and then keep it to themselves. These are
 // the calls of crate iset_c without the store check, as include/iset_open.h declares them. Answers,
 // refusals and their order are those of crate iset_c, except that Broken is never returned.
+//
+// The exports are in exports.rt. A function whose name ends in `_in` does the work of an export for
+// nodes of either layout: `narrow` says that a node has six words and not eight.
 pub mod call;
 pub mod exports;
 pub mod find;

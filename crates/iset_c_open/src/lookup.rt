@@ -156,21 +156,14 @@ pub fn open_drain_in(
         return SHORT_ANSWER;
     }
     if are_kinds(lo_kind, hi_kind) {
-        drain(
-            Map {
-                count,
-                root,
-                version: 0,
-            },
-            nodes,
-            narrow,
-            colours,
-            range(lo_kind, lo, hi_kind, hi),
-            Cursor { slot, levels, bits },
-            limit,
-            out,
-            answer,
-        )
+        let map = Map {
+            count,
+            root,
+            version: 0,
+        };
+        let query = range(lo_kind, lo, hi_kind, hi);
+        let from = Cursor { slot, levels, bits };
+        drain(map, nodes, narrow, colours, query, from, limit, out, answer)
     } else {
         BAD_BOUND
     }
