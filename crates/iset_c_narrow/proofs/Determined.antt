@@ -85,20 +85,20 @@ use Rattle.iset_c_narrow.proofs.ruled.iset_narrow_open_plain_ruled.Read
 use Rattle.iset_c_narrow.proofs.ruled.iset_narrow_open_plain_ruled.Kinds as open-plain-ruled-kinds
 use Rattle.iset_c_narrow.proofs.ruled.iset_narrow_open_find_all_ruled.Reads as open-find-all-ruled-reads
 use Rattle.iset_c_narrow.proofs.ruled.iset_narrow_open_find_all_ruled.Kinds as open-find-all-ruled-kinds
-use Rattle.iset_c_narrow.proofs.disjoint.iset_narrow_disjoint_check.Reads as disjoint-check-reads
-use Rattle.iset_c_narrow.proofs.disjoint.iset_narrow_disjoint_check.Kinds as disjoint-check-kinds
-use Rattle.iset_c_narrow.proofs.disjoint.iset_narrow_disjoint_point.Reads as disjoint-point-reads
-use Rattle.iset_c_narrow.proofs.disjoint.iset_narrow_disjoint_point.Kinds as disjoint-point-kinds
-use Rattle.iset_c_narrow.proofs.disjoint.iset_narrow_disjoint_insert.Reads as disjoint-insert-reads
-use Rattle.iset_c_narrow.proofs.disjoint.iset_narrow_disjoint_insert.Kinds as disjoint-insert-kinds
-use Rattle.iset_c_narrow.proofs.disjoint.iset_narrow_disjoint_remove.Reads as disjoint-remove-reads
-use Rattle.iset_c_narrow.proofs.disjoint.iset_narrow_disjoint_remove.Kinds as disjoint-remove-kinds
-use Rattle.iset_c_narrow.proofs.disjoint.iset_narrow_open_disjoint_point.Reads as open-disjoint-point-reads
-use Rattle.iset_c_narrow.proofs.disjoint.iset_narrow_open_disjoint_point.Kinds as open-disjoint-point-kinds
-use Rattle.iset_c_narrow.proofs.disjoint.iset_narrow_open_disjoint_insert.Reads as open-disjoint-insert-reads
-use Rattle.iset_c_narrow.proofs.disjoint.iset_narrow_open_disjoint_insert.Kinds as open-disjoint-insert-kinds
-use Rattle.iset_c_narrow.proofs.disjoint.iset_narrow_open_disjoint_remove.Reads as open-disjoint-remove-reads
-use Rattle.iset_c_narrow.proofs.disjoint.iset_narrow_open_disjoint_remove.Kinds as open-disjoint-remove-kinds
+use Rattle.iset_c_narrow.proofs.apart.iset_narrow_disjoint_check.Reads as disjoint-check-reads
+use Rattle.iset_c_narrow.proofs.apart.iset_narrow_disjoint_check.Kinds as disjoint-check-kinds
+use Rattle.iset_c_narrow.proofs.apart.iset_narrow_disjoint_point.Reads as disjoint-point-reads
+use Rattle.iset_c_narrow.proofs.apart.iset_narrow_disjoint_point.Kinds as disjoint-point-kinds
+use Rattle.iset_c_narrow.proofs.apart.iset_narrow_disjoint_insert.Reads as disjoint-insert-reads
+use Rattle.iset_c_narrow.proofs.apart.iset_narrow_disjoint_insert.Kinds as disjoint-insert-kinds
+use Rattle.iset_c_narrow.proofs.apart.iset_narrow_disjoint_remove.Reads as disjoint-remove-reads
+use Rattle.iset_c_narrow.proofs.apart.iset_narrow_disjoint_remove.Kinds as disjoint-remove-kinds
+use Rattle.iset_c_narrow.proofs.apart.iset_narrow_open_disjoint_point.Reads as open-disjoint-point-reads
+use Rattle.iset_c_narrow.proofs.apart.iset_narrow_open_disjoint_point.Kinds as open-disjoint-point-kinds
+use Rattle.iset_c_narrow.proofs.apart.iset_narrow_open_disjoint_insert.Reads as open-disjoint-insert-reads
+use Rattle.iset_c_narrow.proofs.apart.iset_narrow_open_disjoint_insert.Kinds as open-disjoint-insert-kinds
+use Rattle.iset_c_narrow.proofs.apart.iset_narrow_open_disjoint_remove.Reads as open-disjoint-remove-reads
+use Rattle.iset_c_narrow.proofs.apart.iset_narrow_open_disjoint_remove.Kinds as open-disjoint-remove-kinds
 
 same-six : {n k : ℕ} {A B N M C D : List ℕ} {x : Exit} → exit n A (unpack N ∷ C ∷ []) ≡ x → exit k B (unpack M ∷ D ∷ []) ≡ x
     → (n ≡ k) × (A ≡ B) × (N ≡ M) × (C ≡ D)

@@ -5,7 +5,7 @@
 //
 // They are a crate of their own, and so an archive of their own. In an archive that has both
 // layouts each access to a node would test which one it is.
+pub mod apart;
 pub mod closed;
-pub mod disjoint;
 pub mod opened;
 pub mod ruled;

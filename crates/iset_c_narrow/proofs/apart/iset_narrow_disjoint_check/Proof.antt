@@ -1,7 +1,7 @@
 use Rattle.words.specs.Layouts.{asEight}
 use borrow.Author.Needs.{needs}
-use Rattle.iset_c_narrow.proofs.disjoint.iset_narrow_disjoint_check.Statement.{statement}
-use Rattle.iset_c_narrow.proofs.disjoint.iset_narrow_disjoint_check.Tie as tie
+use Rattle.iset_c_narrow.proofs.apart.iset_narrow_disjoint_check.Statement.{statement}
+use Rattle.iset_c_narrow.proofs.apart.iset_narrow_disjoint_check.Tie as tie
 
 pub iset-narrow-disjoint-check-spec : {M : Type 1} → statement M
 unfolding asEight
