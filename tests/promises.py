@@ -17,9 +17,13 @@ import sys
 TOP = pathlib.Path(__file__).resolve().parent.parent
 
 # Here every public function is a public call.
-CALLS = {'iset', 'disjoint', 'image_host', 'iset_c', 'iset_c_open', 'iset_c_disjoint', 'iset_c_image', 'iset_c_ruled', 'slotlist_core', 'image_text', 'lines'}
+CALLS = {'iset', 'disjoint', 'image_host', 'iset_c', 'iset_c_open', 'iset_c_disjoint', 'iset_c_image', 'iset_c_ruled', 'iset_c_narrow', 'slotlist_core', 'image_text', 'lines'}
 # But these modules hold what one crate of exports takes from the other: inner functions.
 INNER = {('iset_c', 'answer'), ('iset_c', 'call'), ('iset_c', 'range'), ('iset_c_open', 'call'), ('iset_c_disjoint', 'answer')}
+# And a function NAME_in of these crates does the work of two exports: iset_NAME, with nodes of eight
+# words, and iset_narrow_NAME, with nodes of six. It is an inner function. Its promise is that of
+# the one or of the other, by its argument `narrow`, so it is determined if both of them are.
+BODIES, EXPORTS, NARROW = {'iset_c', 'iset_c_open', 'iset_c_disjoint', 'iset_c_ruled'}, 'exports', 'iset_c_narrow'
 # Here the public calls are those that return one of these types, and `new`. The others are inner
 # functions, as in all other crates.
 ANSWERS = {'bitvec': {'Answer'}, 'stack': {'Answer', 'Outcome', 'After'}}
@@ -47,7 +51,10 @@ class Function:
     def is_call(self):
         if self.crate in ANSWERS:
             return self.result in ANSWERS[self.crate] or self.name == 'new'
-        return self.crate in CALLS and (self.crate, self.place[0]) not in INNER
+        return self.crate in CALLS and (self.crate, self.place[0]) not in INNER and not self.is_body()
+
+    def is_body(self):
+        return self.crate in BODIES and self.name.endswith('_in')
 
     def owed(self):
         """What the promise has to speak of, each as it stands in a clause that binds the answer as `r`."""
@@ -73,6 +80,12 @@ class Function:
             if there == self.place and ('r ≡ r′' in text or not self.result) and text.count('now (s′') >= len(self.lent):
                 return True
         return False
+
+    def are_exports_determined(self, told):
+        """Whether a theorem speaks of each of the two exports that a body does the work of."""
+        of = [(told[self.crate], [EXPORTS], 'iset_'), (told.get(NARROW, []), [], 'iset_narrow_')]
+        return all(any(path[:len(module)] == module and path[-1] == before + self.name[:-len('_in')] and text.count('now (s′') >= len(self.lent)
+                       for path, text in theorems) for theorems, module, before in of)
 
 
 def functions(crate):
@@ -113,17 +126,21 @@ def main():
         bad += 1
         print('promises: ' + what)
 
-    for crate in sorted((TOP / 'crates').iterdir()):
-        told = theorems(crate)
-        proved += len(told)
+    crates = [c for c in sorted((TOP / 'crates').iterdir()) if c.is_dir()]
+    told = {crate.name: theorems(crate) for crate in crates}
+    for crate in crates:
+        proved += len(told[crate.name])
         for f in functions(crate):
             count += 1
             calls += f.is_call()
             if f.unsaid():
                 wrong('%s: no promise about %s' % (f, ', '.join('what it returns' if x == 'r' else x for x in f.unsaid())))
-            elif f.is_call() and f.requires:
+            elif (f.is_call() or f.is_body()) and f.requires:
                 wrong('%s: a public call has a premise' % f)
-            elif f.owed() and (f.is_call() or not f.is_equations()) and not f.is_determined(told):
+            elif f.is_body():
+                if not f.are_exports_determined(told):
+                    wrong('%s: no theorem says that the promises of its two exports determine it' % f)
+            elif f.owed() and (f.is_call() or not f.is_equations()) and not f.is_determined(told[crate.name]):
                 wrong('%s: no theorem says that its promise determines it' % f)
     if count < FEWEST_FUNCTIONS or calls < FEWEST_CALLS or proved < FEWEST_CALLS:
         wrong('too little was found')

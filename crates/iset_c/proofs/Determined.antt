@@ -6,46 +6,46 @@ use borrow.Fn.Kinds as K
 use denote.Triple.Clauses.{AtExit}
 use denote.Ref.{now}
 use Rattle.iset_c.proofs.Exits.{same-answer, same-effect, same-output}
-use Rattle.iset_c.proofs.iset_check.Reads as check-reads
-use Rattle.iset_c.proofs.iset_check.Kinds as check-kinds
-use Rattle.iset_c.proofs.iset_build.Reads as build-reads
-use Rattle.iset_c.proofs.iset_build.Kinds as build-kinds
-use Rattle.iset_c.proofs.iset_remove.Reads as remove-reads
-use Rattle.iset_c.proofs.iset_remove.Kinds as remove-kinds
-use Rattle.iset_c.proofs.iset_insert.Reads as insert-reads
-use Rattle.iset_c.proofs.iset_insert.Kinds as insert-kinds
+use Rattle.iset_c.proofs.exports.iset_check.Reads as check-reads
+use Rattle.iset_c.proofs.exports.iset_check.Kinds as check-kinds
+use Rattle.iset_c.proofs.exports.iset_build.Reads as build-reads
+use Rattle.iset_c.proofs.exports.iset_build.Kinds as build-kinds
+use Rattle.iset_c.proofs.exports.iset_remove.Reads as remove-reads
+use Rattle.iset_c.proofs.exports.iset_remove.Kinds as remove-kinds
+use Rattle.iset_c.proofs.exports.iset_insert.Reads as insert-reads
+use Rattle.iset_c.proofs.exports.iset_insert.Kinds as insert-kinds
 use Rattle.iset_c.proofs.iset_slot_after.Reads as slot-after-reads
 use Rattle.iset_c.proofs.iset_slot_after.Kinds as slot-after-kinds
-use Rattle.iset_c.proofs.ticket.iset_read.Reads as read-reads
-use Rattle.iset_c.proofs.ticket.iset_read.Kinds as read-kinds
-use Rattle.iset_c.proofs.save.iset_write_image.Reads as write-image-reads
-use Rattle.iset_c.proofs.save.iset_write_image.Kinds as write-image-kinds
-use Rattle.iset_c.proofs.save.iset_read_image.Reads as read-image-reads
-use Rattle.iset_c.proofs.save.iset_read_image.Kinds as read-image-kinds
+use Rattle.iset_c.proofs.exports.iset_read.Reads as read-reads
+use Rattle.iset_c.proofs.exports.iset_read.Kinds as read-kinds
+use Rattle.iset_c.proofs.exports.iset_write_image.Reads as write-image-reads
+use Rattle.iset_c.proofs.exports.iset_write_image.Kinds as write-image-kinds
+use Rattle.iset_c.proofs.exports.iset_read_image.Reads as read-image-reads
+use Rattle.iset_c.proofs.exports.iset_read_image.Kinds as read-image-kinds
 use Rattle.iset_c.proofs.lookup.iset_fresh.Reads as fresh-reads
 use Rattle.iset_c.proofs.lookup.iset_fresh.Kinds as fresh-kinds
 use Rattle.iset_c.proofs.call.step.Reads as call-step-reads
 use Rattle.iset_c.proofs.call.step.Kinds as call-step-kinds
 use Rattle.iset_c.proofs.call.drain.Reads as call-drain-reads
 use Rattle.iset_c.proofs.call.drain.Kinds as call-drain-kinds
-use Rattle.iset_c.proofs.lookup.iset_fresh_exact.Reads as fresh-exact-reads
-use Rattle.iset_c.proofs.lookup.iset_fresh_exact.Kinds as fresh-exact-kinds
-use Rattle.iset_c.proofs.lookup.iset_step.Reads as step-reads
-use Rattle.iset_c.proofs.lookup.iset_step.Kinds as step-kinds
-use Rattle.iset_c.proofs.lookup.iset_step_exact.Reads as step-exact-reads
-use Rattle.iset_c.proofs.lookup.iset_step_exact.Kinds as step-exact-kinds
-use Rattle.iset_c.proofs.lookup.iset_drain.Reads as drain-reads
-use Rattle.iset_c.proofs.lookup.iset_drain.Kinds as drain-kinds
-use Rattle.iset_c.proofs.lookup.iset_drain_exact.Reads as drain-exact-reads
-use Rattle.iset_c.proofs.lookup.iset_drain_exact.Kinds as drain-exact-kinds
-use Rattle.iset_c.proofs.scan.iset_plain.Reads as plain-reads
-use Rattle.iset_c.proofs.scan.iset_plain.Kinds as plain-kinds
-use Rattle.iset_c.proofs.scan.iset_plain_exact.Reads as plain-exact-reads
-use Rattle.iset_c.proofs.scan.iset_plain_exact.Kinds as plain-exact-kinds
-use Rattle.iset_c.proofs.find.iset_find_all.Reads as find-all-reads
-use Rattle.iset_c.proofs.find.iset_find_all.Kinds as find-all-kinds
-use Rattle.iset_c.proofs.find.iset_find_all_exact.Reads as find-all-exact-reads
-use Rattle.iset_c.proofs.find.iset_find_all_exact.Kinds as find-all-exact-kinds
+use Rattle.iset_c.proofs.exports.iset_fresh_exact.Reads as fresh-exact-reads
+use Rattle.iset_c.proofs.exports.iset_fresh_exact.Kinds as fresh-exact-kinds
+use Rattle.iset_c.proofs.exports.iset_step.Reads as step-reads
+use Rattle.iset_c.proofs.exports.iset_step.Kinds as step-kinds
+use Rattle.iset_c.proofs.exports.iset_step_exact.Reads as step-exact-reads
+use Rattle.iset_c.proofs.exports.iset_step_exact.Kinds as step-exact-kinds
+use Rattle.iset_c.proofs.exports.iset_drain.Reads as drain-reads
+use Rattle.iset_c.proofs.exports.iset_drain.Kinds as drain-kinds
+use Rattle.iset_c.proofs.exports.iset_drain_exact.Reads as drain-exact-reads
+use Rattle.iset_c.proofs.exports.iset_drain_exact.Kinds as drain-exact-kinds
+use Rattle.iset_c.proofs.exports.iset_plain.Reads as plain-reads
+use Rattle.iset_c.proofs.exports.iset_plain.Kinds as plain-kinds
+use Rattle.iset_c.proofs.exports.iset_plain_exact.Reads as plain-exact-reads
+use Rattle.iset_c.proofs.exports.iset_plain_exact.Kinds as plain-exact-kinds
+use Rattle.iset_c.proofs.exports.iset_find_all.Reads as find-all-reads
+use Rattle.iset_c.proofs.exports.iset_find_all.Kinds as find-all-kinds
+use Rattle.iset_c.proofs.exports.iset_find_all_exact.Reads as find-all-exact-reads
+use Rattle.iset_c.proofs.exports.iset_find_all_exact.Kinds as find-all-exact-kinds
 
 -- the exits are a product by parameter: the slice of parameter k is at `.1`, k times, then `.0`
 
@@ -210,7 +210,7 @@ pub call-step-determined :
     (s s′ : AtExit (K.endedOf 3 call-step-kinds.ps call-step-kinds.r) κs)
     → call-step-reads.Post κs a r s → call-step-reads.Post κs a r′ s′
     → (r ≡ r′)
-    × (now (s .1 .1 .1 .1 .1 .0) ≡ now (s′ .1 .1 .1 .1 .1 .0))
+    × (now (s .1 .1 .1 .1 .1 .1 .0) ≡ now (s′ .1 .1 .1 .1 .1 .1 .0))
 call-step-determined κs a r r′ s s′ p q = same-answer p q
 
 pub call-drain-determined :
@@ -218,6 +218,6 @@ pub call-drain-determined :
     (s s′ : AtExit (K.endedOf 4 call-drain-kinds.ps call-drain-kinds.r) κs)
     → call-drain-reads.Post κs a r s → call-drain-reads.Post κs a r′ s′
     → (r ≡ r′)
+    × (now (s .1 .1 .1 .1 .1 .1 .1 .1 .0) ≡ now (s′ .1 .1 .1 .1 .1 .1 .1 .1 .0))
     × (now (s .1 .1 .1 .1 .1 .1 .1 .0) ≡ now (s′ .1 .1 .1 .1 .1 .1 .1 .0))
-    × (now (s .1 .1 .1 .1 .1 .1 .0) ≡ now (s′ .1 .1 .1 .1 .1 .1 .0))
 call-drain-determined κs a r r′ s s′ p q = same-output p q

@@ -39,40 +39,40 @@ use Rattle.iset.proofs.BitRefusals.{Fails, le-fails, and-fails}
 use Rattle.iset_c.specs.Replies.{Reply, Exit, exit, number, handed, exitOf, stepReply, drainReply, tallyReply}
 use Rattle.iset_c.specs.Ranges.{rangeOf, kinds}
 use Rattle.iset_c.specs.Places.{Told, BadBound, stepPlaces, drainPlaces, tallyPlaces}
-use Rattle.iset_c.proofs.iset_check.Reads as check-reads
-use Rattle.iset_c.proofs.iset_check.Kinds as check-kinds
-use Rattle.iset_c.proofs.iset_build.Reads as build-reads
-use Rattle.iset_c.proofs.iset_build.Kinds as build-kinds
-use Rattle.iset_c.proofs.iset_remove.Reads as remove-reads
-use Rattle.iset_c.proofs.iset_remove.Kinds as remove-kinds
-use Rattle.iset_c.proofs.iset_insert.Reads as insert-reads
-use Rattle.iset_c.proofs.iset_insert.Kinds as insert-kinds
-use Rattle.iset_c.proofs.ticket.iset_read.Reads as read-reads
-use Rattle.iset_c.proofs.ticket.iset_read.Kinds as read-kinds
+use Rattle.iset_c.proofs.exports.iset_check.Reads as check-reads
+use Rattle.iset_c.proofs.exports.iset_check.Kinds as check-kinds
+use Rattle.iset_c.proofs.exports.iset_build.Reads as build-reads
+use Rattle.iset_c.proofs.exports.iset_build.Kinds as build-kinds
+use Rattle.iset_c.proofs.exports.iset_remove.Reads as remove-reads
+use Rattle.iset_c.proofs.exports.iset_remove.Kinds as remove-kinds
+use Rattle.iset_c.proofs.exports.iset_insert.Reads as insert-reads
+use Rattle.iset_c.proofs.exports.iset_insert.Kinds as insert-kinds
+use Rattle.iset_c.proofs.exports.iset_read.Reads as read-reads
+use Rattle.iset_c.proofs.exports.iset_read.Kinds as read-kinds
 use Rattle.iset_c.proofs.lookup.iset_fresh.Reads as fresh-reads
 use Rattle.iset_c.proofs.lookup.iset_fresh.Kinds as fresh-kinds
-use Rattle.iset_c.proofs.lookup.iset_fresh_exact.Reads as fresh-exact-reads
-use Rattle.iset_c.proofs.lookup.iset_fresh_exact.Kinds as fresh-exact-kinds
-use Rattle.iset_c.proofs.lookup.iset_step.Reads as step-reads
-use Rattle.iset_c.proofs.lookup.iset_step.Kinds as step-kinds
-use Rattle.iset_c.proofs.lookup.iset_step_exact.Reads as step-exact-reads
-use Rattle.iset_c.proofs.lookup.iset_step_exact.Kinds as step-exact-kinds
-use Rattle.iset_c.proofs.lookup.iset_drain.Reads as drain-reads
-use Rattle.iset_c.proofs.lookup.iset_drain.Kinds as drain-kinds
-use Rattle.iset_c.proofs.save.iset_write_image.Reads as write-image-reads
-use Rattle.iset_c.proofs.save.iset_write_image.Kinds as write-image-kinds
-use Rattle.iset_c.proofs.save.iset_read_image.Reads as read-image-reads
-use Rattle.iset_c.proofs.save.iset_read_image.Kinds as read-image-kinds
-use Rattle.iset_c.proofs.lookup.iset_drain_exact.Reads as drain-exact-reads
-use Rattle.iset_c.proofs.lookup.iset_drain_exact.Kinds as drain-exact-kinds
-use Rattle.iset_c.proofs.scan.iset_plain.Reads as plain-reads
-use Rattle.iset_c.proofs.scan.iset_plain.Kinds as plain-kinds
-use Rattle.iset_c.proofs.scan.iset_plain_exact.Reads as plain-exact-reads
-use Rattle.iset_c.proofs.scan.iset_plain_exact.Kinds as plain-exact-kinds
-use Rattle.iset_c.proofs.find.iset_find_all.Reads as find-all-reads
-use Rattle.iset_c.proofs.find.iset_find_all.Kinds as find-all-kinds
-use Rattle.iset_c.proofs.find.iset_find_all_exact.Reads as find-all-exact-reads
-use Rattle.iset_c.proofs.find.iset_find_all_exact.Kinds as find-all-exact-kinds
+use Rattle.iset_c.proofs.exports.iset_fresh_exact.Reads as fresh-exact-reads
+use Rattle.iset_c.proofs.exports.iset_fresh_exact.Kinds as fresh-exact-kinds
+use Rattle.iset_c.proofs.exports.iset_step.Reads as step-reads
+use Rattle.iset_c.proofs.exports.iset_step.Kinds as step-kinds
+use Rattle.iset_c.proofs.exports.iset_step_exact.Reads as step-exact-reads
+use Rattle.iset_c.proofs.exports.iset_step_exact.Kinds as step-exact-kinds
+use Rattle.iset_c.proofs.exports.iset_drain.Reads as drain-reads
+use Rattle.iset_c.proofs.exports.iset_drain.Kinds as drain-kinds
+use Rattle.iset_c.proofs.exports.iset_write_image.Reads as write-image-reads
+use Rattle.iset_c.proofs.exports.iset_write_image.Kinds as write-image-kinds
+use Rattle.iset_c.proofs.exports.iset_read_image.Reads as read-image-reads
+use Rattle.iset_c.proofs.exports.iset_read_image.Kinds as read-image-kinds
+use Rattle.iset_c.proofs.exports.iset_drain_exact.Reads as drain-exact-reads
+use Rattle.iset_c.proofs.exports.iset_drain_exact.Kinds as drain-exact-kinds
+use Rattle.iset_c.proofs.exports.iset_plain.Reads as plain-reads
+use Rattle.iset_c.proofs.exports.iset_plain.Kinds as plain-kinds
+use Rattle.iset_c.proofs.exports.iset_plain_exact.Reads as plain-exact-reads
+use Rattle.iset_c.proofs.exports.iset_plain_exact.Kinds as plain-exact-kinds
+use Rattle.iset_c.proofs.exports.iset_find_all.Reads as find-all-reads
+use Rattle.iset_c.proofs.exports.iset_find_all.Kinds as find-all-kinds
+use Rattle.iset_c.proofs.exports.iset_find_all_exact.Reads as find-all-exact-reads
+use Rattle.iset_c.proofs.exports.iset_find_all_exact.Kinds as find-all-exact-kinds
 
 -- the reply of a call whose number the rows say; b is whether each bound has a kind
 module _ (rows : Rows) (b : Bool) (R : Reply) (A X : List ℕ) (r : ℕ) where

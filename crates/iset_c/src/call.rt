@@ -11,12 +11,14 @@ ghost use mathlib.Core.Bool.{true};
 ghost use mathlib.Core.List.{[], _∷_};
 ghost use Prim.Native.Nat.{_≤_};
 ghost use lib.ListN.{length};
+ghost use Rattle.words.specs.Layouts.{asEight};
 ghost use Rattle.iset_c.specs.Replies.{exit, stepExit, drainExit};
 
 // A step of either kind of lookup.
 pub fn step(
     map: Map,
     nodes: &[u64],
+    narrow: bool,
     colours: &[u8],
     query: Query,
     cursor: Cursor,
@@ -24,9 +26,9 @@ pub fn step(
 ) -> u64
     requires { ⌜ 5 ≤ length (now answer) ⌝ }
     ensures { λ r. ⌜ exit r (now (answer .exit)) []
-        ≡ stepExit true (now (answer .entry)) map (now (nodes .entry)) (now (colours .entry)) query cursor ⌝ }
+        ≡ stepExit true (now (answer .entry)) map (asEight narrow (now (nodes .entry))) (now (colours .entry)) query cursor ⌝ }
 {
-    match map.step(nodes, colours, query, cursor) {
+    match map.step_in(nodes, narrow, colours, query, cursor) {
         Stepped::Refused(why) => why.number(),
         Stepped::Done(s) => {
             put_step(s, answer);
@@ -39,6 +41,7 @@ pub fn step(
 pub fn drain(
     map: Map,
     nodes: &[u64],
+    narrow: bool,
     colours: &[u8],
     query: Query,
     cursor: Cursor,
@@ -48,9 +51,9 @@ pub fn drain(
 ) -> u64
     requires { ⌜ 5 ≤ length (now answer) ⌝ }
     ensures { λ r. ⌜ exit r (now (answer .exit)) (now (out .exit) ∷ [])
-        ≡ drainExit true (now (answer .entry)) map (now (nodes .entry)) (now (colours .entry)) query cursor limit (now (out .entry)) ⌝ }
+        ≡ drainExit true (now (answer .entry)) map (asEight narrow (now (nodes .entry))) (now (colours .entry)) query cursor limit (now (out .entry)) ⌝ }
 {
-    match map.drain(nodes, colours, query, cursor, limit, out) {
+    match map.drain_in(nodes, narrow, colours, query, cursor, limit, out) {
         Drain::Refused(why) => why.number(),
         Drain::Done(d) => {
             put_drained(d, answer);

@@ -11,17 +11,18 @@ use iset::Query;
 ghost use mathlib.Core.Path.{_≡_};
 ghost use mathlib.Core.Bool.{true};
 ghost use mathlib.Core.List.{[], _∷_};
+ghost use Rattle.words.specs.Layouts.{asEight};
 ghost use Rattle.iset.specs.Maps.{mapOf};
 ghost use Rattle.iset_c.specs.Replies.{exit, findAllExit};
 ghost use Rattle.iset_c.specs.Ranges.{rangeOf, exactOf, kinds};
 
 // Writes the slots of the entries that intersect a range, in tree order, as many as the output has
 // places for. Answer: how many hits there are, how many nodes were entered.
-#[no_mangle]
-pub extern "C" fn iset_find_all(
+pub fn find_all_in(
     count: u64,
     root: u64,
     nodes: &[u64],
+    narrow: bool,
     colours: &[u8],
     lo_kind: u64,
     lo: u64,
@@ -31,7 +32,7 @@ pub extern "C" fn iset_find_all(
     answer: &mut [u64],
 ) -> u64
     ensures { λ r. ⌜ exit r (now (answer .exit)) (now (out .exit) ∷ [])
-        ≡ findAllExit (kinds «lo_kind» «hi_kind») (now (answer .entry)) (mapOf count root) (now (nodes .entry)) (now (colours .entry)) (rangeOf «lo_kind» lo «hi_kind» hi) (now (out .entry)) ⌝ }
+        ≡ findAllExit (kinds «lo_kind» «hi_kind») (now (answer .entry)) (mapOf count root) (asEight narrow (now (nodes .entry))) (now (colours .entry)) (rangeOf «lo_kind» lo «hi_kind» hi) (now (out .entry)) ⌝ }
 {
     if answer.len() < 2 {
         return SHORT_ANSWER;
@@ -43,7 +44,7 @@ pub extern "C" fn iset_find_all(
             version: 0,
         };
         let query = range(lo_kind, lo, hi_kind, hi);
-        put_looked(map.find_all(nodes, colours, query, out), answer)
+        put_looked(map.find_all_in(nodes, narrow, colours, query, out), answer)
     } else {
         BAD_BOUND
     }
@@ -51,11 +52,11 @@ pub extern "C" fn iset_find_all(
 
 // Writes the slots of the entries that are equal to an interval, in the same way. Answer: as for
 // iset_find_all.
-#[no_mangle]
-pub extern "C" fn iset_find_all_exact(
+pub fn find_all_exact_in(
     count: u64,
     root: u64,
     nodes: &[u64],
+    narrow: bool,
     colours: &[u8],
     start: u64,
     end: u64,
@@ -63,7 +64,7 @@ pub extern "C" fn iset_find_all_exact(
     answer: &mut [u64],
 ) -> u64
     ensures { λ r. ⌜ exit r (now (answer .exit)) (now (out .exit) ∷ [])
-        ≡ findAllExit true (now (answer .entry)) (mapOf count root) (now (nodes .entry)) (now (colours .entry)) (exactOf start end) (now (out .entry)) ⌝ }
+        ≡ findAllExit true (now (answer .entry)) (mapOf count root) (asEight narrow (now (nodes .entry))) (now (colours .entry)) (exactOf start end) (now (out .entry)) ⌝ }
 {
     if answer.len() < 2 {
         return SHORT_ANSWER;
@@ -74,5 +75,5 @@ pub extern "C" fn iset_find_all_exact(
         version: 0,
     };
     let query = Query::Exact(Interval { start, end });
-    put_looked(map.find_all(nodes, colours, query, out), answer)
+    put_looked(map.find_all_in(nodes, narrow, colours, query, out), answer)
 }

@@ -15,6 +15,7 @@ use iset::lookup::Started;
 ghost use mathlib.Core.Path.{_≡_};
 ghost use mathlib.Core.Bool.{true};
 ghost use mathlib.Core.List.{[], _∷_};
+ghost use Rattle.words.specs.Layouts.{asEight};
 ghost use Rattle.iter.specs.Cursors.{fresh};
 ghost use Rattle.iset.specs.Maps.{mapOf};
 ghost use Rattle.iset_c.specs.Replies.{cursorOf, exit, freshReply, answerExit, startExit, stepExit, drainExit};
@@ -42,18 +43,18 @@ pub extern "C" fn iset_fresh(count: u64, root: u64, answer: &mut [u64]) -> u64
 }
 
 // The fresh cursor of an exact lookup. Answer: slot, levels, bits.
-#[no_mangle]
-pub extern "C" fn iset_fresh_exact(
+pub fn fresh_exact_in(
     count: u64,
     root: u64,
     nodes: &[u64],
+    narrow: bool,
     colours: &[u8],
     start: u64,
     end: u64,
     answer: &mut [u64],
 ) -> u64
     ensures { λ r. ⌜ exit r (now (answer .exit)) []
-        ≡ startExit (now (answer .entry)) (mapOf count root) (now (nodes .entry)) (now (colours .entry)) (intervalOf start end) ⌝ }
+        ≡ startExit (now (answer .entry)) (mapOf count root) (asEight narrow (now (nodes .entry))) (now (colours .entry)) (intervalOf start end) ⌝ }
 {
     if answer.len() < 3 {
         return SHORT_ANSWER;
@@ -62,7 +63,7 @@ pub extern "C" fn iset_fresh_exact(
         count,
         root,
         version: 0,
-    }).fresh_exact(nodes, colours, Interval { start, end }) {
+    }).fresh_exact_in(nodes, narrow, colours, Interval { start, end }) {
         Started::Refused(why) => why.number(),
         Started::Done(c) => {
             put_cursor(c, answer);
@@ -73,11 +74,11 @@ pub extern "C" fn iset_fresh_exact(
 
 // Finds the next entry that intersects a range. Answer: its slot, or U at the end; the next
 // cursor's slot, levels and bits; how many nodes were entered.
-#[no_mangle]
-pub extern "C" fn iset_step(
+pub fn step_in(
     count: u64,
     root: u64,
     nodes: &[u64],
+    narrow: bool,
     colours: &[u8],
     lo_kind: u64,
     lo: u64,
@@ -89,7 +90,7 @@ pub extern "C" fn iset_step(
     answer: &mut [u64],
 ) -> u64
     ensures { λ r. ⌜ exit r (now (answer .exit)) []
-        ≡ stepExit (kinds «lo_kind» «hi_kind») (now (answer .entry)) (mapOf count root) (now (nodes .entry)) (now (colours .entry)) (rangeOf «lo_kind» lo «hi_kind» hi) (cursorOf slot levels bits) ⌝ }
+        ≡ stepExit (kinds «lo_kind» «hi_kind») (now (answer .entry)) (mapOf count root) (asEight narrow (now (nodes .entry))) (now (colours .entry)) (rangeOf «lo_kind» lo «hi_kind» hi) (cursorOf slot levels bits) ⌝ }
 {
     if answer.len() < 5 {
         return SHORT_ANSWER;
@@ -102,6 +103,7 @@ pub extern "C" fn iset_step(
                 version: 0,
             },
             nodes,
+            narrow,
             colours,
             range(lo_kind, lo, hi_kind, hi),
             Cursor { slot, levels, bits },
@@ -113,11 +115,11 @@ pub extern "C" fn iset_step(
 }
 
 // Finds the next entry that is equal to an interval. Answer: as for iset_step.
-#[no_mangle]
-pub extern "C" fn iset_step_exact(
+pub fn step_exact_in(
     count: u64,
     root: u64,
     nodes: &[u64],
+    narrow: bool,
     colours: &[u8],
     start: u64,
     end: u64,
@@ -127,7 +129,7 @@ pub extern "C" fn iset_step_exact(
     answer: &mut [u64],
 ) -> u64
     ensures { λ r. ⌜ exit r (now (answer .exit)) []
-        ≡ stepExit true (now (answer .entry)) (mapOf count root) (now (nodes .entry)) (now (colours .entry)) (exactOf start end) (cursorOf slot levels bits) ⌝ }
+        ≡ stepExit true (now (answer .entry)) (mapOf count root) (asEight narrow (now (nodes .entry))) (now (colours .entry)) (exactOf start end) (cursorOf slot levels bits) ⌝ }
 {
     if answer.len() < 5 {
         return SHORT_ANSWER;
@@ -139,6 +141,7 @@ pub extern "C" fn iset_step_exact(
             version: 0,
         },
         nodes,
+        narrow,
         colours,
         Query::Exact(Interval { start, end }),
         Cursor { slot, levels, bits },
@@ -149,11 +152,11 @@ pub extern "C" fn iset_step_exact(
 // Steps from a cursor until the end, or until `limit` slots are in `out`. A limit of 0 means as
 // many as fit. Answer: how many slots were written; how many nodes were entered; the next cursor's
 // slot, levels and bits.
-#[no_mangle]
-pub extern "C" fn iset_drain(
+pub fn drain_in(
     count: u64,
     root: u64,
     nodes: &[u64],
+    narrow: bool,
     colours: &[u8],
     lo_kind: u64,
     lo: u64,
@@ -167,37 +170,31 @@ pub extern "C" fn iset_drain(
     answer: &mut [u64],
 ) -> u64
     ensures { λ r. ⌜ exit r (now (answer .exit)) (now (out .exit) ∷ [])
-        ≡ drainExit (kinds «lo_kind» «hi_kind») (now (answer .entry)) (mapOf count root) (now (nodes .entry)) (now (colours .entry)) (rangeOf «lo_kind» lo «hi_kind» hi) (cursorOf slot levels bits) limit (now (out .entry)) ⌝ }
+        ≡ drainExit (kinds «lo_kind» «hi_kind») (now (answer .entry)) (mapOf count root) (asEight narrow (now (nodes .entry))) (now (colours .entry)) (rangeOf «lo_kind» lo «hi_kind» hi) (cursorOf slot levels bits) limit (now (out .entry)) ⌝ }
 {
     if answer.len() < 5 {
         return SHORT_ANSWER;
     }
     if are_kinds(lo_kind, hi_kind) {
-        drain(
-            Map {
-                count,
-                root,
-                version: 0,
-            },
-            nodes,
-            colours,
-            range(lo_kind, lo, hi_kind, hi),
-            Cursor { slot, levels, bits },
-            limit,
-            out,
-            answer,
-        )
+        let map = Map {
+            count,
+            root,
+            version: 0,
+        };
+        let query = range(lo_kind, lo, hi_kind, hi);
+        let from = Cursor { slot, levels, bits };
+        drain(map, nodes, narrow, colours, query, from, limit, out, answer)
     } else {
         BAD_BOUND
     }
 }
 
 // The drain of an exact lookup. Answer: as for iset_drain.
-#[no_mangle]
-pub extern "C" fn iset_drain_exact(
+pub fn drain_exact_in(
     count: u64,
     root: u64,
     nodes: &[u64],
+    narrow: bool,
     colours: &[u8],
     start: u64,
     end: u64,
@@ -209,7 +206,7 @@ pub extern "C" fn iset_drain_exact(
     answer: &mut [u64],
 ) -> u64
     ensures { λ r. ⌜ exit r (now (answer .exit)) (now (out .exit) ∷ [])
-        ≡ drainExit true (now (answer .entry)) (mapOf count root) (now (nodes .entry)) (now (colours .entry)) (exactOf start end) (cursorOf slot levels bits) limit (now (out .entry)) ⌝ }
+        ≡ drainExit true (now (answer .entry)) (mapOf count root) (asEight narrow (now (nodes .entry))) (now (colours .entry)) (exactOf start end) (cursorOf slot levels bits) limit (now (out .entry)) ⌝ }
 {
     if answer.len() < 5 {
         return SHORT_ANSWER;
@@ -221,6 +218,7 @@ pub extern "C" fn iset_drain_exact(
             version: 0,
         },
         nodes,
+        narrow,
         colours,
         Query::Exact(Interval { start, end }),
         Cursor { slot, levels, bits },

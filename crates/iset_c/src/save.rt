@@ -8,22 +8,23 @@ use iset::save::Written;
 use words::ix::U;
 ghost use mathlib.Core.Path.{_≡_};
 ghost use mathlib.Core.List.{[], _∷_};
+ghost use Rattle.words.specs.Layouts.{asEight};
 ghost use Rattle.iset.specs.Maps.{mapAt, mapOf};
 ghost use Rattle.words.specs.Ix.{U};
 ghost use Rattle.iset_c.specs.Replies.{exit, writeImageExit, readImageExit};
 
 // Writes a map as an image to the front of the output. Answer: how many bytes the image has.
-#[no_mangle]
-pub extern "C" fn iset_write_image(
+pub fn write_image_in(
     count: u64,
     root: u64,
     nodes: &[u64],
+    narrow: bool,
     colours: &[u8],
     out: &mut [u8],
     answer: &mut [u64],
 ) -> u64
     ensures { λ r. ⌜ exit r (now (answer .exit)) (now (out .exit) ∷ [])
-        ≡ writeImageExit (now (answer .entry)) (mapOf count root) (now (nodes .entry)) (now (colours .entry)) (now (out .entry)) ⌝ }
+        ≡ writeImageExit (now (answer .entry)) (mapOf count root) (asEight narrow (now (nodes .entry))) (now (colours .entry)) (now (out .entry)) ⌝ }
 {
     if answer.len() < 1 {
         return SHORT_ANSWER;
@@ -33,7 +34,7 @@ pub extern "C" fn iset_write_image(
         root,
         version: 0,
     };
-    match map.write_image(nodes, colours, out) {
+    match map.write_image_in(nodes, narrow, colours, out) {
         Written::Refused(why) => why.number(),
         Written::Done(length) => {
             put_length(length, answer);
@@ -44,16 +45,16 @@ pub extern "C" fn iset_write_image(
 
 // Reads the map of an image, in the place of a map of the given version. Answer: count, root,
 // version.
-#[no_mangle]
-pub extern "C" fn iset_read_image(
+pub fn read_image_in(
     version: u32,
     nodes: &mut [u64],
+    narrow: bool,
     colours: &mut [u8],
     image: &[u8],
     answer: &mut [u64],
 ) -> u64
-    ensures { λ r. ⌜ exit r (now (answer .exit)) (now (nodes .exit) ∷ now (colours .exit) ∷ [])
-        ≡ readImageExit (now (answer .entry)) (mapAt 0 U version) (now (nodes .entry)) (now (colours .entry)) (now (image .entry)) ⌝ }
+    ensures { λ r. ⌜ exit r (now (answer .exit)) (asEight narrow (now (nodes .exit)) ∷ now (colours .exit) ∷ [])
+        ≡ readImageExit (now (answer .entry)) (mapAt 0 U version) (asEight narrow (now (nodes .entry))) (now (colours .entry)) (now (image .entry)) ⌝ }
 {
     if answer.len() < 3 {
         return SHORT_ANSWER;
@@ -63,7 +64,7 @@ pub extern "C" fn iset_read_image(
         root: U,
         version,
     };
-    match old.read_image(nodes, colours, image) {
+    match old.read_image_in(nodes, narrow, colours, image) {
         Built::Refused(why) => why.number(),
         Built::Done(m) => {
             put_map(m, answer);

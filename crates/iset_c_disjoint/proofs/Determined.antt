@@ -6,20 +6,20 @@ use borrow.Fn.Kinds as K
 use denote.Triple.Clauses.{AtExit}
 use denote.Ref.{now}
 use Rattle.iset_c.proofs.Exits.{same-answer, same-effect}
-use Rattle.iset_c_disjoint.proofs.iset_disjoint_check.Reads as check-reads
-use Rattle.iset_c_disjoint.proofs.iset_disjoint_check.Kinds as check-kinds
-use Rattle.iset_c_disjoint.proofs.iset_disjoint_point.Reads as point-reads
-use Rattle.iset_c_disjoint.proofs.iset_disjoint_point.Kinds as point-kinds
-use Rattle.iset_c_disjoint.proofs.open.iset_open_disjoint_point.Reads as open-point-reads
-use Rattle.iset_c_disjoint.proofs.open.iset_open_disjoint_point.Kinds as open-point-kinds
-use Rattle.iset_c_disjoint.proofs.iset_disjoint_insert.Reads as insert-reads
-use Rattle.iset_c_disjoint.proofs.iset_disjoint_insert.Kinds as insert-kinds
-use Rattle.iset_c_disjoint.proofs.open.iset_open_disjoint_insert.Reads as open-insert-reads
-use Rattle.iset_c_disjoint.proofs.open.iset_open_disjoint_insert.Kinds as open-insert-kinds
-use Rattle.iset_c_disjoint.proofs.iset_disjoint_remove.Reads as remove-reads
-use Rattle.iset_c_disjoint.proofs.iset_disjoint_remove.Kinds as remove-kinds
-use Rattle.iset_c_disjoint.proofs.open.iset_open_disjoint_remove.Reads as open-remove-reads
-use Rattle.iset_c_disjoint.proofs.open.iset_open_disjoint_remove.Kinds as open-remove-kinds
+use Rattle.iset_c_disjoint.proofs.exports.iset_disjoint_check.Reads as check-reads
+use Rattle.iset_c_disjoint.proofs.exports.iset_disjoint_check.Kinds as check-kinds
+use Rattle.iset_c_disjoint.proofs.exports.iset_disjoint_point.Reads as point-reads
+use Rattle.iset_c_disjoint.proofs.exports.iset_disjoint_point.Kinds as point-kinds
+use Rattle.iset_c_disjoint.proofs.exports.iset_open_disjoint_point.Reads as open-point-reads
+use Rattle.iset_c_disjoint.proofs.exports.iset_open_disjoint_point.Kinds as open-point-kinds
+use Rattle.iset_c_disjoint.proofs.exports.iset_disjoint_insert.Reads as insert-reads
+use Rattle.iset_c_disjoint.proofs.exports.iset_disjoint_insert.Kinds as insert-kinds
+use Rattle.iset_c_disjoint.proofs.exports.iset_open_disjoint_insert.Reads as open-insert-reads
+use Rattle.iset_c_disjoint.proofs.exports.iset_open_disjoint_insert.Kinds as open-insert-kinds
+use Rattle.iset_c_disjoint.proofs.exports.iset_disjoint_remove.Reads as remove-reads
+use Rattle.iset_c_disjoint.proofs.exports.iset_disjoint_remove.Kinds as remove-kinds
+use Rattle.iset_c_disjoint.proofs.exports.iset_open_disjoint_remove.Reads as open-remove-reads
+use Rattle.iset_c_disjoint.proofs.exports.iset_open_disjoint_remove.Kinds as open-remove-kinds
 
 -- the exits are a product by parameter: the slice of parameter k is at `.1`, k times, then `.0`
 

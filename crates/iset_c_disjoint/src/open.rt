@@ -11,23 +11,24 @@ use iset_c::SHORT_ANSWER;
 use iset_c::answer::put_removed;
 ghost use mathlib.Core.Path.{_≡_};
 ghost use mathlib.Core.List.{[], _∷_};
+ghost use Rattle.words.specs.Layouts.{asEight};
 ghost use Rattle.iset.specs.Insert.{entryOf};
 ghost use Rattle.iset.specs.Maps.{mapAt, mapOf};
 ghost use Rattle.iset_c.specs.Replies.{exit};
 ghost use Rattle.iset_c_disjoint.specs.Replies.{openPointExit, openPlaceExit, openTakeExit};
 
 // iset_disjoint_point for an opened store.
-#[no_mangle]
-pub extern "C" fn iset_open_disjoint_point(
+pub fn open_disjoint_point_in(
     count: u64,
     root: u64,
     nodes: &[u64],
+    narrow: bool,
     colours: &[u8],
     address: u64,
     answer: &mut [u64],
 ) -> u64
     ensures { λ r. ⌜ exit r (now (answer .exit)) []
-        ≡ openPointExit (now (answer .entry)) (mapOf count root) (now (nodes .entry)) (now (colours .entry)) address ⌝ }
+        ≡ openPointExit (now (answer .entry)) (mapOf count root) (asEight narrow (now (nodes .entry))) (now (colours .entry)) address ⌝ }
 {
     if answer.len() < 2 {
         return SHORT_ANSWER;
@@ -38,7 +39,7 @@ pub extern "C" fn iset_open_disjoint_point(
         version: 0,
     };
     let disjoint = DisjointMap { map };
-    match disjoint.open_point(nodes, colours, address) {
+    match disjoint.open_point_in(nodes, narrow, colours, address) {
         Pointed::Refused(why) => why.number(),
         Pointed::Done(spot) => {
             put_spot(spot, answer);
@@ -48,20 +49,20 @@ pub extern "C" fn iset_open_disjoint_point(
 }
 
 // iset_disjoint_insert for an opened store.
-#[no_mangle]
-pub extern "C" fn iset_open_disjoint_insert(
+pub fn open_disjoint_insert_in(
     count: u64,
     root: u64,
     version: u32,
     nodes: &mut [u64],
+    narrow: bool,
     colours: &mut [u8],
     start: u64,
     end: u64,
     value: u64,
     answer: &mut [u64],
 ) -> u64
-    ensures { λ r. ⌜ exit r (now (answer .exit)) (now (nodes .exit) ∷ now (colours .exit) ∷ [])
-        ≡ openPlaceExit (now (answer .entry)) (mapAt count root version) (now (nodes .entry)) (now (colours .entry)) (entryOf start end value) ⌝ }
+    ensures { λ r. ⌜ exit r (now (answer .exit)) (asEight narrow (now (nodes .exit)) ∷ now (colours .exit) ∷ [])
+        ≡ openPlaceExit (now (answer .entry)) (mapAt count root version) (asEight narrow (now (nodes .entry))) (now (colours .entry)) (entryOf start end value) ⌝ }
 {
     if answer.len() < 5 {
         return SHORT_ANSWER;
@@ -74,24 +75,24 @@ pub extern "C" fn iset_open_disjoint_insert(
     let disjoint = DisjointMap { map };
     put_placed(
         map,
-        disjoint.open_insert(nodes, colours, start, end, value),
+        disjoint.open_insert_in(nodes, narrow, colours, start, end, value),
         answer,
     )
 }
 
 // iset_disjoint_remove for an opened store.
-#[no_mangle]
-pub extern "C" fn iset_open_disjoint_remove(
+pub fn open_disjoint_remove_in(
     count: u64,
     root: u64,
     version: u32,
     nodes: &mut [u64],
+    narrow: bool,
     colours: &mut [u8],
     slot: u64,
     answer: &mut [u64],
 ) -> u64
-    ensures { λ r. ⌜ exit r (now (answer .exit)) (now (nodes .exit) ∷ now (colours .exit) ∷ [])
-        ≡ openTakeExit (now (answer .entry)) (mapAt count root version) (now (nodes .entry)) (now (colours .entry)) slot ⌝ }
+    ensures { λ r. ⌜ exit r (now (answer .exit)) (asEight narrow (now (nodes .exit)) ∷ now (colours .exit) ∷ [])
+        ≡ openTakeExit (now (answer .entry)) (mapAt count root version) (asEight narrow (now (nodes .entry))) (now (colours .entry)) slot ⌝ }
 {
     if answer.len() < 11 {
         return SHORT_ANSWER;
@@ -102,7 +103,7 @@ pub extern "C" fn iset_open_disjoint_remove(
         version,
     };
     let disjoint = DisjointMap { map };
-    match disjoint.open_remove(nodes, colours, slot) {
+    match disjoint.open_remove_in(nodes, narrow, colours, slot) {
         Removal::Refused(why) => why.number(),
         Removal::Done(g) => {
             put_removed(g, answer);

@@ -6,36 +6,36 @@ use borrow.Fn.Kinds as K
 use denote.Triple.Clauses.{AtExit}
 use denote.Ref.{now}
 use Rattle.iset_c.proofs.Exits.{same-answer, same-effect, same-output}
-use Rattle.iset_c_open.proofs.iset_open_remove.Reads as remove-reads
-use Rattle.iset_c_open.proofs.iset_open_remove.Kinds as remove-kinds
-use Rattle.iset_c_open.proofs.iset_open_insert.Reads as insert-reads
-use Rattle.iset_c_open.proofs.iset_open_insert.Kinds as insert-kinds
-use Rattle.iset_c_open.proofs.save.iset_open_write_image.Reads as write-image-reads
-use Rattle.iset_c_open.proofs.save.iset_open_write_image.Kinds as write-image-kinds
-use Rattle.iset_c_open.proofs.ticket.iset_open_read.Reads as read-reads
-use Rattle.iset_c_open.proofs.ticket.iset_open_read.Kinds as read-kinds
+use Rattle.iset_c_open.proofs.exports.iset_open_remove.Reads as remove-reads
+use Rattle.iset_c_open.proofs.exports.iset_open_remove.Kinds as remove-kinds
+use Rattle.iset_c_open.proofs.exports.iset_open_insert.Reads as insert-reads
+use Rattle.iset_c_open.proofs.exports.iset_open_insert.Kinds as insert-kinds
+use Rattle.iset_c_open.proofs.exports.iset_open_write_image.Reads as write-image-reads
+use Rattle.iset_c_open.proofs.exports.iset_open_write_image.Kinds as write-image-kinds
+use Rattle.iset_c_open.proofs.exports.iset_open_read.Reads as read-reads
+use Rattle.iset_c_open.proofs.exports.iset_open_read.Kinds as read-kinds
 use Rattle.iset_c_open.proofs.call.step.Reads as call-step-reads
 use Rattle.iset_c_open.proofs.call.step.Kinds as call-step-kinds
 use Rattle.iset_c_open.proofs.call.drain.Reads as call-drain-reads
 use Rattle.iset_c_open.proofs.call.drain.Kinds as call-drain-kinds
-use Rattle.iset_c_open.proofs.lookup.iset_open_fresh_exact.Reads as fresh-exact-reads
-use Rattle.iset_c_open.proofs.lookup.iset_open_fresh_exact.Kinds as fresh-exact-kinds
-use Rattle.iset_c_open.proofs.lookup.iset_open_step.Reads as step-reads
-use Rattle.iset_c_open.proofs.lookup.iset_open_step.Kinds as step-kinds
-use Rattle.iset_c_open.proofs.lookup.iset_open_step_exact.Reads as step-exact-reads
-use Rattle.iset_c_open.proofs.lookup.iset_open_step_exact.Kinds as step-exact-kinds
-use Rattle.iset_c_open.proofs.lookup.iset_open_drain.Reads as drain-reads
-use Rattle.iset_c_open.proofs.lookup.iset_open_drain.Kinds as drain-kinds
-use Rattle.iset_c_open.proofs.lookup.iset_open_drain_exact.Reads as drain-exact-reads
-use Rattle.iset_c_open.proofs.lookup.iset_open_drain_exact.Kinds as drain-exact-kinds
-use Rattle.iset_c_open.proofs.scan.iset_open_plain.Reads as plain-reads
-use Rattle.iset_c_open.proofs.scan.iset_open_plain.Kinds as plain-kinds
-use Rattle.iset_c_open.proofs.scan.iset_open_plain_exact.Reads as plain-exact-reads
-use Rattle.iset_c_open.proofs.scan.iset_open_plain_exact.Kinds as plain-exact-kinds
-use Rattle.iset_c_open.proofs.find.iset_open_find_all.Reads as find-all-reads
-use Rattle.iset_c_open.proofs.find.iset_open_find_all.Kinds as find-all-kinds
-use Rattle.iset_c_open.proofs.find.iset_open_find_all_exact.Reads as find-all-exact-reads
-use Rattle.iset_c_open.proofs.find.iset_open_find_all_exact.Kinds as find-all-exact-kinds
+use Rattle.iset_c_open.proofs.exports.iset_open_fresh_exact.Reads as fresh-exact-reads
+use Rattle.iset_c_open.proofs.exports.iset_open_fresh_exact.Kinds as fresh-exact-kinds
+use Rattle.iset_c_open.proofs.exports.iset_open_step.Reads as step-reads
+use Rattle.iset_c_open.proofs.exports.iset_open_step.Kinds as step-kinds
+use Rattle.iset_c_open.proofs.exports.iset_open_step_exact.Reads as step-exact-reads
+use Rattle.iset_c_open.proofs.exports.iset_open_step_exact.Kinds as step-exact-kinds
+use Rattle.iset_c_open.proofs.exports.iset_open_drain.Reads as drain-reads
+use Rattle.iset_c_open.proofs.exports.iset_open_drain.Kinds as drain-kinds
+use Rattle.iset_c_open.proofs.exports.iset_open_drain_exact.Reads as drain-exact-reads
+use Rattle.iset_c_open.proofs.exports.iset_open_drain_exact.Kinds as drain-exact-kinds
+use Rattle.iset_c_open.proofs.exports.iset_open_plain.Reads as plain-reads
+use Rattle.iset_c_open.proofs.exports.iset_open_plain.Kinds as plain-kinds
+use Rattle.iset_c_open.proofs.exports.iset_open_plain_exact.Reads as plain-exact-reads
+use Rattle.iset_c_open.proofs.exports.iset_open_plain_exact.Kinds as plain-exact-kinds
+use Rattle.iset_c_open.proofs.exports.iset_open_find_all.Reads as find-all-reads
+use Rattle.iset_c_open.proofs.exports.iset_open_find_all.Kinds as find-all-kinds
+use Rattle.iset_c_open.proofs.exports.iset_open_find_all_exact.Reads as find-all-exact-reads
+use Rattle.iset_c_open.proofs.exports.iset_open_find_all_exact.Kinds as find-all-exact-kinds
 
 -- the exits are a product by parameter: the slice of parameter k is at `.1`, k times, then `.0`
 
@@ -160,7 +160,7 @@ pub call-step-determined :
     (s s′ : AtExit (K.endedOf 3 call-step-kinds.ps call-step-kinds.r) κs)
     → call-step-reads.Post κs a r s → call-step-reads.Post κs a r′ s′
     → (r ≡ r′)
-    × (now (s .1 .1 .1 .1 .1 .0) ≡ now (s′ .1 .1 .1 .1 .1 .0))
+    × (now (s .1 .1 .1 .1 .1 .1 .0) ≡ now (s′ .1 .1 .1 .1 .1 .1 .0))
 call-step-determined κs a r r′ s s′ p q = same-answer p q
 
 pub call-drain-determined :
@@ -168,6 +168,6 @@ pub call-drain-determined :
     (s s′ : AtExit (K.endedOf 4 call-drain-kinds.ps call-drain-kinds.r) κs)
     → call-drain-reads.Post κs a r s → call-drain-reads.Post κs a r′ s′
     → (r ≡ r′)
+    × (now (s .1 .1 .1 .1 .1 .1 .1 .1 .0) ≡ now (s′ .1 .1 .1 .1 .1 .1 .1 .1 .0))
     × (now (s .1 .1 .1 .1 .1 .1 .1 .0) ≡ now (s′ .1 .1 .1 .1 .1 .1 .1 .0))
-    × (now (s .1 .1 .1 .1 .1 .1 .0) ≡ now (s′ .1 .1 .1 .1 .1 .1 .0))
 call-drain-determined κs a r r′ s s′ p q = same-output p q

@@ -1,4 +1,5 @@
-// A step and a drain for any query, in an opened store, with the numbers of their answers. They serve the exports.
+// A step and a drain for any query, in an opened store, with the numbers of their answers. They
+// serve the exports.
 use iset::Cursor;
 use iset::Map;
 use iset::Query;
@@ -11,6 +12,7 @@ ghost use mathlib.Core.Bool.{true};
 ghost use mathlib.Core.List.{[], _∷_};
 ghost use Prim.Native.Nat.{_≤_};
 ghost use lib.ListN.{length};
+ghost use Rattle.words.specs.Layouts.{asEight};
 ghost use Rattle.iset_c.specs.Replies.{exit};
 ghost use Rattle.iset_c_open.specs.Replies.{openStepExit, openDrainExit};
 
@@ -18,6 +20,7 @@ ghost use Rattle.iset_c_open.specs.Replies.{openStepExit, openDrainExit}
 pub fn step(
     map: Map,
     nodes: &[u64],
+    narrow: bool,
     colours: &[u8],
     query: Query,
     cursor: Cursor,
@@ -25,9 +28,9 @@ pub fn step(
 ) -> u64
     requires { ⌜ 5 ≤ length (now answer) ⌝ }
     ensures { λ r. ⌜ exit r (now (answer .exit)) []
-        ≡ openStepExit true (now (answer .entry)) map (now (nodes .entry)) (now (colours .entry)) query cursor ⌝ }
+        ≡ openStepExit true (now (answer .entry)) map (asEight narrow (now (nodes .entry))) (now (colours .entry)) query cursor ⌝ }
 {
-    match map.open_step(nodes, colours, query, cursor) {
+    match map.open_step_in(nodes, narrow, colours, query, cursor) {
         Stepped::Refused(why) => why.number(),
         Stepped::Done(s) => {
             put_step(s, answer);
@@ -40,6 +43,7 @@ pub fn step(
 pub fn drain(
     map: Map,
     nodes: &[u64],
+    narrow: bool,
     colours: &[u8],
     query: Query,
     cursor: Cursor,
@@ -49,9 +53,9 @@ pub fn drain(
 ) -> u64
     requires { ⌜ 5 ≤ length (now answer) ⌝ }
     ensures { λ r. ⌜ exit r (now (answer .exit)) (now (out .exit) ∷ [])
-        ≡ openDrainExit true (now (answer .entry)) map (now (nodes .entry)) (now (colours .entry)) query cursor limit (now (out .entry)) ⌝ }
+        ≡ openDrainExit true (now (answer .entry)) map (asEight narrow (now (nodes .entry))) (now (colours .entry)) query cursor limit (now (out .entry)) ⌝ }
 {
-    match map.open_drain(nodes, colours, query, cursor, limit, out) {
+    match map.open_drain_in(nodes, narrow, colours, query, cursor, limit, out) {
         Drain::Refused(why) => why.number(),
         Drain::Done(d) => {
             put_drained(d, answer);

@@ -11,6 +11,7 @@ use iset_c::range::range;
 ghost use mathlib.Core.Path.{_≡_};
 ghost use mathlib.Core.Bool.{true};
 ghost use mathlib.Core.List.{[], _∷_};
+ghost use Rattle.words.specs.Layouts.{asEight};
 ghost use Rattle.iset.specs.Maps.{mapOf};
 ghost use Rattle.iset_c.specs.Replies.{exit};
 ghost use Rattle.iset_c.specs.Ranges.{rangeOf, exactOf, kinds};
@@ -18,11 +19,11 @@ ghost use Rattle.iset_c_open.specs.Replies.{openFindAllExit};
 
 // Writes the slots of the entries that intersect a range, in tree order, as many as the output has
 // places for. Answer: how many hits there are, how many nodes were entered.
-#[no_mangle]
-pub extern "C" fn iset_open_find_all(
+pub fn open_find_all_in(
     count: u64,
     root: u64,
     nodes: &[u64],
+    narrow: bool,
     colours: &[u8],
     lo_kind: u64,
     lo: u64,
@@ -32,7 +33,7 @@ pub extern "C" fn iset_open_find_all(
     answer: &mut [u64],
 ) -> u64
     ensures { λ r. ⌜ exit r (now (answer .exit)) (now (out .exit) ∷ [])
-        ≡ openFindAllExit (kinds «lo_kind» «hi_kind») (now (answer .entry)) (mapOf count root) (now (nodes .entry)) (now (colours .entry)) (rangeOf «lo_kind» lo «hi_kind» hi) (now (out .entry)) ⌝ }
+        ≡ openFindAllExit (kinds «lo_kind» «hi_kind») (now (answer .entry)) (mapOf count root) (asEight narrow (now (nodes .entry))) (now (colours .entry)) (rangeOf «lo_kind» lo «hi_kind» hi) (now (out .entry)) ⌝ }
 {
     if answer.len() < 2 {
         return SHORT_ANSWER;
@@ -44,7 +45,10 @@ pub extern "C" fn iset_open_find_all(
             version: 0,
         };
         let query = range(lo_kind, lo, hi_kind, hi);
-        put_looked(map.open_find_all(nodes, colours, query, out), answer)
+        put_looked(
+            map.open_find_all_in(nodes, narrow, colours, query, out),
+            answer,
+        )
     } else {
         BAD_BOUND
     }
@@ -52,11 +56,11 @@ pub extern "C" fn iset_open_find_all(
 
 // Writes the slots of the entries that are equal to an interval, in the same way. Answer: as for
 // iset_open_find_all.
-#[no_mangle]
-pub extern "C" fn iset_open_find_all_exact(
+pub fn open_find_all_exact_in(
     count: u64,
     root: u64,
     nodes: &[u64],
+    narrow: bool,
     colours: &[u8],
     start: u64,
     end: u64,
@@ -64,7 +68,7 @@ pub extern "C" fn iset_open_find_all_exact(
     answer: &mut [u64],
 ) -> u64
     ensures { λ r. ⌜ exit r (now (answer .exit)) (now (out .exit) ∷ [])
-        ≡ openFindAllExit true (now (answer .entry)) (mapOf count root) (now (nodes .entry)) (now (colours .entry)) (exactOf start end) (now (out .entry)) ⌝ }
+        ≡ openFindAllExit true (now (answer .entry)) (mapOf count root) (asEight narrow (now (nodes .entry))) (now (colours .entry)) (exactOf start end) (now (out .entry)) ⌝ }
 {
     if answer.len() < 2 {
         return SHORT_ANSWER;
@@ -75,5 +79,8 @@ pub extern "C" fn iset_open_find_all_exact(
         version: 0,
     };
     let query = Query::Exact(Interval { start, end });
-    put_looked(map.open_find_all(nodes, colours, query, out), answer)
+    put_looked(
+        map.open_find_all_in(nodes, narrow, colours, query, out),
+        answer,
+    )
 }

@@ -16,24 +16,25 @@ use iset_c::range::range;
 ghost use mathlib.Core.Path.{_≡_};
 ghost use mathlib.Core.Bool.{true};
 ghost use mathlib.Core.List.{[], _∷_};
+ghost use Rattle.words.specs.Layouts.{asEight};
 ghost use Rattle.iset.specs.Maps.{mapOf};
 ghost use Rattle.iset_c.specs.Replies.{cursorOf, exit};
 ghost use Rattle.iset_c.specs.Ranges.{rangeOf, intervalOf, exactOf, kinds};
 ghost use Rattle.iset_c_open.specs.Replies.{openStartExit, openStepExit, openDrainExit};
 
 // The fresh cursor of an exact lookup. Answer: slot, levels, bits.
-#[no_mangle]
-pub extern "C" fn iset_open_fresh_exact(
+pub fn open_fresh_exact_in(
     count: u64,
     root: u64,
     nodes: &[u64],
+    narrow: bool,
     colours: &[u8],
     start: u64,
     end: u64,
     answer: &mut [u64],
 ) -> u64
     ensures { λ r. ⌜ exit r (now (answer .exit)) []
-        ≡ openStartExit (now (answer .entry)) (mapOf count root) (now (nodes .entry)) (now (colours .entry)) (intervalOf start end) ⌝ }
+        ≡ openStartExit (now (answer .entry)) (mapOf count root) (asEight narrow (now (nodes .entry))) (now (colours .entry)) (intervalOf start end) ⌝ }
 {
     if answer.len() < 3 {
         return SHORT_ANSWER;
@@ -42,7 +43,7 @@ pub extern "C" fn iset_open_fresh_exact(
         count,
         root,
         version: 0,
-    }).open_fresh_exact(nodes, colours, Interval { start, end }) {
+    }).open_fresh_exact_in(nodes, narrow, colours, Interval { start, end }) {
         Started::Refused(why) => why.number(),
         Started::Done(c) => {
             put_cursor(c, answer);
@@ -53,11 +54,11 @@ pub extern "C" fn iset_open_fresh_exact(
 
 // Finds the next entry that intersects a range. Answer: its slot, or U at the end; the next
 // cursor's slot, levels and bits; how many nodes were entered.
-#[no_mangle]
-pub extern "C" fn iset_open_step(
+pub fn open_step_in(
     count: u64,
     root: u64,
     nodes: &[u64],
+    narrow: bool,
     colours: &[u8],
     lo_kind: u64,
     lo: u64,
@@ -69,7 +70,7 @@ pub extern "C" fn iset_open_step(
     answer: &mut [u64],
 ) -> u64
     ensures { λ r. ⌜ exit r (now (answer .exit)) []
-        ≡ openStepExit (kinds «lo_kind» «hi_kind») (now (answer .entry)) (mapOf count root) (now (nodes .entry)) (now (colours .entry)) (rangeOf «lo_kind» lo «hi_kind» hi) (cursorOf slot levels bits) ⌝ }
+        ≡ openStepExit (kinds «lo_kind» «hi_kind») (now (answer .entry)) (mapOf count root) (asEight narrow (now (nodes .entry))) (now (colours .entry)) (rangeOf «lo_kind» lo «hi_kind» hi) (cursorOf slot levels bits) ⌝ }
 {
     if answer.len() < 5 {
         return SHORT_ANSWER;
@@ -82,6 +83,7 @@ pub extern "C" fn iset_open_step(
                 version: 0,
             },
             nodes,
+            narrow,
             colours,
             range(lo_kind, lo, hi_kind, hi),
             Cursor { slot, levels, bits },
@@ -93,11 +95,11 @@ pub extern "C" fn iset_open_step(
 }
 
 // Finds the next entry that is equal to an interval. Answer: as for iset_open_step.
-#[no_mangle]
-pub extern "C" fn iset_open_step_exact(
+pub fn open_step_exact_in(
     count: u64,
     root: u64,
     nodes: &[u64],
+    narrow: bool,
     colours: &[u8],
     start: u64,
     end: u64,
@@ -107,7 +109,7 @@ pub extern "C" fn iset_open_step_exact(
     answer: &mut [u64],
 ) -> u64
     ensures { λ r. ⌜ exit r (now (answer .exit)) []
-        ≡ openStepExit true (now (answer .entry)) (mapOf count root) (now (nodes .entry)) (now (colours .entry)) (exactOf start end) (cursorOf slot levels bits) ⌝ }
+        ≡ openStepExit true (now (answer .entry)) (mapOf count root) (asEight narrow (now (nodes .entry))) (now (colours .entry)) (exactOf start end) (cursorOf slot levels bits) ⌝ }
 {
     if answer.len() < 5 {
         return SHORT_ANSWER;
@@ -119,6 +121,7 @@ pub extern "C" fn iset_open_step_exact(
             version: 0,
         },
         nodes,
+        narrow,
         colours,
         Query::Exact(Interval { start, end }),
         Cursor { slot, levels, bits },
@@ -129,11 +132,11 @@ pub extern "C" fn iset_open_step_exact(
 // Steps from a cursor until the end, or until `limit` slots are in `out`. A limit of 0 means as
 // many as fit. Answer: how many slots were written; how many nodes were entered; the next cursor's
 // slot, levels and bits.
-#[no_mangle]
-pub extern "C" fn iset_open_drain(
+pub fn open_drain_in(
     count: u64,
     root: u64,
     nodes: &[u64],
+    narrow: bool,
     colours: &[u8],
     lo_kind: u64,
     lo: u64,
@@ -147,37 +150,31 @@ pub extern "C" fn iset_open_drain(
     answer: &mut [u64],
 ) -> u64
     ensures { λ r. ⌜ exit r (now (answer .exit)) (now (out .exit) ∷ [])
-        ≡ openDrainExit (kinds «lo_kind» «hi_kind») (now (answer .entry)) (mapOf count root) (now (nodes .entry)) (now (colours .entry)) (rangeOf «lo_kind» lo «hi_kind» hi) (cursorOf slot levels bits) limit (now (out .entry)) ⌝ }
+        ≡ openDrainExit (kinds «lo_kind» «hi_kind») (now (answer .entry)) (mapOf count root) (asEight narrow (now (nodes .entry))) (now (colours .entry)) (rangeOf «lo_kind» lo «hi_kind» hi) (cursorOf slot levels bits) limit (now (out .entry)) ⌝ }
 {
     if answer.len() < 5 {
         return SHORT_ANSWER;
     }
     if are_kinds(lo_kind, hi_kind) {
-        drain(
-            Map {
-                count,
-                root,
-                version: 0,
-            },
-            nodes,
-            colours,
-            range(lo_kind, lo, hi_kind, hi),
-            Cursor { slot, levels, bits },
-            limit,
-            out,
-            answer,
-        )
+        let map = Map {
+            count,
+            root,
+            version: 0,
+        };
+        let query = range(lo_kind, lo, hi_kind, hi);
+        let from = Cursor { slot, levels, bits };
+        drain(map, nodes, narrow, colours, query, from, limit, out, answer)
     } else {
         BAD_BOUND
     }
 }
 
 // The drain of an exact lookup. Answer: as for iset_open_drain.
-#[no_mangle]
-pub extern "C" fn iset_open_drain_exact(
+pub fn open_drain_exact_in(
     count: u64,
     root: u64,
     nodes: &[u64],
+    narrow: bool,
     colours: &[u8],
     start: u64,
     end: u64,
@@ -189,7 +186,7 @@ pub extern "C" fn iset_open_drain_exact(
     answer: &mut [u64],
 ) -> u64
     ensures { λ r. ⌜ exit r (now (answer .exit)) (now (out .exit) ∷ [])
-        ≡ openDrainExit true (now (answer .entry)) (mapOf count root) (now (nodes .entry)) (now (colours .entry)) (exactOf start end) (cursorOf slot levels bits) limit (now (out .entry)) ⌝ }
+        ≡ openDrainExit true (now (answer .entry)) (mapOf count root) (asEight narrow (now (nodes .entry))) (now (colours .entry)) (exactOf start end) (cursorOf slot levels bits) limit (now (out .entry)) ⌝ }
 {
     if answer.len() < 5 {
         return SHORT_ANSWER;
@@ -201,6 +198,7 @@ pub extern "C" fn iset_open_drain_exact(
             version: 0,
         },
         nodes,
+        narrow,
         colours,
         Query::Exact(Interval { start, end }),
         Cursor { slot, levels, bits },

@@ -11,6 +11,7 @@ use iset_c::range::range;
 ghost use mathlib.Core.Path.{_≡_};
 ghost use mathlib.Core.Bool.{true};
 ghost use mathlib.Core.List.{[], _∷_};
+ghost use Rattle.words.specs.Layouts.{asEight};
 ghost use Rattle.iset.specs.Maps.{mapOf};
 ghost use Rattle.iset_c.specs.Replies.{exit};
 ghost use Rattle.iset_c.specs.Ranges.{rangeOf, exactOf, kinds};
@@ -18,11 +19,11 @@ ghost use Rattle.iset_c_open.specs.Replies.{openPlainExit};
 
 // Writes the slots of all entries that intersect a range. Answer: how many slots were written, how
 // many entries were visited.
-#[no_mangle]
-pub extern "C" fn iset_open_plain(
+pub fn open_plain_in(
     count: u64,
     root: u64,
     nodes: &[u64],
+    narrow: bool,
     colours: &[u8],
     lo_kind: u64,
     lo: u64,
@@ -32,7 +33,7 @@ pub extern "C" fn iset_open_plain(
     answer: &mut [u64],
 ) -> u64
     ensures { λ r. ⌜ exit r (now (answer .exit)) (now (out .exit) ∷ [])
-        ≡ openPlainExit (kinds «lo_kind» «hi_kind») (now (answer .entry)) (mapOf count root) (now (nodes .entry)) (now (colours .entry)) (rangeOf «lo_kind» lo «hi_kind» hi) (now (out .entry)) ⌝ }
+        ≡ openPlainExit (kinds «lo_kind» «hi_kind») (now (answer .entry)) (mapOf count root) (asEight narrow (now (nodes .entry))) (now (colours .entry)) (rangeOf «lo_kind» lo «hi_kind» hi) (now (out .entry)) ⌝ }
 {
     if answer.len() < 2 {
         return SHORT_ANSWER;
@@ -44,18 +45,21 @@ pub extern "C" fn iset_open_plain(
             version: 0,
         };
         let query = range(lo_kind, lo, hi_kind, hi);
-        put_looked(map.open_plain(nodes, colours, query, out), answer)
+        put_looked(
+            map.open_plain_in(nodes, narrow, colours, query, out),
+            answer,
+        )
     } else {
         BAD_BOUND
     }
 }
 
 // Writes the slots of all entries that are equal to an interval. Answer: as for iset_open_plain.
-#[no_mangle]
-pub extern "C" fn iset_open_plain_exact(
+pub fn open_plain_exact_in(
     count: u64,
     root: u64,
     nodes: &[u64],
+    narrow: bool,
     colours: &[u8],
     start: u64,
     end: u64,
@@ -63,7 +67,7 @@ pub extern "C" fn iset_open_plain_exact(
     answer: &mut [u64],
 ) -> u64
     ensures { λ r. ⌜ exit r (now (answer .exit)) (now (out .exit) ∷ [])
-        ≡ openPlainExit true (now (answer .entry)) (mapOf count root) (now (nodes .entry)) (now (colours .entry)) (exactOf start end) (now (out .entry)) ⌝ }
+        ≡ openPlainExit true (now (answer .entry)) (mapOf count root) (asEight narrow (now (nodes .entry))) (now (colours .entry)) (exactOf start end) (now (out .entry)) ⌝ }
 {
     if answer.len() < 2 {
         return SHORT_ANSWER;
@@ -74,5 +78,8 @@ pub extern "C" fn iset_open_plain_exact(
         version: 0,
     };
     let query = Query::Exact(Interval { start, end });
-    put_looked(map.open_plain(nodes, colours, query, out), answer)
+    put_looked(
+        map.open_plain_in(nodes, narrow, colours, query, out),
+        answer,
+    )
 }

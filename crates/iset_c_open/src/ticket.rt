@@ -6,25 +6,26 @@ use iset_c::SHORT_ANSWER;
 use iset_c::answer::put_entry;
 ghost use mathlib.Core.Path.{_≡_};
 ghost use mathlib.Core.List.{[]};
+ghost use Rattle.words.specs.Layouts.{asEight};
 ghost use Rattle.iset.specs.Maps.{mapAt};
 ghost use Rattle.iset_c.specs.Replies.{exit, ticketAt};
 ghost use Rattle.iset_c_open.specs.Replies.{openReadExit};
 
 // Reads the entry of a slot, if the map has not changed since version `taken`. Answer: start, end,
 // value.
-#[no_mangle]
-pub extern "C" fn iset_open_read(
+pub fn open_read_in(
     count: u64,
     root: u64,
     version: u32,
     nodes: &[u64],
+    narrow: bool,
     colours: &[u8],
     slot: u64,
     taken: u32,
     answer: &mut [u64],
 ) -> u64
     ensures { λ r. ⌜ exit r (now (answer .exit)) []
-        ≡ openReadExit (now (answer .entry)) (mapAt count root version) (now (nodes .entry)) (now (colours .entry)) (ticketAt slot taken) ⌝ }
+        ≡ openReadExit (now (answer .entry)) (mapAt count root version) (asEight narrow (now (nodes .entry))) (now (colours .entry)) (ticketAt slot taken) ⌝ }
 {
     if answer.len() < 3 {
         return SHORT_ANSWER;
@@ -38,7 +39,7 @@ pub extern "C" fn iset_open_read(
         slot,
         version: taken,
     };
-    match map.open_read(nodes, colours, ticket) {
+    match map.open_read_in(nodes, narrow, colours, ticket) {
         Reading::Refused(why) => why.number(),
         Reading::Done(e) => {
             put_entry(e, answer);

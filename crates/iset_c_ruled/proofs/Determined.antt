@@ -6,22 +6,22 @@ use borrow.Fn.Kinds as K
 use denote.Triple.Clauses.{AtExit}
 use denote.Ref.{now}
 use Rattle.iset_c.proofs.Exits.{same-answer, same-output}
-use Rattle.iset_c_ruled.proofs.closed.iset_step_ruled.Reads as step-reads
-use Rattle.iset_c_ruled.proofs.closed.iset_step_ruled.Kinds as step-kinds
-use Rattle.iset_c_ruled.proofs.closed.iset_drain_ruled.Reads as drain-reads
-use Rattle.iset_c_ruled.proofs.closed.iset_drain_ruled.Kinds as drain-kinds
-use Rattle.iset_c_ruled.proofs.closed.iset_plain_ruled.Reads as plain-reads
-use Rattle.iset_c_ruled.proofs.closed.iset_plain_ruled.Kinds as plain-kinds
-use Rattle.iset_c_ruled.proofs.closed.iset_find_all_ruled.Reads as find-all-reads
-use Rattle.iset_c_ruled.proofs.closed.iset_find_all_ruled.Kinds as find-all-kinds
-use Rattle.iset_c_ruled.proofs.opened.iset_open_step_ruled.Reads as open-step-reads
-use Rattle.iset_c_ruled.proofs.opened.iset_open_step_ruled.Kinds as open-step-kinds
-use Rattle.iset_c_ruled.proofs.opened.iset_open_drain_ruled.Reads as open-drain-reads
-use Rattle.iset_c_ruled.proofs.opened.iset_open_drain_ruled.Kinds as open-drain-kinds
-use Rattle.iset_c_ruled.proofs.opened.iset_open_plain_ruled.Reads as open-plain-reads
-use Rattle.iset_c_ruled.proofs.opened.iset_open_plain_ruled.Kinds as open-plain-kinds
-use Rattle.iset_c_ruled.proofs.opened.iset_open_find_all_ruled.Reads as open-find-all-reads
-use Rattle.iset_c_ruled.proofs.opened.iset_open_find_all_ruled.Kinds as open-find-all-kinds
+use Rattle.iset_c_ruled.proofs.exports.iset_step_ruled.Reads as step-reads
+use Rattle.iset_c_ruled.proofs.exports.iset_step_ruled.Kinds as step-kinds
+use Rattle.iset_c_ruled.proofs.exports.iset_drain_ruled.Reads as drain-reads
+use Rattle.iset_c_ruled.proofs.exports.iset_drain_ruled.Kinds as drain-kinds
+use Rattle.iset_c_ruled.proofs.exports.iset_plain_ruled.Reads as plain-reads
+use Rattle.iset_c_ruled.proofs.exports.iset_plain_ruled.Kinds as plain-kinds
+use Rattle.iset_c_ruled.proofs.exports.iset_find_all_ruled.Reads as find-all-reads
+use Rattle.iset_c_ruled.proofs.exports.iset_find_all_ruled.Kinds as find-all-kinds
+use Rattle.iset_c_ruled.proofs.exports.iset_open_step_ruled.Reads as open-step-reads
+use Rattle.iset_c_ruled.proofs.exports.iset_open_step_ruled.Kinds as open-step-kinds
+use Rattle.iset_c_ruled.proofs.exports.iset_open_drain_ruled.Reads as open-drain-reads
+use Rattle.iset_c_ruled.proofs.exports.iset_open_drain_ruled.Kinds as open-drain-kinds
+use Rattle.iset_c_ruled.proofs.exports.iset_open_plain_ruled.Reads as open-plain-reads
+use Rattle.iset_c_ruled.proofs.exports.iset_open_plain_ruled.Kinds as open-plain-kinds
+use Rattle.iset_c_ruled.proofs.exports.iset_open_find_all_ruled.Reads as open-find-all-reads
+use Rattle.iset_c_ruled.proofs.exports.iset_open_find_all_ruled.Kinds as open-find-all-kinds
 
 -- the exits are a product by parameter: the slice of parameter k is at `.1`, k times, then `.0`
 

@@ -10,17 +10,18 @@ use iset_c::call::step;
 use iset_c::range::are_kinds;
 ghost use mathlib.Core.Path.{_≡_};
 ghost use mathlib.Core.List.{[], _∷_};
+ghost use Rattle.words.specs.Layouts.{asEight};
 ghost use Rattle.iset.specs.Maps.{mapOf};
 ghost use Rattle.iset_c.specs.Replies.{cursorOf, exit, stepExit, drainExit, plainExit, findAllExit};
 ghost use Rattle.iset_c.specs.Ranges.{kinds};
 ghost use Rattle.iset_c_ruled.specs.Ranges.{ruledOf};
 
 // Finds the next entry that intersects a range by a rule. Answer: as for iset_step.
-#[no_mangle]
-pub extern "C" fn iset_step_ruled(
+pub fn step_ruled_in(
     count: u64,
     root: u64,
     nodes: &[u64],
+    narrow: bool,
     colours: &[u8],
     rule: u64,
     lo_kind: u64,
@@ -33,7 +34,7 @@ pub extern "C" fn iset_step_ruled(
     answer: &mut [u64],
 ) -> u64
     ensures { λ r. ⌜ exit r (now (answer .exit)) []
-        ≡ stepExit (kinds «lo_kind» «hi_kind») (now (answer .entry)) (mapOf count root) (now (nodes .entry)) (now (colours .entry)) (ruledOf rule «lo_kind» lo «hi_kind» hi) (cursorOf slot levels bits) ⌝ }
+        ≡ stepExit (kinds «lo_kind» «hi_kind») (now (answer .entry)) (mapOf count root) (asEight narrow (now (nodes .entry))) (now (colours .entry)) (ruledOf rule «lo_kind» lo «hi_kind» hi) (cursorOf slot levels bits) ⌝ }
 {
     if answer.len() < 5 {
         return SHORT_ANSWER;
@@ -46,18 +47,18 @@ pub extern "C" fn iset_step_ruled(
         };
         let query = ruled(rule, lo_kind, lo, hi_kind, hi);
         let cursor = Cursor { slot, levels, bits };
-        step(map, nodes, colours, query, cursor, answer)
+        step(map, nodes, narrow, colours, query, cursor, answer)
     } else {
         BAD_BOUND
     }
 }
 
 // Steps from a cursor until the end or the limit, by a rule. Answer: as for iset_drain.
-#[no_mangle]
-pub extern "C" fn iset_drain_ruled(
+pub fn drain_ruled_in(
     count: u64,
     root: u64,
     nodes: &[u64],
+    narrow: bool,
     colours: &[u8],
     rule: u64,
     lo_kind: u64,
@@ -72,7 +73,7 @@ pub extern "C" fn iset_drain_ruled(
     answer: &mut [u64],
 ) -> u64
     ensures { λ r. ⌜ exit r (now (answer .exit)) (now (out .exit) ∷ [])
-        ≡ drainExit (kinds «lo_kind» «hi_kind») (now (answer .entry)) (mapOf count root) (now (nodes .entry)) (now (colours .entry)) (ruledOf rule «lo_kind» lo «hi_kind» hi) (cursorOf slot levels bits) limit (now (out .entry)) ⌝ }
+        ≡ drainExit (kinds «lo_kind» «hi_kind») (now (answer .entry)) (mapOf count root) (asEight narrow (now (nodes .entry))) (now (colours .entry)) (ruledOf rule «lo_kind» lo «hi_kind» hi) (cursorOf slot levels bits) limit (now (out .entry)) ⌝ }
 {
     if answer.len() < 5 {
         return SHORT_ANSWER;
@@ -84,19 +85,19 @@ pub extern "C" fn iset_drain_ruled(
             version: 0,
         };
         let query = ruled(rule, lo_kind, lo, hi_kind, hi);
-        let cursor = Cursor { slot, levels, bits };
-        drain(map, nodes, colours, query, cursor, limit, out, answer)
+        let from = Cursor { slot, levels, bits };
+        drain(map, nodes, narrow, colours, query, from, limit, out, answer)
     } else {
         BAD_BOUND
     }
 }
 
 // Writes the slots of all entries that intersect a range by a rule. Answer: as for iset_plain.
-#[no_mangle]
-pub extern "C" fn iset_plain_ruled(
+pub fn plain_ruled_in(
     count: u64,
     root: u64,
     nodes: &[u64],
+    narrow: bool,
     colours: &[u8],
     rule: u64,
     lo_kind: u64,
@@ -107,7 +108,7 @@ pub extern "C" fn iset_plain_ruled(
     answer: &mut [u64],
 ) -> u64
     ensures { λ r. ⌜ exit r (now (answer .exit)) (now (out .exit) ∷ [])
-        ≡ plainExit (kinds «lo_kind» «hi_kind») (now (answer .entry)) (mapOf count root) (now (nodes .entry)) (now (colours .entry)) (ruledOf rule «lo_kind» lo «hi_kind» hi) (now (out .entry)) ⌝ }
+        ≡ plainExit (kinds «lo_kind» «hi_kind») (now (answer .entry)) (mapOf count root) (asEight narrow (now (nodes .entry))) (now (colours .entry)) (ruledOf rule «lo_kind» lo «hi_kind» hi) (now (out .entry)) ⌝ }
 {
     if answer.len() < 2 {
         return SHORT_ANSWER;
@@ -119,18 +120,18 @@ pub extern "C" fn iset_plain_ruled(
             version: 0,
         };
         let query = ruled(rule, lo_kind, lo, hi_kind, hi);
-        put_looked(map.plain(nodes, colours, query, out), answer)
+        put_looked(map.plain_in(nodes, narrow, colours, query, out), answer)
     } else {
         BAD_BOUND
     }
 }
 
 // The fast lookup by a rule. Answer: as for iset_find_all.
-#[no_mangle]
-pub extern "C" fn iset_find_all_ruled(
+pub fn find_all_ruled_in(
     count: u64,
     root: u64,
     nodes: &[u64],
+    narrow: bool,
     colours: &[u8],
     rule: u64,
     lo_kind: u64,
@@ -141,7 +142,7 @@ pub extern "C" fn iset_find_all_ruled(
     answer: &mut [u64],
 ) -> u64
     ensures { λ r. ⌜ exit r (now (answer .exit)) (now (out .exit) ∷ [])
-        ≡ findAllExit (kinds «lo_kind» «hi_kind») (now (answer .entry)) (mapOf count root) (now (nodes .entry)) (now (colours .entry)) (ruledOf rule «lo_kind» lo «hi_kind» hi) (now (out .entry)) ⌝ }
+        ≡ findAllExit (kinds «lo_kind» «hi_kind») (now (answer .entry)) (mapOf count root) (asEight narrow (now (nodes .entry))) (now (colours .entry)) (ruledOf rule «lo_kind» lo «hi_kind» hi) (now (out .entry)) ⌝ }
 {
     if answer.len() < 2 {
         return SHORT_ANSWER;
@@ -153,7 +154,7 @@ pub extern "C" fn iset_find_all_ruled(
             version: 0,
         };
         let query = ruled(rule, lo_kind, lo, hi_kind, hi);
-        put_looked(map.find_all(nodes, colours, query, out), answer)
+        put_looked(map.find_all_in(nodes, narrow, colours, query, out), answer)
     } else {
         BAD_BOUND
     }

@@ -2,7 +2,11 @@
 // declares them. By rule 1 they are the lookups of crates iset_c and iset_c_open. By rule 2 an entry
 // intersects a range if some whole address lies in both. Answers, refusals and their order are those
 // of the calls without a rule; a number that is no rule is a BadRange.
+//
+// The exports are in exports.rt. A function whose name ends in `_in` does the work of an export for
+// nodes of either layout: `narrow` says that a node has six words and not eight.
 pub mod closed;
+pub mod exports;
 pub mod opened;
 
 use iset::Bound;

@@ -11,6 +11,7 @@ use iset_c_open::call::drain;
 use iset_c_open::call::step;
 ghost use mathlib.Core.Path.{_≡_};
 ghost use mathlib.Core.List.{[], _∷_};
+ghost use Rattle.words.specs.Layouts.{asEight};
 ghost use Rattle.iset.specs.Maps.{mapOf};
 ghost use Rattle.iset_c.specs.Replies.{cursorOf, exit};
 ghost use Rattle.iset_c.specs.Ranges.{kinds};
@@ -18,11 +19,11 @@ ghost use Rattle.iset_c_open.specs.Replies.{openStepExit, openDrainExit, openPl
 ghost use Rattle.iset_c_ruled.specs.Ranges.{ruledOf};
 
 // Finds the next entry that intersects a range by a rule. Answer: as for iset_open_step.
-#[no_mangle]
-pub extern "C" fn iset_open_step_ruled(
+pub fn open_step_ruled_in(
     count: u64,
     root: u64,
     nodes: &[u64],
+    narrow: bool,
     colours: &[u8],
     rule: u64,
     lo_kind: u64,
@@ -35,7 +36,7 @@ pub extern "C" fn iset_open_step_ruled(
     answer: &mut [u64],
 ) -> u64
     ensures { λ r. ⌜ exit r (now (answer .exit)) []
-        ≡ openStepExit (kinds «lo_kind» «hi_kind») (now (answer .entry)) (mapOf count root) (now (nodes .entry)) (now (colours .entry)) (ruledOf rule «lo_kind» lo «hi_kind» hi) (cursorOf slot levels bits) ⌝ }
+        ≡ openStepExit (kinds «lo_kind» «hi_kind») (now (answer .entry)) (mapOf count root) (asEight narrow (now (nodes .entry))) (now (colours .entry)) (ruledOf rule «lo_kind» lo «hi_kind» hi) (cursorOf slot levels bits) ⌝ }
 {
     if answer.len() < 5 {
         return SHORT_ANSWER;
@@ -48,18 +49,18 @@ pub extern "C" fn iset_open_step_ruled(
         };
         let query = ruled(rule, lo_kind, lo, hi_kind, hi);
         let cursor = Cursor { slot, levels, bits };
-        step(map, nodes, colours, query, cursor, answer)
+        step(map, nodes, narrow, colours, query, cursor, answer)
     } else {
         BAD_BOUND
     }
 }
 
 // Steps from a cursor until the end or the limit, by a rule. Answer: as for iset_open_drain.
-#[no_mangle]
-pub extern "C" fn iset_open_drain_ruled(
+pub fn open_drain_ruled_in(
     count: u64,
     root: u64,
     nodes: &[u64],
+    narrow: bool,
     colours: &[u8],
     rule: u64,
     lo_kind: u64,
@@ -74,7 +75,7 @@ pub extern "C" fn iset_open_drain_ruled(
     answer: &mut [u64],
 ) -> u64
     ensures { λ r. ⌜ exit r (now (answer .exit)) (now (out .exit) ∷ [])
-        ≡ openDrainExit (kinds «lo_kind» «hi_kind») (now (answer .entry)) (mapOf count root) (now (nodes .entry)) (now (colours .entry)) (ruledOf rule «lo_kind» lo «hi_kind» hi) (cursorOf slot levels bits) limit (now (out .entry)) ⌝ }
+        ≡ openDrainExit (kinds «lo_kind» «hi_kind») (now (answer .entry)) (mapOf count root) (asEight narrow (now (nodes .entry))) (now (colours .entry)) (ruledOf rule «lo_kind» lo «hi_kind» hi) (cursorOf slot levels bits) limit (now (out .entry)) ⌝ }
 {
     if answer.len() < 5 {
         return SHORT_ANSWER;
@@ -86,19 +87,19 @@ pub extern "C" fn iset_open_drain_ruled(
             version: 0,
         };
         let query = ruled(rule, lo_kind, lo, hi_kind, hi);
-        let cursor = Cursor { slot, levels, bits };
-        drain(map, nodes, colours, query, cursor, limit, out, answer)
+        let from = Cursor { slot, levels, bits };
+        drain(map, nodes, narrow, colours, query, from, limit, out, answer)
     } else {
         BAD_BOUND
     }
 }
 
 // Writes the slots of all entries that intersect a range by a rule. Answer: as for iset_open_plain.
-#[no_mangle]
-pub extern "C" fn iset_open_plain_ruled(
+pub fn open_plain_ruled_in(
     count: u64,
     root: u64,
     nodes: &[u64],
+    narrow: bool,
     colours: &[u8],
     rule: u64,
     lo_kind: u64,
@@ -109,7 +110,7 @@ pub extern "C" fn iset_open_plain_ruled(
     answer: &mut [u64],
 ) -> u64
     ensures { λ r. ⌜ exit r (now (answer .exit)) (now (out .exit) ∷ [])
-        ≡ openPlainExit (kinds «lo_kind» «hi_kind») (now (answer .entry)) (mapOf count root) (now (nodes .entry)) (now (colours .entry)) (ruledOf rule «lo_kind» lo «hi_kind» hi) (now (out .entry)) ⌝ }
+        ≡ openPlainExit (kinds «lo_kind» «hi_kind») (now (answer .entry)) (mapOf count root) (asEight narrow (now (nodes .entry))) (now (colours .entry)) (ruledOf rule «lo_kind» lo «hi_kind» hi) (now (out .entry)) ⌝ }
 {
     if answer.len() < 2 {
         return SHORT_ANSWER;
@@ -121,18 +122,21 @@ pub extern "C" fn iset_open_plain_ruled(
             version: 0,
         };
         let query = ruled(rule, lo_kind, lo, hi_kind, hi);
-        put_looked(map.open_plain(nodes, colours, query, out), answer)
+        put_looked(
+            map.open_plain_in(nodes, narrow, colours, query, out),
+            answer,
+        )
     } else {
         BAD_BOUND
     }
 }
 
 // The fast lookup by a rule. Answer: as for iset_open_find_all.
-#[no_mangle]
-pub extern "C" fn iset_open_find_all_ruled(
+pub fn open_find_all_ruled_in(
     count: u64,
     root: u64,
     nodes: &[u64],
+    narrow: bool,
     colours: &[u8],
     rule: u64,
     lo_kind: u64,
@@ -143,7 +147,7 @@ pub extern "C" fn iset_open_find_all_ruled(
     answer: &mut [u64],
 ) -> u64
     ensures { λ r. ⌜ exit r (now (answer .exit)) (now (out .exit) ∷ [])
-        ≡ openFindAllExit (kinds «lo_kind» «hi_kind») (now (answer .entry)) (mapOf count root) (now (nodes .entry)) (now (colours .entry)) (ruledOf rule «lo_kind» lo «hi_kind» hi) (now (out .entry)) ⌝ }
+        ≡ openFindAllExit (kinds «lo_kind» «hi_kind») (now (answer .entry)) (mapOf count root) (asEight narrow (now (nodes .entry))) (now (colours .entry)) (ruledOf rule «lo_kind» lo «hi_kind» hi) (now (out .entry)) ⌝ }
 {
     if answer.len() < 2 {
         return SHORT_ANSWER;
@@ -155,7 +159,10 @@ pub extern "C" fn iset_open_find_all_ruled(
             version: 0,
         };
         let query = ruled(rule, lo_kind, lo, hi_kind, hi);
-        put_looked(map.open_find_all(nodes, colours, query, out), answer)
+        put_looked(
+            map.open_find_all_in(nodes, narrow, colours, query, out),
+            answer,
+        )
     } else {
         BAD_BOUND
     }

@@ -1,6 +1,0 @@
-use borrow.Author.Needs.{needs}
-use Rattle.iset_c.proofs.iset_check.Statement.{statement}
-use Rattle.iset_c.proofs.iset_check.Tie as tie
-
-pub iset-check-spec : {M : Type 1} → statement M
-iset-check-spec = tie.close (tie.spec (λ c κs. search needs) (λ c κs. search needs) (λ c. cc))

@@ -1,0 +1,14 @@
+use Rattle.words.specs.Layouts.{asEight}
+use borrow.Author.Needs.{needs}
+use Rattle.iset_c_narrow.proofs.opened.iset_narrow_open_find_all_exact.Statement.{statement}
+use Rattle.iset_c_narrow.proofs.opened.iset_narrow_open_find_all_exact.Tie as tie
+
+pub iset-narrow-open-find-all-exact-spec : {M : Type 1} → statement M
+unfolding asEight
+iset-narrow-open-find-all-exact-spec =
+    tie.close
+    (tie.spec
+    (λ c κs. search needs)
+    (λ c. search needs)
+    (λ c. search needs)
+    (λ c. search needs))
