@@ -6,7 +6,8 @@ A public function is a `pub fn` or a `pub extern "C" fn`: another crate, or a ho
 This reads the sources and the proofs. Each public function must have an `ensures` that says what it
 returns, and what it leaves at its exit in all that is lent to it by `&mut`. Either these are
 equations, of the answer and of each lent thing by itself, or a theorem NAME-determined says that
-the promise leaves one choice. A public call has no `requires`, and always has that theorem. An
+the promise leaves one choice. An equation of the eight-word form of node words, `asEight narrow`, is
+one of the words: `eight-injective` of words/proofs/Layouts. A public call has no `requires`, and always has that theorem. An
 inner function may have premises. A function that returns nothing and is lent nothing by `&mut` has
 nothing to promise.
 """
@@ -70,7 +71,7 @@ class Function:
         return [x for x in self.owed() if not re.search(r'(?<![\w.])%s(?!\w)' % re.escape(x), text)]
 
     def is_equations(self):
-        text = ' '.join(self.clauses())
+        text = re.sub(r'asEight narrow \((now \(nodes \.exit\))\)', r'\1', ' '.join(self.clauses()))
         return all(re.search(r'[⌜(]\s?%s ≡ ' % re.escape(x), text) for x in self.owed())
 
     def is_determined(self, theorems):
