@@ -1,12 +1,14 @@
 -- Texts one after the other.
 use mathlib.Core.Path.{_≡_, refl, sym, subst, _∙_}
+use mathlib.Core.Bool.{false}
 use mathlib.Core.List.{List, [], _∷_, _++_, foldl-append}
-use Prim.Native.Nat.{ℕ, zero, suc, _+_, _-_, _/_, _%_, _<_, _≤_}
+use Prim.Native.Nat.{ℕ, zero, suc, _+_, _-_, _/_, _%_, _<_, _≤_, min}
 use native.Mathlib.Omega.{arith}
 use lib.ListN.{length, set}
 use borrow.Author.Tests.{lt-ltb, le-ltb, eq-eqb, ne-eqb}
 use Rattle.iset.specs.declared.Map.{Map}
 use Rattle.words.specs.Ix.{U}
+use Rattle.words.specs.Layouts.{asEight}
 use Rattle.words.specs.Nodes.{entry}
 use Rattle.words.specs.declared.node.Entry.{Entry}
 use Rattle.lines.specs.Output.{Page, page, decimal, number, next}
@@ -85,9 +87,9 @@ module _ (p q : Page) (k : ℕ) where
   root-some e h = rw (ne-eqb k U e) h
 
 -- the line of a slot, and the lines of all
-pub row-is : (W : List ℕ) (k : ℕ) (e : Entry) (p q r m n o : Page) → e ≡ entry W k → q ≡ puts p (number k) → r ≡ puts q (next (e .start))
+pub row-is : (W : List ℕ) (k : ℕ) (e : Entry) (p q r m n o : Page) → e ≡ entry (asEight false W) k → q ≡ puts p (number k) → r ≡ puts q (next (e .start))
     → m ≡ puts r (next (e .end)) → n ≡ puts m (next (e .value)) → o ≡ putByte n 10 → o ≡ puts p (row W k)
-unfolding row
+unfolding row asEight
 row-is W k e p q r m n o d a b c f g =
     subst (λ (x : Entry). o ≡ puts p (number k ++ (next (x .start) ++ (next (x .end) ++ (next (x .value) ++ (10 ∷ [])))))) d
     (in-five p q r m n o (number k) (next (e .start)) (next (e .end)) (next (e .value)) 10 a b c f g)
@@ -109,15 +111,15 @@ module _ (W : List ℕ) (n k : ℕ) (P p : Page) (e : P ≡ puts p (rows W k (n 
   rows-end h = let d : n - k ≡ 0 = omega arith in sym (rw d at e)
 
 -- a map that the words hold, and one that they do not
-module _ (m : Map) (W : List ℕ) (p r : Page) (t : ℕ) (i : t ≡ length W / 8) where
+module _ (m : Map) (W : List ℕ) (p r : Page) (k t : ℕ) (i : k ≡ length W / 8) (j : t ≡ min k 65535) where
   pub map-short : t < m .count → r ≡ puts p (refusalText 1) → r ≡ puts p (checkedText m W)
   unfolding checkedText
-  map-short h e = rw (← i, lt-ltb t (m .count) h) e
+  map-short h e = rw (← i, ← j, lt-ltb t (m .count) h) e
 
   pub map-text : m .count ≤ t → (q : Page) → q ≡ puts p (head (m .count) (m .root)) → r ≡ puts q (rows W 0 (m .count))
       → r ≡ puts p (checkedText m W)
   unfolding checkedText mapText
-  map-text h q e f = rw (← i, le-ltb t (m .count) h) (then p q r (head (m .count) (m .root)) (rows W 0 (m .count)) e f)
+  map-text h q e f = rw (← i, ← j, le-ltb t (m .count) h) (then p q r (head (m .count) (m .root)) (rows W 0 (m .count)) e f)
 
 -- what is printed of work that was taken apart
 pub text-of : (w z : Work) (W : List ℕ) (p q : Page) → w ≡ z → q ≡ puts p (workText z W) → q ≡ puts p (workText w W)

@@ -81,7 +81,7 @@ module _ (W C : List ℕ) where
   text-of : (w : Work) (X K E : List ℕ) → Kept W C w X K → workText w X ≡ text (standOf w X K E)
   unfolding checkedText
   text-of (Listing n) X K E p = refl
-  text-of (Mapped m) X K E p = rw (le-ltb (length X / 8) (m .count) (omega arith))
+  text-of (Mapped m) X K E p = rw (le-ltb (min (length X / 8) 65535) (m .count) (omega arith))
   text-of (Refused why) X K E p = refl
 
   text-fits : (w : Work) (X K E : List ℕ) → Kept W C w X K → length (text (standOf w X K E)) ≤ 21557

@@ -2,7 +2,7 @@
 -- Letters: m map, W words, n count, p page, b byte, s text
 use mathlib.Core.Bool.{cond}
 use mathlib.Core.List.{List, [], foldl}
-use Prim.Native.Nat.{ℕ, _+_}
+use Prim.Native.Nat.{ℕ, _+_, min}
 use lib.ListN.{length, set}
 use lib.Dec.{ltb}
 use Rattle.words.specs.Nodes.{slotsIn}
@@ -21,7 +21,7 @@ puts p s = foldl putByte p s
 
 -- 1: "count .. above capacity"
 unfoldable pub checkedText : (map : Map) (words : List ℕ) → List ℕ
-checkedText m W = cond (ltb (slotsIn (length W)) (m .count)) (refusalText 1) (mapText (m .count) (m .root) W)
+checkedText m W = cond (ltb (min (slotsIn (length W)) 65535) (m .count)) (refusalText 1) (mapText (m .count) (m .root) W)
 
 -- what is printed at the end, with the map's words W
 abbrev pub workText : (work : Work) (words : List ℕ) → List ℕ

@@ -2,16 +2,18 @@
 // returns the place after what it wrote. If the buffer is full, nothing is written.
 use crate::working::Work;
 use iset::Map;
+use words::interval::smaller;
 use words::ix::U;
 use words::node::Entry;
 use words::node::entry_of;
 use words::node::slots_in;
 ghost use mathlib.Core.Path.{_≡_};
+ghost use mathlib.Core.Bool.{false};
 ghost use Prim.Native.Nat.{_+_, _<_};
 ghost use Rattle.lines.specs.Output.{page, decimal, number, next};
 ghost use Rattle.slotlist_core.specs.Text.{rootText, head, row, rows, refusalText};
 ghost use Rattle.slotlist_core.specs.Writing.{putByte, puts, checkedText, workText};
-ghost use Rattle.words.specs.Nodes.{Has, Holds};
+ghost use Rattle.words.specs.Layouts.{HasIn, HoldsIn};
 
 fn put_byte(out: &mut [u8], at: usize, b: u8) -> usize
     ensures { λ r. ⌜ page r (now (out .exit)) ≡ putByte (page at (now (out .entry))) b ⌝ }
@@ -93,10 +95,10 @@ fn put_head(out: &mut [u8], map: Map) -> usize
 
 // Writes the line of a slot.
 fn put_row(out: &mut [u8], at: usize, nodes: &[u64], slot: u64) -> usize
-    requires { ⌜ Has (now nodes) slot ⌝ }
+    requires { ⌜ HasIn false (now nodes) slot ⌝ }
     ensures { λ r. ⌜ page r (now (out .exit)) ≡ puts (page at (now (out .entry))) (row (now (nodes .entry)) slot) ⌝ }
 {
-    let e = entry_of(nodes, slot);
+    let e = entry_of(nodes, false, slot);
     let a = put_number(out, at, slot);
     let b = put_next(out, a, e.start);
     let c = put_next(out, b, e.end);
@@ -105,7 +107,7 @@ fn put_row(out: &mut [u8], at: usize, nodes: &[u64], slot: u64) -> usize
 }
 
 fn put_rows(out: &mut [u8], at: usize, nodes: &[u64], count: u64) -> usize
-    requires { ⌜ Holds (now nodes) count ⌝ }
+    requires { ⌜ HoldsIn false (now nodes) count ⌝ }
     ensures { λ r. ⌜ page r (now (out .exit)) ≡ puts (page at (now (out .entry))) (rows (now (nodes .entry)) 0 count) ⌝ }
 {
     let mut to = at;
@@ -125,12 +127,12 @@ fn put_refusal(out: &mut [u8], why: u64) -> usize
     put_byte(out, b, b'\n')
 }
 
-// Writes a map. If its count is above what the words hold, writes a refusal.
+// Writes a map. If its count is above 65,535 or above what the words hold, writes a refusal.
 fn put_map(out: &mut [u8], map: Map, nodes: &[u64]) -> usize
     ensures { λ r. ⌜ page r (now (out .exit)) ≡ puts (page 0 (now (out .entry))) (checkedText map (now (nodes .entry))) ⌝ }
 {
     let count = map.count;
-    if slots_in(nodes.len()) < count {
+    if smaller(slots_in(nodes.len(), false), 65535) < count {
         return put_refusal(out, 1);
     }
     let to = put_head(out, map);

@@ -1,6 +1,7 @@
 -- The table, by computing each rule.
 use mathlib.Core.Path.{refl}
 use Rattle.words.specs.Ix.{onLink}
+use Rattle.words.specs.Layouts.{widened, fieldIn, unpack, asEight}
 use Rattle.words.specs.Nodes.{word, put, putEntry, putHull, swap, joined, hullOf, altered, fix, putNode}
 use Rattle.bitvec.specs.Bits.{bit, put as putBit, bitAt, setBit}
 use Rattle.audit.specs.Survey.{pass, wholeOf}
@@ -45,13 +46,13 @@ use Rattle.image_rule.specs.Stored.{unpacked, painted as loadedBits, loadedWord
 use Rattle.image_rule.specs.Written.{header, pieces, shades, imageOf}
 use Rattle.iset.specs.Image.{openWriteImageNumber, writeImageNumber, writeImageCall, readImageNumber, readImageCall}
 use Rattle.test_document.specs.Rows.{Each, outcome, stepsFrom, foundFrom, leftIn, tell}
-use Rattle.test_document.specs.Table.{lone, storeA, storeA′, storeB, storeC, table}
+use Rattle.test_document.specs.Table.{lone, storeA, storeA₆, storeA′, storeB, storeC, table}
 use Rattle.tree_edit.specs.Rounds.{loop}
 
 -- What the rows compute with, layer by layer: to unfold one of these names is to unfold all that
 -- its line names.
 reading : Unit {0}
-unfolding onLink word put putEntry putHull swap joined hullOf fix putNode bit putBit bitAt setBit
+unfolding onLink widened fieldIn unpack asEight word put putEntry putHull swap joined hullOf fix putNode bit putBit bitAt setBit
 reading = record {}
 
 checking : Unit {0}
@@ -111,10 +112,10 @@ unfolding buildNumber buildCall openRemoveNumber removeNumber removeCall fullNum
 changing = record {}
 
 telling : Unit {0}
-unfolding buildIn _at_ _minus_ _plus_ treeAt treeOf touched boundOf outcome stepsFrom foundFrom leftIn tell lone storeA storeA′ storeB storeC
+unfolding buildIn _at_ _minus_ _plus_ treeAt treeOf touched boundOf outcome stepsFrom foundFrom leftIn tell lone storeA storeA₆ storeA′ storeB storeC
 telling = record {}
 
 -- one `refl` a row, in the table's order
 pub examples : Each table
 unfolding reading checking building repairing naming removing inserting reaching walking looking touring entering-nodes ticketing saving changing telling
-examples = (refl, (refl, (refl, (refl, (refl, (refl, (refl, (refl, (refl, (refl, (refl, (refl, (refl, (refl, (refl, (refl, (refl, (refl, (refl, (refl, (refl, (refl, (refl, (refl, (refl, (refl, (refl, (refl, (refl, (refl, (refl, (refl, (refl, (refl, (refl, (refl, (refl, (refl, (refl, (refl, (refl, (refl, (refl, (refl, (refl, (refl, (refl, (refl, (refl, (refl, (refl, (refl, (refl, (refl, (refl, (refl, (refl, (refl, (refl, (refl, (refl, (refl, (refl, record {})))))))))))))))))))))))))))))))))))))))))))))))))))))))))))))))
+examples = (refl, (refl, (refl, (refl, (refl, (refl, (refl, (refl, (refl, (refl, (refl, (refl, (refl, (refl, (refl, (refl, (refl, (refl, (refl, (refl, (refl, (refl, (refl, (refl, (refl, (refl, (refl, (refl, (refl, (refl, (refl, (refl, (refl, (refl, (refl, (refl, (refl, (refl, (refl, (refl, (refl, (refl, (refl, (refl, (refl, (refl, (refl, (refl, (refl, (refl, (refl, (refl, (refl, (refl, (refl, (refl, (refl, (refl, (refl, (refl, (refl, (refl, (refl, (refl, (refl, (refl, record {}))))))))))))))))))))))))))))))))))))))))))))))))))))))))))))))))))

@@ -3,11 +3,12 @@
 --   x interval, S triples, a old slot or pair or answer, d output or answer, k steps at most or
 --   slot, r row, b new slot or pair or byte, l pairs
 use mathlib.Core.Path.{_≡_}
-use mathlib.Core.Bool.{false, cond}
+use mathlib.Core.Bool.{true, false, cond}
 use mathlib.Core.List.{List, [], _∷_}
 use Prim.Native.Nat.{ℕ, zero, suc}
 use lib.Dec.{eqb}
 use lib.ListN.{replicate, take, drop}
+use Rattle.words.specs.Layouts.{asEight}
 use Rattle.words.specs.Nodes.{kid, wordsOf}
 use Rattle.words.specs.declared.interval.Bound.{Bound}
 use Rattle.words.specs.declared.interval.Interval.{Interval}
@@ -66,16 +67,18 @@ pub data Step : Type 0 where
   _entering_ : (outcome : Outcome) (count : ℕ) → Step
 
 -- What is asked. A build has so many words and so many bytes, all of them 0. `rootRight` asks for
--- the root's right link, `slot` for the eight words of a slot. A lookup runs from its fresh cursor
--- to the end, `ruled` by the rule of a number; a step is its first step; a drain is one call, from
--- a cursor, with a limit and an output. `write` writes the image into so many places, `reload`
--- reads what was written in the place of a map, into words and colours.
+-- the root's right link, `slot` for the eight words of a slot, `sixes` for the eight-word form of
+-- words that have six a slot. A lookup runs from its fresh cursor to the end, `ruled` by the rule
+-- of a number; a step is its first step; a drain is one call, from a cursor, with a limit and an
+-- output. `write` writes the image into so many places, `reload` reads what was written in the
+-- place of a map, into words and colours.
 pub data Call : Type 0 where
   build : (words bytes : ℕ) (triples : List ℕ) → Call
   remove : (store : State) (slot : ℕ) → Call
   insert : (store : State) (entry : Entry) → Call
   rootRight : (store : State) → Call
   slot : (store : State) (slot : ℕ) → Call
+  sixes : (words : List ℕ) → Call
   overlap : (store : State) (lo hi : Bound) → Call
   ruled : (store : State) (rule : ℕ) (lo hi : Bound) → Call
   step : (store : State) (lo hi : Bound) → Call
@@ -173,6 +176,7 @@ tell (remove t s) =
 tell (insert t e) = inserted (insertCall (t .map) (t .words) (t .colours) e .answer) (leftIn (t plus e))
 tell (rootRight t) = link (kid (t .words) false (t .map .root))
 tell (slot t k) = holds (take (wordsOf 1) (drop (wordsOf k) (t .words)))
+tell (sixes W) = holds (asEight true W)
 tell (overlap t lo hi) = foundIn t lo hi (Overlap (span lo hi))
 tell (ruled t k lo hi) = foundIn t lo hi (Ruled k (span lo hi))
 tell (step t lo hi) = stepped (stepCall (t .map) (t .words) (t .colours) (Overlap (span lo hi)) (fresh (t .map .root)))

@@ -2,11 +2,12 @@
 -- its words, and what document 02 adds; and after them cases of our own for what those leave open,
 -- worked out from the documents' words by tests/model.py.
 -- Letters: a start, b end, v value, k count, s slot
-use mathlib.Core.Bool.{false}
+use mathlib.Core.Bool.{true, false}
 use mathlib.Core.List.{List, [], _∷_, _++_}
 use Prim.Native.Nat.{ℕ, zero, suc}
 use lib.ListN.{replicate}
 use Rattle.words.specs.Ix.{U}
+use Rattle.words.specs.Layouts.{asEight}
 use Rattle.words.specs.Refusals.{refusalNumber}
 use Rattle.words.specs.declared.interval.Bound.the-variants.{Included, Excluded, Unbounded}
 use Rattle.words.specs.declared.interval.Interval.{Interval}
@@ -20,7 +21,7 @@ use Rattle.iset.specs.Maps.{mapAt}
 use Rattle.iset.specs.Ticket.{ticketOf}
 use Rattle.iset.specs.Sequence.{State}
 use Rattle.test_document.specs.Stores.{buildIn, _at_, _minus_, _plus_}
-use Rattle.test_document.specs.Rows.{Row, _gives_, _to_, moved, colours, _entering_, hit, end, refused, build, remove, insert, rootRight, slot, overlap, ruled, step, drain, exact, plain, read, findAll, write, reload, span, built, removed, inserted, link, holds, found, stepped, drained, started, looked, given, saved, loaded}
+use Rattle.test_document.specs.Rows.{Row, _gives_, _to_, moved, colours, _entering_, hit, end, refused, build, remove, insert, rootRight, slot, sixes, overlap, ruled, step, drain, exact, plain, read, findAll, write, reload, span, built, removed, inserted, link, holds, found, stepped, drained, started, looked, given, saved, loaded}
 
 -- the entry [3,6) alone
 unfoldable pub lone : State
@@ -37,6 +38,20 @@ storeA = buildIn 40 1 listA
 -- the same with room for one entry more
 unfoldable pub storeA′ : State
 storeA′ = buildIn 48 1 listA
+
+-- Store A in nodes of six words. The last word of a slot is its left link, its right link times
+-- 65536 and its parent times 4294967296, added up, with 65535 for U.
+abbrev pub sixA : List ℕ
+sixA =
+    10 ∷ 20 ∷ 1 ∷ 10 ∷ 20 ∷ 8589934591 ∷
+    10 ∷ 30 ∷ 2 ∷ 10 ∷ 30 ∷ 12884836352 ∷
+    25 ∷ 40 ∷ 3 ∷ 10 ∷ 60 ∷ 281470682005505 ∷
+    40 ∷ 50 ∷ 4 ∷ 40 ∷ 50 ∷ 21474836479 ∷
+    45 ∷ 60 ∷ 5 ∷ 40 ∷ 60 ∷ 12884836355 ∷ []
+
+-- that store, its words in their eight-word form
+unfoldable pub storeA₆ : State
+storeA₆ = record { map = storeA .map; words = asEight true sixA; colours = storeA .colours }
 
 -- "Store B, three times [5,9) with values 1, 2, 3", in 24 words and a byte
 abbrev pub listB : List ℕ
@@ -274,4 +289,10 @@ table =
     -- entries
     reload storeA (mapAt 0 U 6) (replicate 41 7) (246 ∷ []) gives
     loaded (record { no = 0; map = mapAt 5 2 7 }) (storeA .words ++ (7 ∷ [])) (233 ∷ []) ∷
+    -- document 02, item 12: "links (left in the lowest bits, then right, then parent, top 16 bits
+    -- 0)", "16 bits each with 65535 as undefined"
+    sixes sixA gives holds (storeA .words) ∷
+    -- and a removal there: the emptied slot's three links in one word
+    remove storeA₆ 4 gives removed (record { no = 0; value = 5; map = mapAt 4 2 2; pairs = moved []; reach = 2 }) (colours 1) ∷
+    slot (storeA₆ minus 4) 4 gives holds (asEight true (0 ∷ 0 ∷ 0 ∷ 0 ∷ 0 ∷ 281474976710655 ∷ [])) ∷
     []

@@ -20,10 +20,11 @@ use words::node::capacity;
 use words::numbers::least;
 use words::numbers::wide;
 ghost use mathlib.Core.Path.{_≡_};
-ghost use mathlib.Core.Bool.{true};
+ghost use mathlib.Core.Bool.{true, false};
 ghost use Prim.Native.Nat.{_+_, _≤_, _<_};
 ghost use lib.ListN.{length};
-ghost use Rattle.words.specs.Nodes.{Holds, HoldsBits};
+ghost use Rattle.words.specs.Layouts.{HoldsIn};
+ghost use Rattle.words.specs.Nodes.{HoldsBits};
 ghost use Rattle.image_rule.specs.Layout.{countIn, laidOut};
 
 // Room for the whole input.
@@ -135,13 +136,13 @@ fn is_same(image: &[u8], out: &[u8]) -> bool {
 // Reads an image that was accepted, and writes it again. Returns 0 if the bytes are the same, else
 // 99.
 fn read_and_write(image: &[u8], nodes: &mut [u64], colours: &mut [u8], out: &mut [u8]) -> u64
-    requires { ⌜ (laidOut (now image) ≡ true) × (countIn (now image) ≤ 65535) × Holds (now nodes) (countIn (now image)) × HoldsBits (now colours) (countIn (now image)) ⌝ }
+    requires { ⌜ (laidOut (now image) ≡ true) × HoldsIn false (now nodes) (countIn (now image)) × HoldsBits (now colours) (countIn (now image)) ⌝ }
 {
     let count = count_in(image);
     let root = root_in(image);
-    load(nodes, colours, image);
+    load(nodes, false, colours, image);
     if image_length(count) <= out.len() as u64 {
-        write(nodes, colours, count, root, out);
+        write(nodes, false, colours, count, root, out);
         if is_same(image, out) {
             return 0;
         }
@@ -152,7 +153,7 @@ fn read_and_write(image: &[u8], nodes: &mut [u64], colours: &mut [u8], out: &mut
 // Returns the number of the refusal of an image, or what became of it.
 fn read(image: &[u8], nodes: &mut [u64], colours: &mut [u8], out: &mut [u8]) -> u64 {
     if has_layout(image) {
-        if capacity(nodes.len(), colours.len()) < count_in(image) {
+        if capacity(nodes.len(), false, colours.len()) < count_in(image) {
             1
         } else if judge(image) {
             read_and_write(image, nodes, colours, out)

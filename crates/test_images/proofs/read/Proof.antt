@@ -12,7 +12,7 @@ read-spec =
     (λ c κs. search needs)
     (λ c κs. search said)
     (λ c κs. (search said, omega arith))
-    (λ c κs. (search said, omega arith, omega arith, omega arith))
+    (λ c κs. (search said, (omega arith, omega arith, omega arith), omega arith))
     (λ c. search needs)
     (λ c. search needs)
     (λ c. search needs)

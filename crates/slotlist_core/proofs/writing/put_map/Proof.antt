@@ -9,6 +9,7 @@ put-map-spec =
     (tie.spec
     (λ c κs. search needs)
     (λ c κs. search needs)
+    (λ c κs. search needs)
     (λ c. search needs)
     (λ c. search map-short)
     (λ c κs. search needs)

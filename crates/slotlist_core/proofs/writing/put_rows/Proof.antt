@@ -23,7 +23,7 @@ put-rows-spec =
     Inv-loop
     μ-loop
     (λ c. (omega arith, refl, search rows-start))
-    (λ c κs. omega arith)
+    (λ c κs. (omega arith, omega arith, omega arith))
     (λ c. omega arith)
     (λ c. omega arith)
     (λ c. (omega arith, omega arith, search rows-on))
