@@ -110,6 +110,11 @@ MEANINGS = {
         a answer; l triples; l:[Told] operations with their answers; x operation with its answer;
         I image (its bytes); s slot; e entry; t ticket; q query; c cursor;
         x:Interval interval; x:ℕ address; A any type""",
+    'layouts/Narrowed': """
+        N memory or words of six-word nodes; X memory or words afterwards; Y other memory afterwards;
+        Z memory at the end; M memory; a answer; b other answer; n map at the end; p other map at the
+        end; l operations with their answers; k others; f field; s slot; m map; o operation;
+        C colours""",
     'builder/Build': """
         S triples; a start of the span; b end of the span; f levels left for the span;
         d interval to extend; e entry; h hull; p parent; w words of the span; m number;

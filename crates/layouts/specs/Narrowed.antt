@@ -1,4 +1,8 @@
 -- Document 02, item 12, as one record.
+-- Letters: m map, C colours, N memory or words of six-word nodes, X memory or words afterwards,
+--   Y other memory afterwards, Z memory at the end, M memory, a answer, b other answer, n map at
+--   the end, p other map at the end, l operations with their answers, k others, f field, s slot,
+--   o operation
 use mathlib.Core.Path.{_≡_}
 use mathlib.Core.Bool.{Bool, true, false}
 use mathlib.Core.List.{List}
