@@ -6,7 +6,9 @@
    from C and through the Rust type `Store`, and of the public calls the check, the build, the
    writing and reading of an image, the lookup in one and, if the case says so, the point lookups,
    each of which checks the whole store. If a case says `against` another call of this library, both
-   sides are this library's. */
+   sides are this library's. If it says `six words`, this library's side has nodes of six words;
+   `against eight words` is the same call on nodes of eight words. The goals for six words against
+   eight: at most 1.15 for the check and the lookups, at most 1.5 for the changes and the build. */
 #include <stdbool.h>
 #include <stdint.h>
 #include <stdio.h>
@@ -16,6 +18,7 @@
 
 #include "iset_disjoint.h"
 #include "iset_image.h"
+#include "iset_narrow.h"
 #include "iset_open.h"
 #include "iset_ruled.h"
 
@@ -57,9 +60,47 @@ enum { ROUNDS = 15, MOST = 65535, LOOKUPS = 10000, PLAINS = 200, WINDOWS = 200, 
 
 static uint64_t list[3 * MOST], mixed[3 * MOST], words[8 * MOST], spare[8 * MOST], held[8 * MOST], out[MOST], slots[MOST];
 static uint8_t bytes[MOST / 8 + 1], spare_bytes[MOST / 8 + 1], held_bytes[MOST / 8 + 1];
+static uint64_t thin[6 * MOST], thin_spare[6 * MOST], packed[6 * MOST];
+static uint8_t thin_bytes[MOST / 8 + 1];
 static size_t n, colour_bytes;
 static uint64_t root;
 static map *crate;
+
+/* A layout of nodes: how many words a node has, the map in it, memory for a map that is changed or
+   made, and the calls. Both maps have the colours in `bytes`. What is measured of a layout is
+   inlined, so that its calls are direct ones. */
+typedef struct {
+    size_t width;
+    uint64_t *words, *spare;
+    uint8_t *spare_bytes;
+    __typeof__(iset_open_remove) *remove;
+    __typeof__(iset_open_insert) *insert;
+    __typeof__(iset_open_drain) *drain;
+    __typeof__(iset_open_find_all) *find_all;
+    __typeof__(iset_open_fresh_exact) *fresh_exact;
+    __typeof__(iset_open_drain_exact) *drain_exact;
+    __typeof__(iset_check) *check;
+    __typeof__(iset_build) *build;
+} layout;
+static const layout
+    eight = {8, words, spare, spare_bytes, iset_open_remove, iset_open_insert, iset_open_drain, iset_open_find_all, iset_open_fresh_exact,
+             iset_open_drain_exact, iset_check, iset_build},
+    six = {6, thin, thin_spare, thin_bytes, iset_narrow_open_remove, iset_narrow_open_insert, iset_narrow_open_drain, iset_narrow_open_find_all,
+           iset_narrow_open_fresh_exact, iset_narrow_open_drain_exact, iset_narrow_check, iset_narrow_build};
+#define OF_LAYOUT static inline __attribute__((always_inline))
+/* The side NAME_ours of eight words and the side NAME_six of six, by what is done in a layout `l`. */
+#define SIDES(name, done) \
+    static uint64_t name##_ours(void) { const layout *l = &eight; return done; } \
+    static uint64_t name##_six(void) { const layout *l = &six; return done; }
+
+/* The nodes of eight words in six: the links in one word, 16 bits each. */
+static uint64_t narrowed(uint64_t link) { return link == ISET_U ? ISET_NARROW_U : link; }
+static void pack(const uint64_t *from, uint64_t *to) {
+    for (size_t k = 0; k < n; k++, from += 8, to += 6) {
+        memcpy(to, from, 40);
+        to[5] = narrowed(from[5]) | narrowed(from[6]) << 16 | narrowed(from[7]) << 32;
+    }
+}
 
 /* The processor's time: other work beside the program does not count. */
 static double now(void) {
@@ -85,11 +126,27 @@ static void same(uint64_t a, uint64_t b, const char *what) {
 }
 
 /* The sum of the values of the hits. A drain returns only their slots. */
-static uint64_t values(uint64_t hits) {
+OF_LAYOUT uint64_t values_in(const layout *l, uint64_t hits) {
     uint64_t sum = 0;
     for (uint64_t i = 0; i < hits; i++)
-        sum += words[8 * out[i] + 2];
+        sum += l->words[l->width * out[i] + 2];
     return sum;
+}
+static uint64_t values(uint64_t hits) { return values_in(&eight, hits); }
+
+/* A copy of the map, to be changed. */
+static void copy(const layout *l) {
+    memcpy(l->spare, l->words, 8 * l->width * n);
+    memcpy(l->spare_bytes, bytes, colour_bytes);
+}
+
+/* The map that was made in a layout has these nodes of eight words. */
+static void same_nodes(const layout *l, const uint64_t *nodes, const char *what) {
+    if (l->width == 6) {
+        pack(nodes, packed);
+        nodes = packed;
+    }
+    same(memcmp(l->spare, nodes, 8 * l->width * n) != 0, 0, what);
 }
 
 /* Each side returns a number, and the two must be equal. The time to prepare a round is not
@@ -138,8 +195,8 @@ static void measure(bench_case *c, size_t calls) {
 static map *victim;
 static void before_removal(void) {
     victim = rust_clone(crate);
-    memcpy(spare, words, 64 * n);
-    memcpy(spare_bytes, bytes, colour_bytes);
+    copy(&eight);
+    copy(&six);
 }
 static uint64_t remove_theirs(void) {
     uint64_t sum = 0;
@@ -147,14 +204,15 @@ static uint64_t remove_theirs(void) {
         sum = 3 * sum + rust_remove(victim, slots[k]);
     return sum;
 }
-static uint64_t remove_ours(void) {
+OF_LAYOUT uint64_t remove_in(const layout *l) {
     uint64_t sum = 0, answer[ISET_REMOVE_ANSWER] = {0, n, root};
     for (size_t k = 0; k < n; k++) {
-        iset_open_remove(answer[1], answer[2], (uint32_t)answer[10], spare, 8 * n, spare_bytes, colour_bytes, slots[k], answer, ISET_REMOVE_ANSWER);
+        l->remove(answer[1], answer[2], (uint32_t)answer[10], l->spare, l->width * n, l->spare_bytes, colour_bytes, slots[k], answer, ISET_REMOVE_ANSWER);
         sum = 3 * sum + answer[0];
     }
     return sum;
 }
+SIDES(remove, remove_in(l))
 static void after_removal(void) { rust_free(victim); }
 /* The same by the Rust type `Store`, which checks the store when it is opened. */
 static store *opened;
@@ -177,6 +235,7 @@ static void after_store_removal(void) {
    same, word for word. */
 static map *grown;
 static uint64_t grown_root;
+static const layout *grown_in = &eight;
 static void grow(map *m, const uint64_t *entries) {
     for (size_t k = 0; k < n; k++)
         rust_insert(m, entries[3 * k], entries[3 * k + 1], entries[3 * k + 2]);
@@ -186,20 +245,29 @@ static uint64_t insert_theirs(void) {
     grow(grown, mixed);
     return 0;
 }
-static uint64_t insert_ours(void) {
+OF_LAYOUT uint64_t insert_in(const layout *l) {
     uint64_t answer[ISET_INSERT_ANSWER] = {0, ISET_U};
     for (size_t k = 0; k < n; k++) {
         const uint64_t *entry = mixed + 3 * k;
-        iset_open_insert(answer[0], answer[1], (uint32_t)answer[4], spare, 8 * n, spare_bytes, colour_bytes, entry[0], entry[1], entry[2], answer, ISET_INSERT_ANSWER);
+        l->insert(answer[0], answer[1], (uint32_t)answer[4], l->spare, l->width * n, l->spare_bytes, colour_bytes, entry[0], entry[1], entry[2], answer, ISET_INSERT_ANSWER);
     }
     grown_root = answer[1];
+    grown_in = l;
     return 0;
 }
+SIDES(insert, insert_in(l))
 static void after_insertion(void) {
-    memcpy(held_bytes, spare_bytes, colour_bytes);
+    memcpy(held_bytes, grown_in->spare_bytes, colour_bytes);
     same(rust_store(grown, held, held_bytes, n), grown_root, "the root after the insertions");
-    same(memcmp(held, spare, 64 * n) != 0 || memcmp(held_bytes, spare_bytes, colour_bytes) != 0, 0, "the stores after the insertions");
+    same_nodes(grown_in, held, "the nodes after the insertions");
+    same(memcmp(held_bytes, grown_in->spare_bytes, colour_bytes) != 0, 0, "the colours after the insertions");
     rust_free(grown);
+}
+/* Six words against eight: the second side's map has the nodes of the first side's. */
+static void after_both(void) { same_nodes(&six, spare, "the nodes of both layouts"); }
+static void after_removals(void) {
+    after_both();
+    after_removal();
 }
 
 static void before_store_insertion(void) {
@@ -213,6 +281,7 @@ static uint64_t insert_by_store(void) {
 }
 static void after_store_insertion(void) {
     grown_root = store_close(opened);
+    grown_in = &eight;
     after_insertion();
 }
 
@@ -222,17 +291,17 @@ static void close_store(void) { store_close(opened); }
 
 static uint64_t all_theirs(void) { return rust_all(crate); }
 static uint64_t all_by_store(void) { return store_all(opened); }
-static uint64_t all_by(uint64_t piece) {
+OF_LAYOUT uint64_t all_in(const layout *l, uint64_t piece) {
     uint64_t sum = 0, answer[5] = {0, 0, root, 1, 0};
     while (answer[2] != ISET_U) {
-        iset_open_drain(n, root, words, 8 * n, bytes, colour_bytes, ISET_UNBOUNDED, 0, ISET_UNBOUNDED, 0, answer[2], answer[3], answer[4], piece,
-                        out, n, answer, 5);
-        sum += values(answer[0]);
+        l->drain(n, root, l->words, l->width * n, bytes, colour_bytes, ISET_UNBOUNDED, 0, ISET_UNBOUNDED, 0, answer[2], answer[3], answer[4], piece,
+                 out, n, answer, 5);
+        sum += values_in(l, answer[0]);
     }
     return sum;
 }
-static uint64_t all_at_once(void) { return all_by(n); }
-static uint64_t all_in_pieces(void) { return all_by(PIECE); }
+SIDES(all, all_in(l, n))
+static uint64_t all_in_pieces(void) { return all_in(&eight, PIECE); }
 
 /* Random points. Each public lookup checks the whole store, so a round may have fewer of them. */
 static uint64_t points[LOOKUPS], range_end;
@@ -250,28 +319,30 @@ static uint64_t some_theirs(size_t lookups) {
 static uint64_t points_theirs(void) { return some_theirs(LOOKUPS); }
 static uint64_t publics_theirs(void) { return some_theirs(publics); }
 /* The entries between two bounds: by one drain, and by the fast lookup. Both write to `out`. */
-static uint64_t drained(uint64_t lo, uint64_t hi_kind, uint64_t hi, size_t places) {
+OF_LAYOUT uint64_t drained(const layout *l, uint64_t lo, uint64_t hi_kind, uint64_t hi, size_t places) {
     uint64_t answer[5] = {0};
-    iset_open_drain(n, root, words, 8 * n, bytes, colour_bytes, ISET_INCLUDED, lo, hi_kind, hi, root, 1, 0, 0, out, places, answer, 5);
-    return values(answer[0]);
+    l->drain(n, root, l->words, l->width * n, bytes, colour_bytes, ISET_INCLUDED, lo, hi_kind, hi, root, 1, 0, 0, out, places, answer, 5);
+    return values_in(l, answer[0]);
 }
-static uint64_t found(uint64_t lo, uint64_t hi_kind, uint64_t hi, size_t places) {
+OF_LAYOUT uint64_t found(const layout *l, uint64_t lo, uint64_t hi_kind, uint64_t hi, size_t places) {
     uint64_t answer[2] = {0};
-    iset_open_find_all(n, root, words, 8 * n, bytes, colour_bytes, ISET_INCLUDED, lo, hi_kind, hi, out, places, answer, 2);
-    return values(answer[0]);
+    l->find_all(n, root, l->words, l->width * n, bytes, colour_bytes, ISET_INCLUDED, lo, hi_kind, hi, out, places, answer, 2);
+    return values_in(l, answer[0]);
 }
-static uint64_t some_ours(size_t lookups) {
+OF_LAYOUT uint64_t points_in(const layout *l, size_t lookups) {
     uint64_t sum = 0;
     for (size_t k = 0; k < lookups; k++)
-        sum = 3 * sum + drained(points[k], ISET_INCLUDED, points[k], PIECE);
+        sum = 3 * sum + drained(l, points[k], ISET_INCLUDED, points[k], PIECE);
     return sum;
 }
-static uint64_t points_found(void) {
+SIDES(points, points_in(l, LOOKUPS))
+OF_LAYOUT uint64_t found_in(const layout *l) {
     uint64_t sum = 0;
     for (size_t k = 0; k < LOOKUPS; k++)
-        sum = 3 * sum + found(points[k], ISET_INCLUDED, points[k], PIECE);
+        sum = 3 * sum + found(l, points[k], ISET_INCLUDED, points[k], PIECE);
     return sum;
 }
+SIDES(found, found_in(l))
 
 /* The same by the number of a rule, beside the drain without one. At one address the rules agree. */
 static uint64_t some_ruled(uint64_t rule) {
@@ -296,16 +367,15 @@ static uint64_t windows_theirs(void) {
 static uint64_t windows_drained(void) {
     uint64_t sum = 0;
     for (size_t k = 0; k < WINDOWS; k++)
-        sum = 3 * sum + drained(points[k], ISET_EXCLUDED, points[k] + WINDOW, n);
+        sum = 3 * sum + drained(&eight, points[k], ISET_EXCLUDED, points[k] + WINDOW, n);
     return sum;
 }
 static uint64_t windows_found(void) {
     uint64_t sum = 0;
     for (size_t k = 0; k < WINDOWS; k++)
-        sum = 3 * sum + found(points[k], ISET_EXCLUDED, points[k] + WINDOW, n);
+        sum = 3 * sum + found(&eight, points[k], ISET_EXCLUDED, points[k] + WINDOW, n);
     return sum;
 }
-static uint64_t points_ours(void) { return some_ours(LOOKUPS); }
 static void before_store_points(void) {
     before_points();
     open_store();
@@ -335,7 +405,7 @@ static uint64_t plain(uint64_t kind, uint64_t at) {
     return values(answer[0]);
 }
 static uint64_t all_plain(void) { return plain(ISET_UNBOUNDED, 0); }
-static uint64_t few_pruned(void) { return some_ours(PLAINS); }
+static uint64_t few_pruned(void) { return points_in(&eight, PLAINS); }
 static uint64_t few_plain(void) {
     uint64_t sum = 0;
     for (size_t k = 0; k < PLAINS; k++)
@@ -350,16 +420,17 @@ static uint64_t exact_theirs(void) {
         sum = 3 * sum + rust_exact(crate, list[3 * k], list[3 * k + 1]);
     return sum;
 }
-static uint64_t exact_ours(void) {
+OF_LAYOUT uint64_t exact_in(const layout *l) {
     uint64_t sum = 0, c[3] = {0}, answer[5] = {0};
     for (size_t k = 0; k < n; k += 16) {
         uint64_t start = list[3 * k], end = list[3 * k + 1];
-        iset_open_fresh_exact(n, root, words, 8 * n, bytes, colour_bytes, start, end, c, 3);
-        iset_open_drain_exact(n, root, words, 8 * n, bytes, colour_bytes, start, end, c[0], c[1], c[2], PIECE, out, PIECE, answer, 5);
-        sum = 3 * sum + values(answer[0]);
+        l->fresh_exact(n, root, l->words, l->width * n, bytes, colour_bytes, start, end, c, 3);
+        l->drain_exact(n, root, l->words, l->width * n, bytes, colour_bytes, start, end, c[0], c[1], c[2], PIECE, out, PIECE, answer, 5);
+        sum = 3 * sum + values_in(l, answer[0]);
     }
     return sum;
 }
+SIDES(exact, exact_in(l))
 
 static uint64_t exact_by_store(void) {
     uint64_t sum = 0;
@@ -369,7 +440,7 @@ static uint64_t exact_by_store(void) {
 }
 
 static uint64_t check_theirs(void) { return rust_check(words, 8 * n, bytes, colour_bytes, n, root); }
-static uint64_t check_ours(void) { return iset_check(n, root, words, 8 * n, bytes, colour_bytes) == ISET_OK; }
+SIDES(check, l->check(n, root, l->words, l->width * n, bytes, colour_bytes) == ISET_OK)
 
 /* The map saved as an image and loaded back, each side into memory of its own. */
 static uint8_t image[ISET_IMAGE_LEN(MOST)], other_image[ISET_IMAGE_LEN(MOST)];
@@ -409,17 +480,20 @@ static uint64_t build_theirs(void) {
     built = rust_build(list, n);
     return 0;
 }
-static uint64_t build_ours(void) {
+OF_LAYOUT uint64_t build_in(const layout *l) {
     uint64_t answer[ISET_BUILD_ANSWER] = {0};
-    iset_build(0, spare, 8 * n, spare_bytes, colour_bytes, list, 3 * n, answer, ISET_BUILD_ANSWER);
+    l->build(0, l->spare, l->width * n, l->spare_bytes, colour_bytes, list, 3 * n, answer, ISET_BUILD_ANSWER);
     built_root = answer[1];
     return 0;
 }
-static void after_build(void) {
+SIDES(build, build_in(l))
+static void same_build(const layout *l) {
     same(rust_store(built, held, held_bytes, n), built_root, "the root after the build");
-    same(memcmp(held, spare, 64 * n) != 0, 0, "the stores after the build");
+    same_nodes(l, held, "the nodes after the build");
     rust_free(built);
 }
+static void after_build(void) { same_build(&eight); }
+static void after_build_six(void) { same_build(&six); }
 
 /* Maps in which no two ranges overlap: one address beside the crate's overlap lookup of it, and
    beside a binary search over a sorted slice; the check beside that of any map; and insertion, which
@@ -458,6 +532,7 @@ static uint64_t apart_insert(void) {
         iset_open_disjoint_insert(answer[0], answer[1], (uint32_t)answer[4], spare, 8 * n, spare_bytes, colour_bytes, entry[0], entry[1], entry[2], answer, ISET_INSERT_ANSWER);
     }
     grown_root = answer[1];
+    grown_in = &eight;
     return 0;
 }
 
@@ -494,7 +569,8 @@ static void start(size_t size, uint64_t equals) {
         grow(crate, list);
     }
     root = rust_store(crate, words, bytes, n);
-    same(check_ours(), 1, "the crate's store passes the check");
+    pack(words, thin);
+    same(check_ours() && check_six(), 1, "the crate's store passes the check");
 }
 
 int main(int words_given, char **given) {
@@ -503,18 +579,18 @@ int main(int words_given, char **given) {
     static bench_case
         removal = {"removal of every entry, opened", before_removal, remove_theirs, remove_ours, after_removal, 0},
         insertion = {"insertion of every entry, opened", before_insertion, insert_theirs, insert_ours, after_insertion, 0},
-        all = {"drain over the whole map at once, opened", nothing, all_theirs, all_at_once, nothing, 0},
+        all = {"drain over the whole map at once, opened", nothing, all_theirs, all_ours, nothing, 0},
         pieces = {"drain over the whole map in pieces of 64, opened", nothing, all_theirs, all_in_pieces, nothing, 0},
         point = {"point lookups by a drain, opened", before_points, points_theirs, points_ours, nothing, 0},
-        point_found = {"point lookups by find_all, opened", before_points, points_theirs, points_found, nothing, 0},
-        point_faster = {"point lookups by find_all, against the drain", before_points, points_ours, points_found, nothing, 0},
+        point_found = {"point lookups by find_all, opened", before_points, points_theirs, found_ours, nothing, 0},
+        point_faster = {"point lookups by find_all, against the drain", before_points, points_ours, found_ours, nothing, 0},
         point_any = {"point lookups by rule 1, against a drain without a rule", before_points, points_ours, points_any, nothing, 0},
         point_whole = {"point lookups by rule 2, against a drain without a rule", before_points, points_ours, points_whole, nothing, 0},
         window = {"windows by a drain, opened", before_points, windows_theirs, windows_drained, nothing, 0},
         window_found = {"windows by find_all, opened", before_points, windows_theirs, windows_found, nothing, 0},
         window_faster = {"windows by find_all, against the drain", before_points, windows_drained, windows_found, nothing, 0},
         public = {"point lookups, public, with the check", before_points, publics_theirs, points_public, nothing, 0},
-        whole_plain = {"plain lookup of the whole map, against the drain at once", nothing, all_at_once, all_plain, nothing, 0},
+        whole_plain = {"plain lookup of the whole map, against the drain at once", nothing, all_ours, all_plain, nothing, 0},
         point_plain = {"plain point lookups, against pruned ones", before_points, few_pruned, few_plain, nothing, 0},
         exact = {"exact lookups, 16 equals each, opened", nothing, exact_theirs, exact_ours, nothing, 0},
         removal_rust = {"removal of every entry, Store", before_store_removal, remove_theirs, remove_by_store, after_store_removal, 0},
@@ -529,6 +605,22 @@ int main(int words_given, char **given) {
         apart_checked = {"disjoint check, against the check", nothing, check_ours, apart_check, nothing, 0},
         apart_inserted = {"insertion of every entry into a disjoint map, opened", before_insertion, insert_theirs, apart_insert, after_insertion, 0},
         build = {"build, against from_sorted", nothing, build_theirs, build_ours, after_build, 0},
+        removal_narrow = {"removal of every entry, six words", before_removal, remove_theirs, remove_six, after_removal, 0},
+        insertion_narrow = {"insertion of every entry, six words", before_insertion, insert_theirs, insert_six, after_insertion, 0},
+        all_narrow = {"drain over the whole map at once, six words", nothing, all_theirs, all_six, nothing, 0},
+        point_narrow = {"point lookups by a drain, six words", before_points, points_theirs, points_six, nothing, 0},
+        point_found_narrow = {"point lookups by find_all, six words", before_points, points_theirs, found_six, nothing, 0},
+        exact_narrow = {"exact lookups, 16 equals each, six words", nothing, exact_theirs, exact_six, nothing, 0},
+        check_narrow = {"check, six words, against a plain Rust check of eight", nothing, check_theirs, check_six, nothing, 0},
+        build_narrow = {"build, six words, against from_sorted", nothing, build_theirs, build_six, after_build_six, 0},
+        removal_both = {"removal of every entry, six words, against eight words", before_removal, remove_ours, remove_six, after_removals, 0},
+        insertion_both = {"insertion of every entry, six words, against eight words", nothing, insert_ours, insert_six, after_both, 0},
+        all_both = {"drain over the whole map at once, six words, against eight words", nothing, all_ours, all_six, nothing, 0},
+        point_both = {"point lookups by a drain, six words, against eight words", before_points, points_ours, points_six, nothing, 0},
+        point_found_both = {"point lookups by find_all, six words, against eight words", before_points, found_ours, found_six, nothing, 0},
+        exact_both = {"exact lookups, 16 equals each, six words, against eight words", nothing, exact_ours, exact_six, nothing, 0},
+        check_both = {"check, six words, against eight words", nothing, check_ours, check_six, nothing, 0},
+        build_both = {"build, six words, against eight words", nothing, build_ours, build_six, after_both, 0},
         write = {"write an image, against a plain Rust writer", nothing, write_theirs, write_ours, after_write, 0},
         read = {"read an image, against a plain Rust reader", nothing, read_theirs, read_ours, after_read, 0},
         count = {"count in an image, against a plain Rust lookup with the same tests", nothing, count_tested, count_ours, nothing, 0},
@@ -559,6 +651,20 @@ int main(int words_given, char **given) {
             measure(&public, publics);
         measure(&check, n);
         measure(&build, n);
+        measure(&removal_narrow, n);
+        measure(&removal_both, n);
+        measure(&insertion_narrow, n);
+        measure(&insertion_both, n);
+        measure(&all_narrow, n);
+        measure(&all_both, n);
+        measure(&point_narrow, LOOKUPS);
+        measure(&point_both, LOOKUPS);
+        measure(&point_found_narrow, LOOKUPS);
+        measure(&point_found_both, LOOKUPS);
+        measure(&check_narrow, n);
+        measure(&check_both, n);
+        measure(&build_narrow, n);
+        measure(&build_both, n);
         measure(&write, n);
         measure(&read, n);
         measure(&count, n);
@@ -568,6 +674,8 @@ int main(int words_given, char **given) {
         start(sizes[k], 16);
         measure(&exact, n / 16);
         measure(&exact_rust, n / 16);
+        measure(&exact_narrow, n / 16);
+        measure(&exact_both, n / 16);
         rust_free(crate);
         width = 4;
         start(sizes[k], 1);

@@ -24,6 +24,7 @@ fn main() {
         "iset_ruled",
         "iset_image",
         "iset_disjoint",
+        "iset_narrow",
     ] {
         println!("cargo::rerun-if-changed={folder}/lib{archive}.a");
         println!("cargo::rustc-link-lib=static={archive}");

@@ -1,66 +1,23 @@
-//! What the calls of [`Map`] answer.
-use crate::{Map, U};
+//! What the calls of a map answer, in either layout.
+use core::fmt;
+use core::ops::Range;
 
-/// The answer of a removal.
-#[derive(Clone, Copy, Debug, PartialEq, Eq)]
-pub struct Removed {
-    /// The map after the removal.
-    pub map: Map,
-    /// The slot that was removed.
+use crate::{Refusal, U};
+
+/// An entry of a store.
+#[derive(Clone, Debug, PartialEq, Eq)]
+pub struct Entry {
+    /// Its slot, which is valid until the next removal: see
+    /// [`Removed::slot_after`](crate::Removed::slot_after) and [`Ticket`](crate::Ticket).
     pub slot: u64,
-    /// The value of the entry that was removed.
+    /// The addresses that it holds.
+    pub range: Range<u64>,
+    /// The value that was given with the range.
     pub value: u64,
-    /// The other entries that changed slot, as (old slot, new slot), by rising old slot. Unused
-    /// ones are ([`U`], [`U`]).
-    pub pairs: [(u64, u64); 3],
-    /// How many of the hulls that the removal worked out changed, at either end.
-    pub reach: u64,
 }
 
-impl Removed {
-    /// The pairs that are used.
-    pub fn moved(&self) -> impl Iterator<Item = (u64, u64)> {
-        self.pairs.into_iter().filter(|pair| pair.0 != U)
-    }
-
-    /// The slot of the entry that was in slot `kept` before the removal; `None` if it was removed.
-    /// Call it for every slot that you kept.
-    ///
-    /// ```
-    /// use iset_proved::{Map, Removed, U};
-    ///
-    /// let removed = Removed {
-    ///     map: Map { count: 4, root: 2, version: 2 },
-    ///     slot: 1,
-    ///     value: 2,
-    ///     pairs: [(0, 1), (4, 0), (U, U)],
-    ///     reach: 1,
-    /// };
-    /// let kept = [0, 1, 2, 4].map(|slot| removed.slot_after(slot));
-    /// assert_eq!(kept, [Some(1), None, Some(2), Some(0)]);
-    /// ```
-    pub fn slot_after(&self, kept: u64) -> Option<u64> {
-        if kept == self.slot {
-            return None;
-        }
-        let moved = self.moved().find(|pair| pair.0 == kept);
-        Some(moved.map_or(kept, |pair| pair.1))
-    }
-}
-
-/// The answer of an insertion.
-#[derive(Clone, Copy, Debug, PartialEq, Eq)]
-pub struct Inserted {
-    /// The map after the insertion.
-    pub map: Map,
-    /// The slot of the new entry: the count before.
-    pub slot: u64,
-    /// How many of the hulls that the insertion worked out changed, at either end.
-    pub reach: u64,
-}
-
-/// The place of a lookup. [`Map::fresh`] and [`Map::begin`] make the first one, steps and drains
-/// the next ones. At the end its slot is [`U`].
+/// The place of a lookup. [`Map::fresh`](crate::Map::fresh) and [`Map::begin`](crate::Map::begin)
+/// make the first one, steps and drains the next ones. At the end its slot is [`U`].
 #[derive(Clone, Copy, Debug, PartialEq, Eq)]
 pub struct Cursor {
     /// The slot that the lookup is at.
@@ -119,5 +76,42 @@ pub struct Tally {
     /// [`Map::find_all`]: crate::Map::find_all
     pub hits: u64,
     /// How many nodes were entered; for a plain lookup all of them.
+    pub entered: u64,
+}
+
+/// Why an insertion into a disjoint map was refused, and the slot that the refusal names.
+#[derive(Clone, Copy, Debug, PartialEq, Eq)]
+pub struct NotPlaced {
+    /// The refusal.
+    pub why: Refusal,
+    /// With [`Refusal::Overlap`] the slot of the first entry, in the map's order, that intersects
+    /// the new one, and [`U`] with any other.
+    pub slot: u64,
+}
+
+impl From<NotPlaced> for Refusal {
+    fn from(not: NotPlaced) -> Refusal {
+        not.why
+    }
+}
+
+impl fmt::Display for NotPlaced {
+    fn fmt(&self, f: &mut fmt::Formatter<'_>) -> fmt::Result {
+        match self.slot {
+            U => write!(f, "{}", self.why),
+            slot => write!(f, "{}, in slot {slot}", self.why),
+        }
+    }
+}
+
+#[cfg(not(iset_no_core_error))]
+impl core::error::Error for NotPlaced {}
+
+/// The answer of a point lookup.
+#[derive(Clone, Copy, Debug, PartialEq, Eq)]
+pub struct Spot {
+    /// The slot of the entry that holds the address, [`U`] if there is none.
+    pub slot: u64,
+    /// How many nodes were entered: at most as many as the tree is high.
     pub entered: u64,
 }

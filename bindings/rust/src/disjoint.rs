@@ -1,46 +1,10 @@
 //! Maps in which no two ranges overlap, though one may end where the next one starts.
-use core::fmt;
 use core::ops::Range;
 
-use crate::lent::{Lent, LentMut};
-use crate::{ffi, Entry, Inserted, Map, Refusal, Removed, StoreRef, U};
-
-/// Why an insertion into a disjoint map was refused, and the slot that the refusal names.
-#[derive(Clone, Copy, Debug, PartialEq, Eq)]
-pub struct NotPlaced {
-    /// The refusal.
-    pub why: Refusal,
-    /// With [`Refusal::Overlap`] the slot of the first entry, in the map's order, that intersects
-    /// the new one, and [`U`] with any other.
-    pub slot: u64,
-}
-
-impl From<NotPlaced> for Refusal {
-    fn from(not: NotPlaced) -> Refusal {
-        not.why
-    }
-}
-
-impl fmt::Display for NotPlaced {
-    fn fmt(&self, f: &mut fmt::Formatter<'_>) -> fmt::Result {
-        match self.slot {
-            U => write!(f, "{}", self.why),
-            slot => write!(f, "{}, in slot {slot}", self.why),
-        }
-    }
-}
-
-#[cfg(not(iset_no_core_error))]
-impl core::error::Error for NotPlaced {}
-
-/// The answer of a point lookup.
-#[derive(Clone, Copy, Debug, PartialEq, Eq)]
-pub struct Spot {
-    /// The slot of the entry that holds the address, [`U`] if there is none.
-    pub slot: u64,
-    /// How many nodes were entered: at most as many as the tree is high.
-    pub entered: u64,
-}
+use super::calls::{OPENED, PUBLIC};
+use super::lent::{Lent, LentMut};
+use super::{Inserted, Map, Removed, StoreRef};
+use crate::{Entry, NotPlaced, Refusal, Spot};
 
 /// A map in which no two ranges overlap, by value. Any map may stand in it: each call takes the
 /// memory and checks all of it. All other calls are those of the [`Map`] in it. For a map that is
@@ -48,10 +12,10 @@ pub struct Spot {
 ///
 #[cfg_attr(iset_linked, doc = "```")]
 #[cfg_attr(not(iset_linked), doc = "```no_run")]
-/// use iset_proved::{DisjointMap, Map, NotPlaced, Refusal};
+#[doc = using!("{DisjointMap, Map, NotPlaced, Refusal, NODE_WORDS}")]
 ///
 /// # fn main() -> Result<(), Refusal> {
-/// let (mut nodes, mut colours) = ([0; 3 * 8], [0; 1]);
+/// let (mut nodes, mut colours) = ([0; 3 * NODE_WORDS], [0; 1]);
 /// let none = DisjointMap { map: Map::new() };
 /// let first = none.insert(&mut nodes, &mut colours, 10, 20, 1)?;
 /// let one = DisjointMap { map: first.map };
@@ -102,8 +66,7 @@ impl DisjointMap {
     ///
     /// Those of [`DisjointMap::check`].
     pub fn point(self, nodes: &[u64], colours: &[u8], address: u64) -> Result<Spot, Refusal> {
-        let lent = self.over(nodes, colours);
-        lent.point(ffi::iset_disjoint_point, address)
+        self.over(nodes, colours).point(&PUBLIC, address)
     }
 
     /// Adds an entry, if no stored entry intersects it. No other entry changes slot.
@@ -121,7 +84,7 @@ impl DisjointMap {
         value: u64,
     ) -> Result<Inserted, NotPlaced> {
         let mut lent = self.over_mut(nodes, colours);
-        lent.place(ffi::iset_disjoint_insert, [start, end, value])
+        lent.place(PUBLIC.disjoint_insert, [start, end, value])
     }
 
     /// Removes the entry of a slot. What is left is disjoint too.
@@ -136,21 +99,21 @@ impl DisjointMap {
         slot: u64,
     ) -> Result<Removed, Refusal> {
         let mut lent = self.over_mut(nodes, colours);
-        lent.take(ffi::iset_disjoint_remove, slot)
+        lent.take(PUBLIC.disjoint_remove, slot)
     }
 }
 
-/// A map in which no two ranges overlap, and its memory, checked once: as [`Store`](crate::Store),
+/// A map in which no two ranges overlap, and its memory, checked once: as [`Store`](super::Store),
 /// with the rule of a [`DisjointMap`]. Its calls keep the rule (the theorem `disjoint-calls-sound`
 /// of crate disjoint). Lookups other than [`DisjointStore::at`] are those of
 /// [`DisjointStore::read`].
 ///
 #[cfg_attr(iset_linked, doc = "```")]
 #[cfg_attr(not(iset_linked), doc = "```no_run")]
-/// use iset_proved::{DisjointStore, NotPlaced, Refusal};
+#[doc = using!("{DisjointStore, NotPlaced, Refusal, NODE_WORDS}")]
 ///
 /// # fn main() -> Result<(), Refusal> {
-/// let (mut nodes, mut colours) = ([0; 3 * 8], [0; 1]);
+/// let (mut nodes, mut colours) = ([0; 3 * NODE_WORDS], [0; 1]);
 /// let mut store = DisjointStore::new(&mut nodes, &mut colours);
 /// store.insert(10..20, 1)?;
 /// store.insert(20..30, 2)?;
@@ -182,7 +145,7 @@ impl<'m> DisjointStore<'m> {
     }
 
     /// Checks the store, and that no two entries intersect, once. As for
-    /// [`Store::open`](crate::Store::open), no other process may write the memory.
+    /// [`Store::open`](super::Store::open), no other process may write the memory.
     ///
     /// # Errors
     ///
@@ -241,8 +204,7 @@ impl<'m> DisjointStore<'m> {
     /// None while the memory holds what this store left in it.
     #[inline]
     pub fn point(&self, address: u64) -> Result<Spot, Refusal> {
-        let lent = self.lent.read();
-        lent.point(ffi::iset_open_disjoint_point, address)
+        self.lent.read().point(&OPENED, address)
     }
 
     /// Adds an entry, if no stored entry intersects it, and returns its slot. No other entry changes
@@ -253,7 +215,7 @@ impl<'m> DisjointStore<'m> {
     /// [`Refusal::BadInterval`], [`Refusal::Overlap`], [`Refusal::NoRoom`] if the memory is full.
     pub fn insert(&mut self, range: Range<u64>, value: u64) -> Result<u64, NotPlaced> {
         let entry = [range.start, range.end, value];
-        let inserted = self.lent.place(ffi::iset_open_disjoint_insert, entry)?;
+        let inserted = self.lent.place(OPENED.disjoint_insert, entry)?;
         Ok(inserted.slot)
     }
 
@@ -263,7 +225,7 @@ impl<'m> DisjointStore<'m> {
     ///
     /// [`Refusal::NoSuch`].
     pub fn remove(&mut self, slot: u64) -> Result<Removed, Refusal> {
-        self.lent.take(ffi::iset_open_disjoint_remove, slot)
+        self.lent.take(OPENED.disjoint_remove, slot)
     }
 
     /// Gives the memory back, and returns the map in it.

@@ -1,12 +1,17 @@
-//! The C functions: those of libiset.a, as include/iset.h declares them, those of libiset_open.a, as
-//! include/iset_open.h does, those of libiset_ruled.a, as include/iset_ruled.h does, those of
-//! libiset_image.a, as include/iset_image.h does, and those of libiset_disjoint.a, as
-//! include/iset_disjoint.h does. [`Map`](crate::Map), [`Store`](crate::Store), [`image`](crate::image), [`DisjointMap`](crate::DisjointMap) and
-//! [`DisjointStore`](crate::DisjointStore) call them safely.
+//! The C functions: those of libiset.a, as include/iset.h declares them, those of libiset_open.a,
+//! as include/iset_open.h does, those of libiset_ruled.a, as include/iset_ruled.h does, those of
+//! libiset_image.a, as include/iset_image.h does, those of libiset_disjoint.a, as
+//! include/iset_disjoint.h does, and those of libiset_narrow.a, as include/iset_narrow.h does.
+//! [`Map`](crate::Map), [`Store`](crate::Store), [`image`](crate::image),
+//! [`DisjointMap`](crate::DisjointMap), [`DisjointStore`](crate::DisjointStore) and the types of
+//! [`narrow`](crate::narrow) call them safely.
 //!
 //! Each returns 0, or the number of a [`Refusal`](crate::Refusal); only [`iset_slot_after`] returns
 //! a slot, [`iset_image_count`] a count and [`iset_image_value`] a value. Treat every number but 0
 //! as a refusal. The order of an answer's numbers is given in include/iset.h.
+//!
+//! A function whose name begins with `iset_narrow_` does what the one without `narrow_` does, on
+//! nodes of six words.
 //!
 //! # Safety
 //!
@@ -32,50 +37,70 @@ macro_rules! exports {
     };
 }
 
-/// Declares a public call, its opened form and the type of both, so that a wrapper is written once
-/// and takes the one or the other.
+/// Declares calls that have no opened form: each on nodes of eight words and of six, the type of
+/// both, and a table for each layout.
+macro_rules! alone {
+    ($(
+        $(#[$doc:meta])*
+        $field:ident: $name:ident, $narrow:ident;
+        $kind:ident: fn($($arg:ident: $type:ty),* $(,)?);
+    )*) => {
+        exports! {
+            $(
+                $(#[$doc])*
+                fn $name($($arg: $type),*);
+                #[doc = concat!("[`", stringify!($name), "`] on nodes of six words.")]
+                fn $narrow($($arg: $type),*);
+            )*
+        }
+        $(pub(crate) type $kind = unsafe extern "C" fn($($type),*) -> u64;)*
+
+        /// The calls of a layout that have no opened form.
+        pub(crate) struct Alone {
+            $(pub(crate) $field: $kind,)*
+        }
+        pub(crate) static ALONE: Alone = Alone { $($field: $name,)* };
+        pub(crate) static NARROW_ALONE: Alone = Alone { $($field: $narrow,)* };
+    };
+}
+
+/// Declares public calls and their opened forms: each on nodes of eight words and of six, the type
+/// of all four, and tables of them, so that a wrapper is written once and takes one table or another.
 macro_rules! pairs {
     ($(
         $(#[$doc:meta])*
-        $kind:ident: fn $name:ident, $opened:ident($($arg:ident: $type:ty),* $(,)?);
+        $field:ident: $name:ident, $opened:ident, $narrow:ident, $narrow_opened:ident;
+        $kind:ident: fn($($arg:ident: $type:ty),* $(,)?);
     )*) => {
         exports! {
             $(
                 $(#[$doc])*
                 fn $name($($arg: $type),*);
                 #[doc = concat!("[`", stringify!($name), "`] without the check of the store.")]
-                /// include/iset_open.h says when it may be used.
+                /// The header that declares it says when it may be used.
                 fn $opened($($arg: $type),*);
+                #[doc = concat!("[`", stringify!($name), "`] on nodes of six words.")]
+                fn $narrow($($arg: $type),*);
+                #[doc = concat!("[`", stringify!($opened), "`] on nodes of six words.")]
+                fn $narrow_opened($($arg: $type),*);
             )*
         }
         $(pub(crate) type $kind = unsafe extern "C" fn($($type),*) -> u64;)*
+
+        /// The calls of one kind, public or opened, of a layout.
+        pub(crate) struct Calls {
+            $(pub(crate) $field: $kind,)*
+        }
+        /// They check the store.
+        pub(crate) static PUBLIC: Calls = Calls { $($field: $name,)* };
+        pub(crate) static NARROW_PUBLIC: Calls = Calls { $($field: $narrow,)* };
+        /// They do not.
+        pub(crate) static OPENED: Calls = Calls { $($field: $opened,)* };
+        pub(crate) static NARROW_OPENED: Calls = Calls { $($field: $narrow_opened,)* };
     };
 }
 
 exports! {
-    /// Checks the store: 0 if it passes.
-    fn iset_check(
-        count: u64, root: u64,
-        nodes: *const u64, nodes_len: usize, colours: *const u8, colours_len: usize,
-    );
-
-    /// Builds the map of a sorted list of triples, in the place of a map of that version. The
-    /// answer has 3 numbers.
-    fn iset_build(
-        version: u32,
-        nodes: *mut u64, nodes_len: usize, colours: *mut u8, colours_len: usize,
-        list: *const u64, list_len: usize,
-        answer: *mut u64, answer_len: usize,
-    );
-
-    /// Reads the map of an image, in the place of a map of that version. The answer has 3 numbers.
-    fn iset_read_image(
-        version: u32,
-        nodes: *mut u64, nodes_len: usize, colours: *mut u8, colours_len: usize,
-        image: *const u8, image_len: usize,
-        answer: *mut u64, answer_len: usize,
-    );
-
     /// Returns the slot after a removal of the entry that had slot `kept` before it. The answer has
     /// the 11 numbers of that removal.
     fn iset_slot_after(answer: *const u64, removed: u64, kept: u64);
@@ -93,9 +118,45 @@ exports! {
     fn iset_image_refusal(image: *const u8, image_len: usize, address: u64, k: u64);
 }
 
+alone! {
+    /// Checks the store: 0 if it passes.
+    check: iset_check, iset_narrow_check;
+    Check: fn(
+        count: u64, root: u64,
+        nodes: *const u64, nodes_len: usize, colours: *const u8, colours_len: usize,
+    );
+
+    /// Builds the map of a sorted list of triples, in the place of a map of that version. The
+    /// answer has 3 numbers.
+    build: iset_build, iset_narrow_build;
+    Build: fn(
+        version: u32,
+        nodes: *mut u64, nodes_len: usize, colours: *mut u8, colours_len: usize,
+        list: *const u64, list_len: usize,
+        answer: *mut u64, answer_len: usize,
+    );
+
+    /// Reads the map of an image, in the place of a map of that version. The answer has 3 numbers.
+    read_image: iset_read_image, iset_narrow_read_image;
+    ReadImage: fn(
+        version: u32,
+        nodes: *mut u64, nodes_len: usize, colours: *mut u8, colours_len: usize,
+        image: *const u8, image_len: usize,
+        answer: *mut u64, answer_len: usize,
+    );
+
+    /// Checks the store, and that no two of its entries intersect: 0 if so.
+    disjoint_check: iset_disjoint_check, iset_narrow_disjoint_check;
+    DisjointCheck: fn(
+        count: u64, root: u64,
+        nodes: *const u64, nodes_len: usize, colours: *const u8, colours_len: usize,
+    );
+}
+
 pairs! {
     /// Removes the entry of a slot. The answer has 11 numbers.
-    Remove: fn iset_remove, iset_open_remove(
+    remove: iset_remove, iset_open_remove, iset_narrow_remove, iset_narrow_open_remove;
+    Remove: fn(
         count: u64, root: u64, version: u32,
         nodes: *mut u64, nodes_len: usize, colours: *mut u8, colours_len: usize,
         slot: u64,
@@ -103,7 +164,8 @@ pairs! {
     );
 
     /// Adds one entry. The answer has 5 numbers.
-    Insert: fn iset_insert, iset_open_insert(
+    insert: iset_insert, iset_open_insert, iset_narrow_insert, iset_narrow_open_insert;
+    Insert: fn(
         count: u64, root: u64, version: u32,
         nodes: *mut u64, nodes_len: usize, colours: *mut u8, colours_len: usize,
         start: u64, end: u64, value: u64,
@@ -111,7 +173,8 @@ pairs! {
     );
 
     /// Reads the entry of a slot, if the map still has version `taken`. The answer has 3 numbers.
-    Read: fn iset_read, iset_open_read(
+    read: iset_read, iset_open_read, iset_narrow_read, iset_narrow_open_read;
+    Read: fn(
         count: u64, root: u64, version: u32,
         nodes: *const u64, nodes_len: usize, colours: *const u8, colours_len: usize,
         slot: u64, taken: u32,
@@ -119,14 +182,18 @@ pairs! {
     );
 
     /// Writes a map as an image. The answer has 1 number.
-    WriteImage: fn iset_write_image, iset_open_write_image(
+    write_image: iset_write_image, iset_open_write_image,
+        iset_narrow_write_image, iset_narrow_open_write_image;
+    WriteImage: fn(
         count: u64, root: u64,
         nodes: *const u64, nodes_len: usize, colours: *const u8, colours_len: usize,
         out: *mut u8, out_len: usize, answer: *mut u64, answer_len: usize,
     );
 
     /// Gives the cursor at which an exact lookup begins. The answer has 3 numbers.
-    FreshExact: fn iset_fresh_exact, iset_open_fresh_exact(
+    fresh_exact: iset_fresh_exact, iset_open_fresh_exact,
+        iset_narrow_fresh_exact, iset_narrow_open_fresh_exact;
+    FreshExact: fn(
         count: u64, root: u64,
         nodes: *const u64, nodes_len: usize, colours: *const u8, colours_len: usize,
         start: u64, end: u64,
@@ -134,7 +201,8 @@ pairs! {
     );
 
     /// Finds the next entry after a cursor that intersects a range. The answer has 5 numbers.
-    Step: fn iset_step, iset_open_step(
+    step: iset_step, iset_open_step, iset_narrow_step, iset_narrow_open_step;
+    Step: fn(
         count: u64, root: u64,
         nodes: *const u64, nodes_len: usize, colours: *const u8, colours_len: usize,
         lo_kind: u64, lo: u64, hi_kind: u64, hi: u64,
@@ -143,7 +211,9 @@ pairs! {
     );
 
     /// Finds the next entry after a cursor that intersects a range by a rule. The answer has 5 numbers.
-    StepRuled: fn iset_step_ruled, iset_open_step_ruled(
+    step_ruled: iset_step_ruled, iset_open_step_ruled,
+        iset_narrow_step_ruled, iset_narrow_open_step_ruled;
+    StepRuled: fn(
         count: u64, root: u64,
         nodes: *const u64, nodes_len: usize, colours: *const u8, colours_len: usize,
         rule: u64, lo_kind: u64, lo: u64, hi_kind: u64, hi: u64,
@@ -152,7 +222,9 @@ pairs! {
     );
 
     /// Finds the next entry after a cursor that is equal to an interval. The answer has 5 numbers.
-    StepExact: fn iset_step_exact, iset_open_step_exact(
+    step_exact: iset_step_exact, iset_open_step_exact,
+        iset_narrow_step_exact, iset_narrow_open_step_exact;
+    StepExact: fn(
         count: u64, root: u64,
         nodes: *const u64, nodes_len: usize, colours: *const u8, colours_len: usize,
         start: u64, end: u64,
@@ -161,7 +233,8 @@ pairs! {
     );
 
     /// Finds entries that intersect a range, up to a limit. The answer has 5 numbers.
-    Drain: fn iset_drain, iset_open_drain(
+    drain: iset_drain, iset_open_drain, iset_narrow_drain, iset_narrow_open_drain;
+    Drain: fn(
         count: u64, root: u64,
         nodes: *const u64, nodes_len: usize, colours: *const u8, colours_len: usize,
         lo_kind: u64, lo: u64, hi_kind: u64, hi: u64,
@@ -170,7 +243,9 @@ pairs! {
     );
 
     /// Finds entries that intersect a range by a rule, up to a limit. The answer has 5 numbers.
-    DrainRuled: fn iset_drain_ruled, iset_open_drain_ruled(
+    drain_ruled: iset_drain_ruled, iset_open_drain_ruled,
+        iset_narrow_drain_ruled, iset_narrow_open_drain_ruled;
+    DrainRuled: fn(
         count: u64, root: u64,
         nodes: *const u64, nodes_len: usize, colours: *const u8, colours_len: usize,
         rule: u64, lo_kind: u64, lo: u64, hi_kind: u64, hi: u64,
@@ -179,7 +254,9 @@ pairs! {
     );
 
     /// Finds entries that are equal to an interval, up to a limit. The answer has 5 numbers.
-    DrainExact: fn iset_drain_exact, iset_open_drain_exact(
+    drain_exact: iset_drain_exact, iset_open_drain_exact,
+        iset_narrow_drain_exact, iset_narrow_open_drain_exact;
+    DrainExact: fn(
         count: u64, root: u64,
         nodes: *const u64, nodes_len: usize, colours: *const u8, colours_len: usize,
         start: u64, end: u64,
@@ -188,7 +265,8 @@ pairs! {
     );
 
     /// Finds all entries that intersect a range, without pruning. The answer has 2 numbers.
-    Plain: fn iset_plain, iset_open_plain(
+    plain: iset_plain, iset_open_plain, iset_narrow_plain, iset_narrow_open_plain;
+    Plain: fn(
         count: u64, root: u64,
         nodes: *const u64, nodes_len: usize, colours: *const u8, colours_len: usize,
         lo_kind: u64, lo: u64, hi_kind: u64, hi: u64,
@@ -196,7 +274,9 @@ pairs! {
     );
 
     /// Finds all entries that intersect a range by a rule, without pruning. The answer has 2 numbers.
-    PlainRuled: fn iset_plain_ruled, iset_open_plain_ruled(
+    plain_ruled: iset_plain_ruled, iset_open_plain_ruled,
+        iset_narrow_plain_ruled, iset_narrow_open_plain_ruled;
+    PlainRuled: fn(
         count: u64, root: u64,
         nodes: *const u64, nodes_len: usize, colours: *const u8, colours_len: usize,
         rule: u64, lo_kind: u64, lo: u64, hi_kind: u64, hi: u64,
@@ -204,7 +284,9 @@ pairs! {
     );
 
     /// Finds all entries that are equal to an interval, without pruning. The answer has 2 numbers.
-    PlainExact: fn iset_plain_exact, iset_open_plain_exact(
+    plain_exact: iset_plain_exact, iset_open_plain_exact,
+        iset_narrow_plain_exact, iset_narrow_open_plain_exact;
+    PlainExact: fn(
         count: u64, root: u64,
         nodes: *const u64, nodes_len: usize, colours: *const u8, colours_len: usize,
         start: u64, end: u64,
@@ -212,7 +294,8 @@ pairs! {
     );
 
     /// Finds all entries that intersect a range, at once. The answer has 2 numbers.
-    FindAll: fn iset_find_all, iset_open_find_all(
+    find_all: iset_find_all, iset_open_find_all, iset_narrow_find_all, iset_narrow_open_find_all;
+    FindAll: fn(
         count: u64, root: u64,
         nodes: *const u64, nodes_len: usize, colours: *const u8, colours_len: usize,
         lo_kind: u64, lo: u64, hi_kind: u64, hi: u64,
@@ -220,7 +303,9 @@ pairs! {
     );
 
     /// Finds all entries that intersect a range by a rule, at once. The answer has 2 numbers.
-    FindAllRuled: fn iset_find_all_ruled, iset_open_find_all_ruled(
+    find_all_ruled: iset_find_all_ruled, iset_open_find_all_ruled,
+        iset_narrow_find_all_ruled, iset_narrow_open_find_all_ruled;
+    FindAllRuled: fn(
         count: u64, root: u64,
         nodes: *const u64, nodes_len: usize, colours: *const u8, colours_len: usize,
         rule: u64, lo_kind: u64, lo: u64, hi_kind: u64, hi: u64,
@@ -228,58 +313,28 @@ pairs! {
     );
 
     /// Finds all entries that are equal to an interval, at once. The answer has 2 numbers.
-    FindAllExact: fn iset_find_all_exact, iset_open_find_all_exact(
+    find_all_exact: iset_find_all_exact, iset_open_find_all_exact,
+        iset_narrow_find_all_exact, iset_narrow_open_find_all_exact;
+    FindAllExact: fn(
         count: u64, root: u64,
         nodes: *const u64, nodes_len: usize, colours: *const u8, colours_len: usize,
         start: u64, end: u64,
         out: *mut u64, out_len: usize, answer: *mut u64, answer_len: usize,
     );
-}
-
-pub(crate) type Point = unsafe extern "C" fn(
-    u64,
-    u64,
-    *const u64,
-    usize,
-    *const u8,
-    usize,
-    u64,
-    *mut u64,
-    usize,
-) -> u64;
-
-// Of disjoint maps. The opened ones may be used as include/iset_disjoint.h says.
-exports! {
-    /// Checks the store, and that no two of its entries intersect: 0 if so.
-    fn iset_disjoint_check(
-        count: u64, root: u64,
-        nodes: *const u64, nodes_len: usize, colours: *const u8, colours_len: usize,
-    );
 
     /// Finds the entry that holds an address. The answer has 2 numbers.
-    fn iset_disjoint_point(
-        count: u64, root: u64,
-        nodes: *const u64, nodes_len: usize, colours: *const u8, colours_len: usize,
-        address: u64, answer: *mut u64, answer_len: usize,
-    );
-
-    /// [`iset_disjoint_point`] without the check of the store.
-    fn iset_open_disjoint_point(
+    disjoint_point: iset_disjoint_point, iset_open_disjoint_point,
+        iset_narrow_disjoint_point, iset_narrow_open_disjoint_point;
+    DisjointPoint: fn(
         count: u64, root: u64,
         nodes: *const u64, nodes_len: usize, colours: *const u8, colours_len: usize,
         address: u64, answer: *mut u64, answer_len: usize,
     );
 
     /// Adds one entry that intersects none. The answer has 5 numbers. It is written with 13 too.
-    fn iset_disjoint_insert(
-        count: u64, root: u64, version: u32,
-        nodes: *mut u64, nodes_len: usize, colours: *mut u8, colours_len: usize,
-        start: u64, end: u64, value: u64,
-        answer: *mut u64, answer_len: usize,
-    );
-
-    /// [`iset_disjoint_insert`] without the check of the store.
-    fn iset_open_disjoint_insert(
+    disjoint_insert: iset_disjoint_insert, iset_open_disjoint_insert,
+        iset_narrow_disjoint_insert, iset_narrow_open_disjoint_insert;
+    DisjointInsert: fn(
         count: u64, root: u64, version: u32,
         nodes: *mut u64, nodes_len: usize, colours: *mut u8, colours_len: usize,
         start: u64, end: u64, value: u64,
@@ -287,15 +342,9 @@ exports! {
     );
 
     /// Removes the entry of a slot. The answer has 11 numbers.
-    fn iset_disjoint_remove(
-        count: u64, root: u64, version: u32,
-        nodes: *mut u64, nodes_len: usize, colours: *mut u8, colours_len: usize,
-        slot: u64,
-        answer: *mut u64, answer_len: usize,
-    );
-
-    /// [`iset_disjoint_remove`] without the check of the store.
-    fn iset_open_disjoint_remove(
+    disjoint_remove: iset_disjoint_remove, iset_open_disjoint_remove,
+        iset_narrow_disjoint_remove, iset_narrow_open_disjoint_remove;
+    DisjointRemove: fn(
         count: u64, root: u64, version: u32,
         nodes: *mut u64, nodes_len: usize, colours: *mut u8, colours_len: usize,
         slot: u64,

@@ -1,14 +1,15 @@
 //! The hits of a lookup, one after the other.
 use core::iter::FusedIterator;
 
-use crate::lent::OPENED;
-use crate::{Cursor, Query, Refusal, StoreRef, U};
+use super::calls::OPENED;
+use super::StoreRef;
+use crate::{Cursor, Query, Refusal, U};
 
 /// An iterator over the slots of the hits, in the order of the entries. It fetches as many slots as
 /// its buffer holds at a time.
 ///
-/// The first fetch can be refused: that is the `Result` of [`Map::hits`](crate::Map::hits) and of
-/// [`Store::hits`](crate::Store::hits). After it the borrow keeps the store as it is, and no fetch
+/// The first fetch can be refused: that is the `Result` of [`Map::hits`](super::Map::hits) and of
+/// [`Store::hits`](super::Store::hits). After it the borrow keeps the store as it is, and no fetch
 /// is refused.
 ///
 /// # Panics

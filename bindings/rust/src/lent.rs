@@ -1,73 +1,10 @@
 //! A map over the two slices that are lent to a call, and the calls.
 use core::ops::Bound;
 
-use crate::{
-    ffi, Cursor, Drained, Entry, Inserted, Map, NotPlaced, Query, Refusal, Removed, Spot, Step,
-    Tally, Ticket, U,
-};
-
-/// The calls of one kind, public or opened.
-pub(crate) struct Calls {
-    remove: ffi::Remove,
-    insert: ffi::Insert,
-    read: ffi::Read,
-    write_image: ffi::WriteImage,
-    fresh_exact: ffi::FreshExact,
-    step: ffi::Step,
-    step_ruled: ffi::StepRuled,
-    step_exact: ffi::StepExact,
-    drain: ffi::Drain,
-    drain_ruled: ffi::DrainRuled,
-    drain_exact: ffi::DrainExact,
-    plain: ffi::Plain,
-    plain_ruled: ffi::PlainRuled,
-    plain_exact: ffi::PlainExact,
-    find_all: ffi::FindAll,
-    find_all_ruled: ffi::FindAllRuled,
-    find_all_exact: ffi::FindAllExact,
-}
-
-/// They check the store.
-pub(crate) static PUBLIC: Calls = Calls {
-    remove: ffi::iset_remove,
-    insert: ffi::iset_insert,
-    read: ffi::iset_read,
-    write_image: ffi::iset_write_image,
-    fresh_exact: ffi::iset_fresh_exact,
-    step: ffi::iset_step,
-    step_ruled: ffi::iset_step_ruled,
-    step_exact: ffi::iset_step_exact,
-    drain: ffi::iset_drain,
-    drain_ruled: ffi::iset_drain_ruled,
-    drain_exact: ffi::iset_drain_exact,
-    plain: ffi::iset_plain,
-    plain_ruled: ffi::iset_plain_ruled,
-    plain_exact: ffi::iset_plain_exact,
-    find_all: ffi::iset_find_all,
-    find_all_ruled: ffi::iset_find_all_ruled,
-    find_all_exact: ffi::iset_find_all_exact,
-};
-
-/// They do not.
-pub(crate) static OPENED: Calls = Calls {
-    remove: ffi::iset_open_remove,
-    insert: ffi::iset_open_insert,
-    read: ffi::iset_open_read,
-    write_image: ffi::iset_open_write_image,
-    fresh_exact: ffi::iset_open_fresh_exact,
-    step: ffi::iset_open_step,
-    step_ruled: ffi::iset_open_step_ruled,
-    step_exact: ffi::iset_open_step_exact,
-    drain: ffi::iset_open_drain,
-    drain_ruled: ffi::iset_open_drain_ruled,
-    drain_exact: ffi::iset_open_drain_exact,
-    plain: ffi::iset_open_plain,
-    plain_ruled: ffi::iset_open_plain_ruled,
-    plain_exact: ffi::iset_open_plain_exact,
-    find_all: ffi::iset_open_find_all,
-    find_all_ruled: ffi::iset_open_find_all_ruled,
-    find_all_exact: ffi::iset_open_find_all_exact,
-};
+use super::calls::ALONE;
+use super::{Inserted, Map, Removed};
+use crate::ffi::{self, Calls};
+use crate::{Cursor, Drained, Entry, NotPlaced, Query, Refusal, Spot, Step, Tally, Ticket, U};
 
 /// A map and slices that a call reads.
 #[derive(Clone, Copy, Debug)]
@@ -166,14 +103,14 @@ impl LentMut<'_> {
         let mut answer = [0; 3];
         // SAFETY: the slices and the answer are live during the call. Those that it writes are
         // borrowed by `&mut`, so they overlap nothing and nobody else uses them.
-        told(unsafe { replace!(ffi::iset_build, self, list, answer) })?;
+        told(unsafe { replace!(ALONE.build, self, list, answer) })?;
         self.replaced(answer)
     }
 
     pub fn read_image(&mut self, image: &[u8]) -> Result<(), Refusal> {
         let mut answer = [0; 3];
         // SAFETY: as in `build`.
-        told(unsafe { replace!(ffi::iset_read_image, self, image, answer) })?;
+        told(unsafe { replace!(ALONE.read_image, self, image, answer) })?;
         self.replaced(answer)
     }
 
@@ -229,20 +166,20 @@ impl LentMut<'_> {
 impl Lent<'_> {
     pub fn check(self) -> Result<(), Refusal> {
         // SAFETY: the slices are live during the call, which only reads them.
-        told(unsafe { call!(ffi::iset_check, self, as_ptr;;) })
+        told(unsafe { call!(ALONE.check, self, as_ptr;;) })
     }
 
     pub fn check_disjoint(self) -> Result<(), Refusal> {
         // SAFETY: as in `check`.
-        told(unsafe { call!(ffi::iset_disjoint_check, self, as_ptr;;) })
+        told(unsafe { call!(ALONE.disjoint_check, self, as_ptr;;) })
     }
 
     /// The entry that holds an address, in a disjoint map.
     #[inline]
-    pub fn point(self, call: ffi::Point, address: u64) -> Result<Spot, Refusal> {
+    pub fn point(self, calls: &Calls, address: u64) -> Result<Spot, Refusal> {
         let mut answer = [0; 2];
         // SAFETY: as in `begin`.
-        told(unsafe { call!(call, self, as_ptr; address; answer) })?;
+        told(unsafe { call!(calls.disjoint_point, self, as_ptr; address; answer) })?;
         let [slot, entered] = answer;
         Ok(Spot { slot, entered })
     }

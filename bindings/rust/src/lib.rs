@@ -21,6 +21,9 @@
 //!
 //! The functions of [`image`] look an address up in a saved map, over its bytes alone.
 //!
+//! The types of [`narrow`] are the same for nodes of six words a slot, which take three quarters of
+//! the memory.
+//!
 #![cfg_attr(iset_linked, doc = "```")]
 #![cfg_attr(not(iset_linked), doc = "```no_run")]
 //! use iset_proved::{Query, Store};
@@ -48,25 +51,42 @@
 #![no_std]
 #![warn(missing_docs)]
 
+/// Where an example in the documentation takes its names from: the types of eight-word nodes are
+/// here. The modules changes, disjoint, hits, lent, map and store are compiled twice. They take what
+/// differs from the module above them, `super`: here, and in [`narrow`].
+macro_rules! using {
+    ($names:literal) => {
+        concat!("use iset_proved::", $names, ";")
+    };
+}
+
 mod answers;
+mod changes;
 mod disjoint;
 pub mod ffi;
 mod hits;
 pub mod image;
 mod lent;
 mod map;
+pub mod narrow;
 mod query;
 mod refusal;
 mod store;
 mod ticket;
 
-pub use answers::{Cursor, Drained, Inserted, Removed, Step, Tally};
-pub use disjoint::{DisjointMap, DisjointStore, NotPlaced, Spot};
+/// The calls on eight-word nodes.
+mod calls {
+    pub(crate) use crate::ffi::{ALONE, OPENED, PUBLIC};
+}
+
+pub use answers::{Cursor, Drained, Entry, NotPlaced, Spot, Step, Tally};
+pub use changes::{Inserted, Removed};
+pub use disjoint::{DisjointMap, DisjointStore};
 pub use hits::Hits;
 pub use map::Map;
 pub use query::{Query, Rule};
 pub use refusal::Refusal;
-pub use store::{Entries, Entry, Store, StoreRef};
+pub use store::{Entries, Store, StoreRef};
 pub use ticket::Ticket;
 
 /// No slot: the root of the map of no entries, and a link that leads nowhere.
@@ -86,9 +106,12 @@ pub const MOST_ENTRIES: usize = 65535;
 /// assert_eq!(iset_proved::capacity(400, 1), 8);
 /// ```
 pub fn capacity(nodes: usize, colours: usize) -> usize {
-    (nodes / NODE_WORDS)
-        .min(colours.saturating_mul(8))
-        .min(MOST_ENTRIES)
+    room(nodes / NODE_WORDS, colours)
+}
+
+/// How many entries so many slots, the colours and [`MOST_ENTRIES`] leave room for.
+fn room(slots: usize, colours: usize) -> usize {
+    slots.min(colours.saturating_mul(8)).min(MOST_ENTRIES)
 }
 
 /// How many bytes the image of a map of so many entries has.
@@ -112,4 +135,8 @@ const _: () = {
     shared::<Hits<'static>>();
     shared::<(Query, Entry, Refusal, Ticket)>();
     shared::<(Removed, Inserted, Cursor, Step, Drained, Tally)>();
+    shared::<(narrow::Map, narrow::Store<'static>)>();
+    shared::<(narrow::StoreRef<'static>, narrow::Entries<'static, 1>)>();
+    shared::<(narrow::DisjointMap, narrow::DisjointStore<'static>)>();
+    shared::<(narrow::Hits<'static>, narrow::Removed, narrow::Inserted)>();
 };

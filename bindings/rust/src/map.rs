@@ -1,9 +1,8 @@
 //! The map by value: its calls take the memory, and each checks all of it.
-use crate::lent::{Lent, LentMut, PUBLIC};
-use crate::{
-    Cursor, Drained, Entry, Hits, Inserted, Query, Refusal, Removed, Step, StoreRef, Tally, Ticket,
-    U,
-};
+use super::calls::PUBLIC;
+use super::lent::{Lent, LentMut};
+use super::{Hits, Inserted, Removed, StoreRef};
+use crate::{Cursor, Drained, Entry, Query, Refusal, Step, Tally, Ticket, U};
 
 /// A map: how many entries it has, in slots 0 to count - 1, the slot of its root, and its version.
 #[derive(Clone, Copy, Debug, PartialEq, Eq)]
@@ -90,16 +89,16 @@ impl Map {
     ///
     #[cfg_attr(iset_linked, doc = "```")]
     #[cfg_attr(not(iset_linked), doc = "```no_run")]
-    /// use iset_proved::{image_len, Map, Refusal};
+    #[doc = using!("{image_len, Map, Refusal, NODE_WORDS}")]
     ///
     /// # fn main() -> Result<(), Refusal> {
-    /// let (mut nodes, mut colours) = ([0; 3 * 8], [0; 1]);
+    /// let (mut nodes, mut colours) = ([0; 3 * NODE_WORDS], [0; 1]);
     /// let list = [10, 20, 1, 10, 30, 2, 25, 40, 3];
     /// let map = Map::new().build(&mut nodes, &mut colours, &list)?;
     /// let mut image = [0; image_len(3)];
     /// assert_eq!(map.write_image(&nodes, &colours, &mut image), Ok(153));
     ///
-    /// let (mut words, mut bits) = ([0; 3 * 8], [0; 1]);
+    /// let (mut words, mut bits) = ([0; 3 * NODE_WORDS], [0; 1]);
     /// let back = Map::new().read_image(&mut words, &mut bits, &image)?;
     /// assert_eq!((back, words, bits), (map, nodes, colours));
     /// image[8] = 2;
@@ -157,10 +156,10 @@ impl Map {
     ///
     #[cfg_attr(iset_linked, doc = "```")]
     #[cfg_attr(not(iset_linked), doc = "```no_run")]
-    /// use iset_proved::{Map, Refusal};
+    #[doc = using!("{Map, Refusal, NODE_WORDS}")]
     ///
     /// # fn main() -> Result<(), Refusal> {
-    /// let (mut nodes, mut colours) = ([0; 2 * 8], [0; 1]);
+    /// let (mut nodes, mut colours) = ([0; 2 * NODE_WORDS], [0; 1]);
     /// let first = Map::new().insert(&mut nodes, &mut colours, 15, 30, 8)?;
     /// let second = first.map.insert(&mut nodes, &mut colours, 10, 20, 7)?;
     /// assert_eq!((first.slot, second.slot), (0, 1));
@@ -261,10 +260,10 @@ impl Map {
     ///
     #[cfg_attr(iset_linked, doc = "```")]
     #[cfg_attr(not(iset_linked), doc = "```no_run")]
-    /// use iset_proved::{Map, Query, Refusal};
+    #[doc = using!("{Map, Query, Refusal, NODE_WORDS}")]
     ///
     /// # fn main() -> Result<(), Refusal> {
-    /// let (mut nodes, mut colours, mut out) = ([0; 3 * 8], [0; 1], [7; 3]);
+    /// let (mut nodes, mut colours, mut out) = ([0; 3 * NODE_WORDS], [0; 1], [7; 3]);
     /// let list = [10, 20, 1, 10, 30, 2, 25, 40, 3];
     /// let map = Map::new().build(&mut nodes, &mut colours, &list)?;
     /// let found = map.plain(&nodes, &colours, Query::overlap(20..30), &mut out)?;
@@ -293,10 +292,10 @@ impl Map {
     ///
     #[cfg_attr(iset_linked, doc = "```")]
     #[cfg_attr(not(iset_linked), doc = "```no_run")]
-    /// use iset_proved::{Map, Query, Refusal};
+    #[doc = using!("{Map, Query, Refusal, NODE_WORDS}")]
     ///
     /// # fn main() -> Result<(), Refusal> {
-    /// let (mut nodes, mut colours, mut out) = ([0; 3 * 8], [0; 1], [7; 2]);
+    /// let (mut nodes, mut colours, mut out) = ([0; 3 * NODE_WORDS], [0; 1], [7; 2]);
     /// let list = [10, 20, 1, 10, 30, 2, 25, 40, 3];
     /// let map = Map::new().build(&mut nodes, &mut colours, &list)?;
     /// let found = map.find_all(&nodes, &colours, Query::at(27), &mut out)?;

@@ -2,8 +2,10 @@
 use core::iter::FusedIterator;
 use core::ops::{Range, RangeBounds};
 
-use crate::lent::{Lent, LentMut, OPENED};
-use crate::{Hits, Map, Query, Refusal, Removed, Tally, Ticket, NODE_WORDS};
+use super::calls::OPENED;
+use super::lent::{Lent, LentMut};
+use super::{Hits, Map, Removed, NODE_WORDS};
+use crate::{Entry, Query, Refusal, Tally, Ticket};
 
 /// How many hits an iterator fetches at a time. A call that continues tests its cursor, one link a
 /// level, and an exact one searches for its beginning again: that costs if few are fetched.
@@ -12,17 +14,6 @@ const MANY: usize = 64;
 /// The same for the entries at an address: they are few, and there the size of the array itself
 /// costs.
 const FEW: usize = 8;
-
-/// An entry of a store.
-#[derive(Clone, Debug, PartialEq, Eq)]
-pub struct Entry {
-    /// Its slot, which is valid until the next removal: see [`Removed::slot_after`] and [`Ticket`].
-    pub slot: u64,
-    /// The addresses that it holds.
-    pub range: Range<u64>,
-    /// The value that was given with the range.
-    pub value: u64,
-}
 
 /// A checked map over memory that nobody writes while it is borrowed. It can be copied and sent to
 /// other threads.
@@ -179,10 +170,10 @@ impl<'m> StoreRef<'m> {
 ///
 #[cfg_attr(iset_linked, doc = "```")]
 #[cfg_attr(not(iset_linked), doc = "```no_run")]
-/// use iset_proved::{Query, Refusal, Store};
+#[doc = using!("{Query, Refusal, Store, NODE_WORDS}")]
 ///
 /// # fn main() -> Result<(), Refusal> {
-/// let (mut nodes, mut colours) = ([0; 4 * 8], [0; 1]);
+/// let (mut nodes, mut colours) = ([0; 4 * NODE_WORDS], [0; 1]);
 /// let list = [[10, 20, 1], [10, 30, 2], [25, 40, 3]];
 /// let mut store = Store::build(&mut nodes, &mut colours, &list)?;
 /// assert_eq!(store.insert(25..40, 4)?, 3);
@@ -388,10 +379,10 @@ impl<'m> Store<'m> {
     ///
     #[cfg_attr(iset_linked, doc = "```")]
     #[cfg_attr(not(iset_linked), doc = "```no_run")]
-    /// use iset_proved::{Query, Refusal, Store};
+    #[doc = using!("{Query, Refusal, Store, NODE_WORDS}")]
     ///
     /// # fn main() -> Result<(), Refusal> {
-    /// let (mut nodes, mut colours, mut out) = ([0; 3 * 8], [0; 1], [7; 3]);
+    /// let (mut nodes, mut colours, mut out) = ([0; 3 * NODE_WORDS], [0; 1], [7; 3]);
     /// let list = [[10, 20, 1], [10, 30, 2], [25, 40, 3]];
     /// let store = Store::build(&mut nodes, &mut colours, &list)?;
     /// let found = store.find_all(Query::overlap(20..30), &mut out)?;
