@@ -179,6 +179,7 @@ macro_rules! layout {
                 let not = store.insert(1..2, 3).unwrap_err();
                 assert_eq!((Some(not.why), not.slot), (OPENED, U));
                 assert_eq!(store.remove(0).err(), OPENED);
+                assert!(catch_unwind(AssertUnwindSafe(|| store.at(1))).is_err());
             }
         }
     };
