@@ -2,6 +2,7 @@
 use core::ops::Range;
 
 use super::calls::{OPENED, PUBLIC};
+use super::hits::refused;
 use super::lent::{Lent, LentMut};
 use super::{Inserted, Map, Removed, StoreRef};
 use crate::{Entry, NotPlaced, Refusal, Spot};
@@ -191,10 +192,16 @@ impl<'m> DisjointStore<'m> {
     }
 
     /// The entry that holds an address. There is at most one.
+    ///
+    /// # Panics
+    ///
+    /// If the lookup is refused. The archives that belong to this crate never do that.
     #[inline]
     pub fn at(&self, address: u64) -> Option<Entry> {
-        let spot = self.point(address).ok()?;
-        self.get(spot.slot)
+        match self.point(address) {
+            Ok(spot) => self.get(spot.slot),
+            Err(why) => refused(why),
+        }
     }
 
     /// The slot of the entry that holds an address, and how many nodes were entered.

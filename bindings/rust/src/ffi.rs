@@ -65,7 +65,7 @@ macro_rules! alone {
 }
 
 /// Declares public calls and their opened forms: each on nodes of eight words and of six, the type
-/// of all four, and tables of them, so that a wrapper is written once and takes one table or another.
+/// of all four, and tables of them, so that a wrapper is written once and takes a table.
 macro_rules! pairs {
     ($(
         $(#[$doc:meta])*

@@ -99,8 +99,8 @@ impl<'m, B: AsRef<[u64]> + AsMut<[u64]>> Hits<'m, B> {
 /// An answer that cannot be: the query was accepted, or is an address, the store is borrowed, and
 /// the cursor is the last answer's own (the theorem `cursor-accepted` of crate iset).
 #[cold]
-fn refused(why: Refusal) -> ! {
-    panic!("a lookup that had begun was refused: {why}; are the archives of another version?")
+pub(crate) fn refused(why: Refusal) -> ! {
+    panic!("a lookup of a checked store was refused: {why}; are the archives of another version?")
 }
 
 impl<B: AsRef<[u64]> + AsMut<[u64]>> Iterator for Hits<'_, B> {

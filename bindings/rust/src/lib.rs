@@ -52,8 +52,8 @@
 #![warn(missing_docs)]
 
 /// Where an example in the documentation takes its names from: the types of eight-word nodes are
-/// here. The modules changes, disjoint, hits, lent, map and store are compiled twice. They take what
-/// differs from the module above them, `super`: here, and in [`narrow`].
+/// here. The modules changes, disjoint, hits, lent, map and store are compiled twice. They take
+/// what differs from the module above them, `super`: here, and in [`narrow`].
 macro_rules! using {
     ($names:literal) => {
         concat!("use iset_proved::", $names, ";")

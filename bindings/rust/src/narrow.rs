@@ -1,12 +1,12 @@
 //! The same map on nodes of six words a slot: start, end, value, hull start, hull end, links.
 //!
 //! A slot is below 65,535, so the three links of a node fit one word, 16 bits each: left in the
-//! lowest bits, then right, then parent. 65535 is a link that leads nowhere, and the top 16 bits are
-//! 0. So the nodes take three quarters of the memory that eight words a slot take. An insertion and
-//! a removal take longer. docs/MANUAL.md, at the top of the repository, says when to choose it.
+//! lowest bits, then right, then parent. 65535 is a link that leads nowhere, and the top 16 bits
+//! are 0. So the nodes take three quarters of the memory that eight words a slot take. An insertion
+//! and a removal take longer. docs/MANUAL.md, at the top of the repository, says when to choose it.
 //!
-//! Every type here has the name, the methods and the answers of the type at the top of the crate. If
-//! a program says [`NODE_WORDS`] for the words of a node, the path of its `use` decides on the
+//! Every type here has the name, the methods and the answers of the type at the top of the crate.
+//! If a program says [`NODE_WORDS`] for the words of a node, the path of its `use` decides on the
 //! layout. Each call returns what the call at the top returns on the same nodes in eight words, and
 //! leaves the same map and the same nodes (the theorem `agrees-both` of crate layouts).
 //!

@@ -1,6 +1,7 @@
-//! An archive of another version. It refuses every call with a number that this crate does not know:
-//! a public call with 77, an opened one with 78, and on six-word nodes with 87 and 88. No call may
-//! pass that off as an answer. The archive is the functions below, so the real one is not linked.
+//! An archive of another version. It refuses every call with a number that this crate does not
+//! know: a public call with 77, an opened one with 78, and on six-word nodes with 87 and 88. No call
+//! may pass that off as an answer. The archive is the functions below, so the real one is not
+//! linked.
 #![cfg(not(iset_linked))]
 use std::panic::{catch_unwind, AssertUnwindSafe};
 
@@ -128,8 +129,8 @@ macro_rules! layout {
                 assert_eq!((nodes, colours, out), ([0; 16], [0; 1], [0; 2]));
             }
 
-            /// Lookups that a sound archive never refuses have no `Result`. They panic rather than end
-            /// early.
+            /// Lookups that a sound archive never refuses have no `Result`. They panic rather than
+            /// end early.
             #[test]
             fn stores() {
                 let (mut nodes, mut colours, mut out) = ([0; 16], [0; 1], [0; 2]);
@@ -179,6 +180,7 @@ macro_rules! layout {
                 let not = store.insert(1..2, 3).unwrap_err();
                 assert_eq!((Some(not.why), not.slot), (OPENED, U));
                 assert_eq!(store.remove(0).err(), OPENED);
+                assert!(catch_unwind(AssertUnwindSafe(|| store.at(1))).is_err());
             }
         }
     };

@@ -1,5 +1,5 @@
-//! Six-word nodes beside eight-word nodes, on the same map, by chance: every call answers the same, and
-//! leaves the same words once the links are unpacked. The tests need the archives: without
+//! Six-word nodes beside eight-word nodes, on the same map, by chance: every call returns the same,
+//! and leaves the same words once the links are unpacked. The tests need the archives: without
 //! ISET_LIB_DIR there is nothing here to run.
 #![cfg(iset_linked)]
 use core::ops::Bound;
@@ -611,8 +611,8 @@ fn an_emptied_slot() {
     assert_eq!(nodes[..30], [0, 0, 0, 0, 0, NO_LINKS].repeat(5));
 }
 
-/// One of the top 16 bits set below the count, or all bits of a root's links: no call passes it. From
-/// the count on nobody reads them.
+/// One of the top 16 bits set below the count, or all bits of a root's links: no call passes it.
+/// From the count on nobody reads them.
 #[test]
 fn top_bits() {
     let (map, nodes, colours) = store_a();
