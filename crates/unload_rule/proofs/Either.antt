@@ -15,8 +15,8 @@ use Rattle.unload_rule.specs.Sweep.{Sweep}
 use Rattle.unload_rule.specs.Swept.{stay, going, Swept}
 use Rattle.unload_rule.proofs.Lists.{stay-going, stay-stay, stay-same, or-swap}
 
-same : (g g′ : Entry → Bool) (l : List Entry) → stay (λ e. g e || g′ e) l ≡ stay (λ e. g′ e || g e) l
-same g g′ l = stay-same (λ e. g e || g′ e) (λ e. g′ e || g e) l (λ e. or-swap (g e) (g′ e))
+pub either-same : (g g′ : Entry → Bool) (l : List Entry) → stay (λ e. g e || g′ e) l ≡ stay (λ e. g′ e || g e) l
+either-same g g′ l = stay-same (λ e. g e || g′ e) (λ e. g′ e || g e) l (λ e. or-swap (g e) (g′ e))
 
 -- one after the other
 module _ (W C : List ℕ) (n r : ℕ) (P : Passes W C n r) (g g′ : Entry → Bool) (R R′ : Sweep) (a : Swept W C n r g P R)
@@ -41,7 +41,7 @@ module _ (W C : List ℕ) (n r : ℕ) (P : Passes W C n r) (g g′ : Entry → B
     (Q Q′ : Sweep) (c : Swept W C n r g′ P Q)
     (d : Swept (Q .store .words) (Q .store .colours) (Q .count) (Q .store .root) g (c .passes) Q′) where
   pub either-entries : map (entry (R′ .store .words)) (slots (b .passes .tree)) ≡ map (entry (Q′ .store .words)) (slots (d .passes .tree))
-  either-entries = neither W C n r P g g′ R R′ a b ∙ same g g′ (map (entry W) (slots (P .tree))) ∙ sym (neither W C n r P g′ g Q Q′ c d)
+  either-entries = neither W C n r P g g′ R R′ a b ∙ either-same g g′ (map (entry W) (slots (P .tree))) ∙ sym (neither W C n r P g′ g Q Q′ c d)
 
   pub either-total : R .gone + R′ .gone ≡ Q .gone + Q′ .gone
   either-total =
@@ -49,5 +49,5 @@ module _ (W C : List ℕ) (n r : ℕ) (P : Passes W C n r) (g g′ : Entry → B
         arith,
         total W C n r P g g′ R R′ a b,
         total W C n r P g′ g Q Q′ c d,
-        ap (λ (l : List Entry). length l) (same g g′ (map (entry W) (slots (P .tree)))),
+        ap (λ (l : List Entry). length l) (either-same g g′ (map (entry W) (slots (P .tree)))),
       )

@@ -1,7 +1,7 @@
 -- The turns of a sweep one by one, on any words.
 use mathlib.Core.Path.{_≡_, refl}
 use mathlib.Core.Bool.{Bool, true, false, cond}
-use mathlib.Core.List.{List}
+use mathlib.Core.List.{List, [], _∷_}
 use Prim.Native.Nat.{ℕ, zero, suc, _+_, _-_, _<_, _≤_}
 use native.Mathlib.Omega.{arith}
 use lib.Dec.{ltb}
@@ -10,7 +10,7 @@ use Rattle.tree_edit.specs.Store.{Store}
 use Rattle.tree_edit.specs.Inside.{Inside}
 use Rattle.tree_edit.proofs.Inside.{inside-trans}
 use Rattle.tree_rm_rule.proofs.Inside.{removed-inside}
-use Rattle.unload_rule.specs.Sweep.{Sweep, next, less, still, oneMore, sweep}
+use Rattle.unload_rule.specs.Sweep.{Sweep, next, less, still, oneMore, sweep, goneSlots}
 
 module _ (find : List ℕ → ℕ → ℕ → ℕ) where
   -- none is left that goes
@@ -23,6 +23,32 @@ module _ (find : List ℕ → ℕ → ℕ → ℕ) where
   pub sweep-one : (turns : ℕ) (S : Store) (n : ℕ) → next find S n < n → sweep find (suc turns) S n ≡ oneMore (sweep find turns (less S n (next find S n)) (n - 1))
   unfolding sweep
   sweep-one turns S n h = rw (lt-ltb (next find S n) n h)
+
+  -- the slots that go, in the same two cases
+  pub slots-none : (turns : ℕ) (S : Store) (n : ℕ) → n ≤ next find S n → goneSlots find turns S n ≡ []
+  unfolding goneSlots
+  slots-none zero S n h = refl
+  slots-none (suc turns) S n h = rw (le-ltb (next find S n) n h)
+
+  pub slots-one : (turns : ℕ) (S : Store) (n : ℕ) → next find S n < n
+      → goneSlots find (suc turns) S n ≡ next find S n ∷ goneSlots find turns (less S n (next find S n)) (n - 1)
+  unfolding goneSlots
+  slots-one turns S n h = rw (lt-ltb (next find S n) n h)
+
+  -- those left and those that went
+  pub sweep-sum : (turns : ℕ) (S : Store) (n : ℕ) → sweep find turns S n .count + sweep find turns S n .gone ≡ n
+  unfolding sweep
+  sweep-sum zero S n = omega arith
+  sweep-sum (suc turns) S n = go (ltb (next find S n) n) refl (sweep-sum turns (less S n (next find S n)) (n - 1))
+    where
+      R : Bool → Sweep
+      R t = cond t (oneMore (sweep find turns (less S n (next find S n)) (n - 1))) (still S n)
+
+      go : (t : Bool) → ltb (next find S n) n ≡ t
+          → sweep find turns (less S n (next find S n)) (n - 1) .count + sweep find turns (less S n (next find S n)) (n - 1) .gone ≡ n - 1
+          → R t .count + R t .gone ≡ n
+      go true e h = omega (arith, ltb-true (next find S n) n e, h)
+      go false e h = omega arith
 
   -- if none went, all is as it was
   pub sweep-none : (turns : ℕ) (S : Store) (n : ℕ) → sweep find turns S n .gone ≡ 0 → sweep find turns S n ≡ still S n

@@ -8,9 +8,9 @@ use Rattle.tree_edit.specs.Store.{store}
 use Rattle.unload_rule.specs.Sweep.{sweep}
 use Rattle.unload_rule.specs.Unload.{unloadRule}
 use Rattle.first_rule.specs.First.{firstIn}
-use Rattle.unload.proofs.Laws.{over-store, over-count, none-store, none-count, one-store, one-count}
-use Rattle.unload.proofs.unload_from.Statement.{statement}
-use Rattle.unload.proofs.unload_from.Tie as tie
+use Rattle.unload_core.proofs.Laws.{over-store, over-count, none-store, none-count, one-store, one-count}
+use Rattle.unload_core.proofs.unload_from.Statement.{statement}
+use Rattle.unload_core.proofs.unload_from.Tie as tie
 
 abbrev Inv-loop : tie.InvT-loop
 Inv-loop nodes₀ narrow colours₀ count root range left₀ at₀ nodes colours left at =
