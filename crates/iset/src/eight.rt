@@ -87,13 +87,7 @@ impl Map {
         self.open_remove_in(nodes, false, colours, slot)
     }
 
-    pub fn unload(
-        self,
-        nodes: &mut [u64],
-        colours: &mut [u8],
-        rule: u64,
-        range: Span,
-    ) -> Unloading
+    pub fn unload(self, nodes: &mut [u64], colours: &mut [u8], rule: u64, range: Span) -> Unloading
         ensures { λ r. ⌜ effect (unloadAnswer self r) (now (nodes .exit)) (now (colours .exit))
             ≡ unloadCall self (now (nodes .entry)) (now (colours .entry)) rule range ⌝ }
     {
