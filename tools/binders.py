@@ -155,6 +155,9 @@ MEANINGS = {
     'first_rule': """
         D way down; W words; n count; k link; d slot further down; l nodes further down; s slot;
         p passes (the test of an end); m:ℕ→Bool admits (the test of a start); a slot behind the link; q range; r root""",
+    'unload_rule': """
+        W words; C colours; n count; r root; s slot that goes next; S store; R:Sweep sweep; q range;
+        g test (which entries go); e entry; l:[Entry] entries; l slots that go later""",
     'image_text': 'I image (its bytes); n count; r root; s slot; m slots to print; k link; v red (whether the slot is)',
     'image_text/Text': 'a left link; b right link; c parent; e entry',
     'image_text/Words': """
@@ -169,7 +172,7 @@ MEANINGS = {
     'iset/Below': 'n count; W words; C colours; X other words; D other colours',
     'iset/Build': 'm map that is replaced',
     'iset/Check': 'k number of a refusal; x next number',
-    'iset/Demands': 'S triples; a slot; t ticket',
+    'iset/Demands': 'S triples; a slot; t ticket; k rule',
     'iset/Fits': 'k number (the limit less 1)',
     'iset/Image': 'v length of an image',
     'iset/Insert': 'a start; b end; v value; S:Store store; k:2 changed hulls',
@@ -183,9 +186,14 @@ MEANINGS = {
     'iset/Remove': 'R removal by the rule; P:Pairs pairs; p pair; a kept slot; k:2 changed hulls',
     'iset/Runs': 'x:Ask call; r:Run rest; i moves; h highest equal node; k slot',
     'iset/Saved': 'o map that is replaced; X words of the target; D colours of the target',
-    'iset/Sequence': 'S:State state; x call; l:[ℕ] triples; l:[Call] calls',
+    'iset/Sequence': 'S:State state; x call; l:[ℕ] triples; l:[Call] calls; k rule',
+    'iset/Unload': 'R:Sweep sweep (what the rule comes to); k rule',
+    'iset/Unloaded': """
+        S:State state; T:State state afterwards; k rule; j second rule; q range; p:Span second range;
+        E:[Entry] entries before""",
     'iset/Versions': """
-        S state; t ticket; l:[ℕ] triples; l:[Call] calls; B state before the builds""",
+        S state; t ticket; l:[ℕ] triples; l:[Call] calls;
+        B state before the builds; k number of a refusal or rule""",
     'iter': """
         Q rules of the lookup; c cursor; s slot; b side (true: left); e entered so far;
         x interval asked for; q range""",
