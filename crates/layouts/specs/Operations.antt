@@ -1,6 +1,6 @@
 -- Every operation that is lent node words, with its arguments; what it answers, and what it leaves.
 -- Letters: m map, M memory, a answer, l triples, x interval or address, I image (its bytes),
---   s slot, e entry, t ticket, q query, c cursor, A any type, k effect or output
+--   s slot, e entry, t ticket, q query, c cursor, A any type, k link or effect or output
 use mathlib.Core.List.{List}
 use Prim.Native.Nat.{ℕ}
 use Rattle.words.specs.declared.interval.Interval.{Interval}
