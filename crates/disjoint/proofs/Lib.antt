@@ -4,6 +4,7 @@ pub mod Placings
 pub mod Takings
 pub mod Opened
 pub mod Sequence
+pub mod Unloads
 pub mod Laws
 pub mod Determined
 pub mod DeterminedIn
