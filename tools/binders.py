@@ -210,6 +210,14 @@ MEANINGS = {
         d word; k word; l more words; [[ℕ]] words""",
     'slots/Working': 'b end',
     'slots/Writing': 'p page; b byte; s text',
+    'tidy_rule': """
+        P plan; W words; C colours; n count; m slots to do; s slot; k link; v new slot; i slot; j other slot;
+        O output; l slots; r root; S:Both store""",
+    'tidy_rule/Plan': """
+        P plan; m slots to ask about; n count; k link; i first place; s slot; l slots; O output; W words; r root""",
+    'tidy_rule/Tidied': """
+        n count; P plan; W words before; C colours before; X words afterwards; D colours afterwards;
+        s old slot; b side (true: left); f field; a slot from the count up""",
     'tree_in_laws': """
         e entry; x slot at which the repair stands; P parent of x; G grandparent of x; u uncle of x;
         b side (true: left); S:ℕ child that comes up; S store; p parent link; t store; X later words;

@@ -1,0 +1,5 @@
+pub mod Plans
+pub mod Settles
+pub mod Moves
+pub mod Renumbers
+pub mod Proposals
