@@ -12,12 +12,12 @@ use Rattle.words.specs.Nodes.{word, kid, par, hull, entry, putKid, putPar}
 use Rattle.words.specs.Layouts.{narrowed, widened}
 use Rattle.words.specs.declared.node.Field.{Field}
 use Rattle.words.specs.declared.node.Field.the-variants.{Start, End, Value, HullStart, HullEnd, Child, Parent}
-use Rattle.words.proofs.Nodes.{length-put, word-put, word-put-slot, word-put-field, inLinks, inParent, kid-putPar, kid-putKid-not}
+use Rattle.words.proofs.Nodes.{length-put, word-put, word-put-slot, word-put-field, inLinks, inParent, kid-putPar, par-putKid, kid-putKid-not}
 use Rattle.bitvec.specs.Colours.{red}
 use Rattle.tree.proofs.Cases.{compare}
 use Rattle.tree.proofs.Slots.{hit-cases, hit-zero}
 use Rattle.tidy_rule.specs.Plan.{renamed}
-use Rattle.tidy_rule.specs.Tidy.{withTag, tagNode, tagged, tag, Both, settle, untagNode, untagged, tidied}
+use Rattle.tidy_rule.specs.Tidy.{withTag, renameKid, tagNode, tagged, tag, Both, settle, untagNode, untagged, tidied}
 use Rattle.tidy_rule.specs.Tidied.{Tidied}
 use Rattle.tidy_rule.proofs.Plans.{Fits, plan-low, plan-one, renamed-cases}
 use Rattle.tidy_rule.proofs.Settles.{Like, Shuffled, Tags, misses-le, settles}
@@ -39,33 +39,48 @@ low x y h = omega arith
 module _ (n : ℕ) (P : List ℕ) where
   -- one node
   module _ (W : List ℕ) (s : ℕ) where
+    abbrev K : List ℕ
+    K = renameKid n P W true s
+
+    abbrev L : List ℕ
+    L = renameKid n P K false s
+
+    length-links : length L ≡ length W
+    unfolding renameKid
+    length-links = simp length-put
+
     length-tagNode : length (tagNode n P W s) ≡ length W
     unfolding tagNode
-    length-tagNode = simp length-put
+    length-tagNode = length-put L Parent s _ ∙ length-links
 
     tagNode-slot : (f : Field) (a : ℕ) → a ≢ s → word (tagNode n P W s) f a ≡ word W f a
-    unfolding tagNode
+    unfolding tagNode renameKid
     tagNode-slot f a d = simp word-put-slot
 
     tagNode-field : (f : Field) (a : ℕ) → inLinks f ≡ false → word (tagNode n P W s) f a ≡ word W f a
-    unfolding tagNode
+    unfolding tagNode renameKid
     tagNode-field f a q =
         word-put-field _ Parent s _ inLinks f a refl q ∙ word-put-field _ (Child false) s _ inLinks f a refl q
         ∙ word-put-field W (Child true) s _ inLinks f a refl q
 
     tagNode-kid : s * 8 + 8 ≤ length W → (b : Bool) → kid (tagNode n P W s) b s ≡ renamed n P (kid W b s)
-    unfolding tagNode
+    unfolding tagNode renameKid
     tagNode-kid m true =
-        kid-putPar _ s _ true s ∙ kid-putKid-not (putKid W true s (renamed n P (kid W true s))) s (renamed n P (kid W false s)) true s
+        kid-putPar L s _ true s ∙ kid-putKid-not K s (renamed n P (kid K false s)) true s
         ∙ word-put W (Child true) s (renamed n P (kid W true s)) m
     tagNode-kid m false =
-        kid-putPar _ s _ false s ∙ word-put (putKid W true s (renamed n P (kid W true s))) (Child false) s (renamed n P (kid W false s)) (rw length-put m)
+        kid-putPar L s _ false s ∙ word-put K (Child false) s (renamed n P (kid K false s)) (rw length-put m)
+        ∙ ap (renamed n P) (kid-putKid-not W s (renamed n P (kid W true s)) false s)
+
+    par-links : par L s ≡ par W s
+    unfolding renameKid
+    par-links = par-putKid K false s _ s ∙ par-putKid W true s _ s
 
     tagNode-par : s * 8 + 8 ≤ length W → par (tagNode n P W s) s ≡ withTag (renamed n P (par W s)) (getD P s 0)
     unfolding tagNode
     tagNode-par m =
-        word-put (putKid (putKid W true s (renamed n P (kid W true s))) false s (renamed n P (kid W false s))) Parent s (withTag (renamed n P (par W s)) (getD P s 0))
-        (simp length-put m)
+        word-put L Parent s (withTag (renamed n P (par L s)) (getD P s 0)) (rw length-links m)
+        ∙ ap (λ (k : ℕ). withTag (renamed n P k) (getD P s 0)) par-links
 
   -- all of them
   module _ (W : List ℕ) where

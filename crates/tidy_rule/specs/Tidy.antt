@@ -2,8 +2,8 @@
 -- places until each is in its own slot; and that number is taken away again. specs/Tidied says what
 -- comes of it.
 -- Letters: W words, C colours, n count, P plan, m slots to do, s slot, k link, v new slot, i slot,
---   j other slot, S store
-use mathlib.Core.Bool.{true, false, cond, _||_}
+--   j other slot, S store, b side (true: left), X later words
+use mathlib.Core.Bool.{Bool, true, false, cond, _||_}
 use mathlib.Core.List.{List}
 use Prim.Native.Nat.{ℕ, zero, suc, _+_, _*_, _/_, _%_}
 use lib.Dec.{eqb, ltb}
@@ -19,10 +19,15 @@ use Rattle.tidy_rule.specs.Plan.{renamed}
 abbrev pub withTag : (link new : ℕ) → ℕ
 withTag k v = widened (narrowed k + v * 65536)
 
+-- a child link of slot s renamed
+unfoldable pub renameKid : (count : ℕ) (plan words : List ℕ) (side : Bool) (slot : ℕ) → List ℕ
+renameKid n P W b s = putKid W b s (renamed n P (kid W b s))
+
 -- the links of slot s renamed, and its new slot above the parent's 16 bits
 unfoldable pub tagNode : (count : ℕ) (plan words : List ℕ) (slot : ℕ) → List ℕ
 tagNode n P W s =
-    putPar (putKid (putKid W true s (renamed n P (kid W true s))) false s (renamed n P (kid W false s))) s (withTag (renamed n P (par W s)) (getD P s 0))
+    let X : List ℕ = renameKid n P (renameKid n P W true s) false s in
+    putPar X s (withTag (renamed n P (par X s)) (getD P s 0))
 
 -- those of the slots below m
 unfoldable pub tagged : (count : ℕ) (plan : List ℕ) (slots : ℕ) (words : List ℕ) → List ℕ
