@@ -217,7 +217,8 @@ MEANINGS = {
         P plan; m slots to ask about; n count; k link; i first place; s slot; l slots; O output; W words; r root""",
     'tidy_rule/Tidied': """
         n count; P plan; W words before; C colours before; X words afterwards; D colours afterwards;
-        s old slot; b side (true: left); f field; a slot from the count up""",
+        s old slot; b side (true: left); f:Field field; f:ℕ→ℕ new slot of each; a slot from the count up;
+        l:Tree left subtree; r:Tree right subtree""",
     'tree_in_laws': """
         e entry; x slot at which the repair stands; P parent of x; G grandparent of x; u uncle of x;
         b side (true: left); S:ℕ child that comes up; S store; p parent link; t store; X later words;

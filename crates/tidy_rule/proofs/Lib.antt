@@ -4,4 +4,5 @@ pub mod Settles
 pub mod Moves
 pub mod Renumbers
 pub mod Proposals
+pub mod Below
 pub mod Three

@@ -18,7 +18,7 @@ use Rattle.plain_rule.proofs.Tours.{entries-are, entered-all}
 use Rattle.tidy_rule.specs.Plan.{renamed, numbered, proposed}
 use Rattle.tidy_rule.specs.Tidied.{Tidied}
 use Rattle.tidy_rule.proofs.Plans.{Fits, fits-by, named-at}
-use Rattle.tidy_rule.proofs.Renumbers.{renumbered, renumbered-tree}
+use Rattle.tidy_rule.proofs.Renumbers.{rename-is, renumbered, renumbered-tree}
 
 -- places in a row
 pub length-numbered : (l : List ℕ) (i : ℕ) (O : List ℕ) → length (numbered i l O) ≡ length O
@@ -151,7 +151,7 @@ module _ (W C : List ℕ) (n r : ℕ) (small : n ≤ 65535) (h : Passes W C n r)
 
       in-order : entries n X (renamed n P r) ≡ count-up 0 n
       in-order =
-          entries-are X D n (renamed n P r) small after ∙ ap slots (renumbered-tree n P W C X D proposal-fits m r small h)
+          entries-are X D n (renamed n P r) small after ∙ ap slots (renumbered-tree n P W C X D proposal-fits m r small h ∙ sym (rename-is (λ s. getD P s 0) (h .tree)))
           ∙ slots-rename (λ s. getD P s 0) (h .tree)
           ∙ ap (map (λ s. getD P s 0)) (sym (entries-are W C n r small h))
           ∙ rw (sym is) at (row O (omega (arith, same-length)))

@@ -22,9 +22,13 @@ use Rattle.tree_edit.proofs.Carried.{carry, datum-carried}
 use Rattle.tree_rm_rule.proofs.Rename.{rename, view-rename}
 use Rattle.tree_rm_rule.proofs.Rows.{rising-entries}
 use Rattle.tidy_rule.specs.Plan.{renamed}
-use Rattle.tidy_rule.specs.Tidied.{Tidied}
+use Rattle.tidy_rule.specs.Tidied.{withSlots, Tidied}
 use Rattle.tidy_rule.proofs.Plans.{Fits, plan-low, plan-one, plan-all, renamed-live, renamed-none}
 use Rattle.tidy_rule.proofs.Settles.{Like, fields}
+
+pub rename-is : (f : ℕ → ℕ) (t : Tree) → rename f t ≡ withSlots f t
+rename-is f leaf = refl
+rename-is f (node l s r) = rw (rename-is f l, rename-is f r) refl
 
 module _ (n : ℕ) (P W C X D : List ℕ) (w : Fits n P) (m : Tidied n P W C X D) where
   abbrev π : ℕ → ℕ
@@ -76,7 +80,7 @@ module _ (n : ℕ) (P W C X D : List ℕ) (w : Fits n P) (m : Tidied n P W C X D
         (λ a o. datum-carried W X (red C) (red D) a (π a) (carry W X a (π a) (m .entries a (live a o)) (m .hulls a (live a o))) (m .colours a (live a o)))
 
     -- the entries in tree order are as they were
-    pub same-entries : map (entry X) (slots (rename π (h .tree))) ≡ map (entry W) (slots (h .tree))
+    same-entries : map (entry X) (slots (rename π (h .tree))) ≡ map (entry W) (slots (h .tree))
     same-entries = entries-view W (red C) X (red D) (rename π (h .tree)) (h .tree) view-is
 
     -- "tree order and shape staying"
@@ -94,10 +98,14 @@ module _ (n : ℕ) (P W C X D : List ℕ) (w : Fits n P) (m : Tidied n P W C X D
           redBlack = redBlack-view W (red C) X (red D) (rename π (h .tree)) (h .tree) view-is (h .redBlack);
         }
 
-    -- the tree is the old one with its slots renamed
-    pub renumbered-tree : renumbered .tree ≡ rename π (h .tree)
+    -- the tree is the old one with other slots
+    pub renumbered-tree : renumbered .tree ≡ withSlots π (h .tree)
     unfolding renumbered
-    renumbered-tree = refl
+    renumbered-tree = rename-is π (h .tree)
+
+    pub renumbered-entries : map (entry X) (slots (renumbered .tree)) ≡ map (entry W) (slots (h .tree))
+    unfolding renumbered
+    renumbered-entries = same-entries
 
     -- a plan that moves nothing leaves what there was
     module _ (same : (s : ℕ) → s < n → getD P s 0 ≡ s) where

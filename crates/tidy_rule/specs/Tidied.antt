@@ -2,7 +2,8 @@
 -- words W and the colours C of a store with the count n. `tidied-unique` of proofs/Renumbers says
 -- that it leaves no choice.
 -- Letters: n count, P plan, W words before, C colours before, X words afterwards, D colours
---   afterwards, s old slot, b side (true: left), f field, a slot from the count up
+--   afterwards, s old slot, b side (true: left), f new slot of each or field, a slot from the count
+--   up, l left subtree, r right subtree
 use mathlib.Core.Path.{_≡_}
 use mathlib.Core.Bool.{Bool}
 use mathlib.Core.List.{List}
@@ -11,7 +12,13 @@ use lib.ListN.{length, getD}
 use Rattle.words.specs.Nodes.{word, kid, par, entry, hull}
 use Rattle.words.specs.declared.node.Field.{Field}
 use Rattle.bitvec.specs.Colours.{red}
+use Rattle.tree.specs.Tree.{Tree, leaf, node}
 use Rattle.tidy_rule.specs.Plan.{renamed}
+
+-- a tree with other slots, and the same shape
+abbrev pub withSlots : (new : ℕ → ℕ) (tree : Tree) → Tree
+withSlots f leaf = leaf
+withSlots f (node l s r) = node (withSlots f l) (f s) (withSlots f r)
 
 -- X and D are the words and the colours afterwards. The node of slot s stands in slot getD P s 0.
 pub record Tidied (n : ℕ) (P W C X D : List ℕ) : Type 0 where
