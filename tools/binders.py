@@ -142,6 +142,9 @@ MEANINGS = {
     'first_rule': """
         D way down; W words; n count; k link; d slot further down; l nodes further down; s slot;
         p passes (the test of an end); m:ℕ→Bool admits (the test of a start); a slot behind the link; q range; r root""",
+    'unload_rule': """
+        W words; C colours; n count; r root; s slot that goes next; S store; R:Sweep sweep; q range;
+        g test (which entries go); e entry; l:[Entry] entries; l slots that go later""",
     'image_text': 'I image (its bytes); n count; r root; s slot; m slots to print; k link; v red (whether the slot is)',
     'image_text/Text': 'a left link; b right link; c parent; e entry',
     'image_text/Words': """

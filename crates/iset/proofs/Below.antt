@@ -49,6 +49,8 @@ use Rattle.iset.specs.Check.{checkRule}
 use Rattle.iset.specs.Build.{buildNumber, refusedBuild, buildList, buildCall}
 use Rattle.iset.specs.Remove.{removeNumber, RemoveAnswer, refusedRemoval, removeReach, removeSlot, removeCall}
 use Rattle.iset.specs.Insert.{insertNumber, InsertAnswer, refusedInsertion, insertReach, insertEntry, insertCall}
+use Rattle.unload_rule.proofs.Below as unloading
+use Rattle.iset.specs.Unload.{unloadNumber, UnloadAnswer, refusedUnloading, unloadRange, unloadCall}
 use Rattle.iset.specs.Lookup.{beginning, startNumber, stepNumber, drainNumber, startCall, stepCall, drainCall}
 use Rattle.iset.specs.Find.{findAllCall}
 use Rattle.iset.specs.Ticket.{readNumber, readBy, readCall}
@@ -60,6 +62,7 @@ use Rattle.iset.proofs.Orders.{remove-order, read-order, insert-order, 
 use Rattle.iset.proofs.Removals as removals
 use Rattle.iset.proofs.Insertions as insertions
 use Rattle.iset.proofs.Readings as readings
+use Rattle.iset.proofs.Unloadings as unloadings
 
 -- the check
 pub check-below : (m : Map) (W C X D : List ℕ) → SameBelow (m .count) W C X D → checkRule m W C ≡ checkRule m X D
@@ -357,6 +360,20 @@ module _ (m : Map) (W C X D : List ℕ) (s : SameBelow (m .count) W C X D) where
         (by-number (λ (a : RemoveAnswer). n) (removeNumber m W C t) (removeSlot m W C t) (removeSlot m X D t) (refusedRemoval m (removeNumber m W C t))
         (λ e. let r = rule-below e in
         record { answers = rw (r .values, r .stores .2, r .pairs, sum-below e); leaves = record { words = r .stores .0; colours = r .stores .1 } }) s)
+
+  -- an unloading
+  module _ (k : ℕ) (q : Span) where
+    same-unloadNumber : unloadNumber m W C k q ≡ unloadNumber m X D k q
+    same-unloadNumber = rw (start-order m W C (Ruled k q), start-order m X D (Ruled k q), check-below m W C X D s)
+
+    pub unload-below : SameEffect n (unloadCall m W C k q) (unloadCall m X D k q)
+    unfolding unloadCall
+    unload-below =
+        rw (← same-unloadNumber)
+        (by-number (λ (a : UnloadAnswer). n) (unloadNumber m W C k q) (unloadRange m W C k q) (unloadRange m X D k q) (refusedUnloading m (unloadNumber m W C k q))
+        (λ e. let h : m .count ≤ capacity (length W) (length C) = check-zero m W C (unloadings.accepts m W C k q e .0) .0 in
+        let r = unloading.unload-below W X C D n (m .root) (byRule k q) (omega arith) (s .words, s .colours, refl) in
+        record { answers = rw (r .gones, r .counts, r .stores .2); leaves = record { words = r .stores .0; colours = r .stores .1 } }) s)
 
   -- an insertion: below the count that it answers
   module _ (e : Entry) where

@@ -25,7 +25,7 @@ use Rattle.iset.specs.declared.Map.{Map}
 use Rattle.iset.proofs.Checks.{check-zero}
 use Rattle.iset.proofs.Removals as removals
 use Rattle.iset.proofs.Insertions as insertions
-use Rattle.iset.proofs.Refusals.{check-refusals, build-refusals, build-leaves, remove-refusals, remove-no, remove-leaves, insert-refusals, insert-no, insert-leaves, read-refusals, read-leaves, start-refusals, start-leaves, step-refusals, step-leaves, drain-refusals, drain-leaves, plain-refusals, plain-leaves, find-all-refusals, find-all-leaves}
+use Rattle.iset.proofs.Refusals.{check-refusals, build-refusals, build-leaves, remove-refusals, remove-no, remove-leaves, insert-refusals, insert-no, insert-leaves, read-refusals, read-leaves, start-refusals, start-leaves, step-refusals, step-leaves, drain-refusals, drain-leaves, plain-refusals, plain-leaves, find-all-refusals, find-all-leaves, unload-refusals, unload-leaves}
 use Rattle.iset.proofs.ImageRefusals.{write-image-refusals, write-image-leaves, read-image-refusals, read-image-leaves}
 use Rattle.iset.proofs.Answers.{build-answers, remove-answers, insert-answers}
 use Rattle.iset.proofs.Runs.{overlap-runs, exact-runs}
@@ -45,6 +45,7 @@ demand-1 m W C =
       find-all = λ q out. find-all-refusals m W C q out;
       write-image = λ out. write-image-refusals m W C out;
       read-image = λ I. read-image-refusals m W C I;
+      unload = λ k q. unload-refusals m W C k q;
       build-leaves = λ S. build-leaves m W C S;
       remove-leaves = λ s. remove-leaves m W C s;
       insert-leaves = λ e. insert-leaves m W C e;
@@ -56,6 +57,7 @@ demand-1 m W C =
       find-all-leaves = λ q out. find-all-leaves m W C q out;
       write-image-leaves = λ out. write-image-leaves m W C out;
       read-image-leaves = λ I. read-image-leaves m W C I;
+      unload-leaves = λ k q. unload-leaves m W C k q;
     }
 
 -- a removal: what the call answers and leaves is what the rule does

@@ -25,6 +25,13 @@ use Rattle.iset.specs.Remove.{RemoveAnswer, removeAnswer}
 use Rattle.iset.specs.declared.Map.{Map}
 use Rattle.iset.specs.declared.remove.Removal.{Removal}
 use Rattle.iset.specs.declared.remove.Removal.the-variants as removal
+use Rattle.iset.specs.Unload.{UnloadAnswer, unloadAnswer}
+use Rattle.iset.specs.declared.unload.Unloading.{Unloading}
+use Rattle.iset.specs.declared.unload.Unloading.the-variants as unloading
+use Rattle.iset.proofs.Map.unload.Reads as unload-reads
+use Rattle.iset.proofs.Map.unload.Kinds as unload-kinds
+use Rattle.iset.proofs.Map.open_unload.Reads as open-unload-reads
+use Rattle.iset.proofs.Map.open_unload.Kinds as open-unload-kinds
 use Rattle.iset.specs.Insert.{InsertAnswer, insertAnswer}
 use Rattle.iset.specs.declared.insert.Insertion.{Insertion}
 use Rattle.iset.specs.declared.insert.Insertion.the-variants as insertion
@@ -166,6 +173,19 @@ pub remove-determined :
     (κs : Lfts 2) (a : K.Dens κs remove-kinds.ps) (r r′ : K.resT remove-kinds.r κs .Denot) (s s′ : AtExit (K.endedOf 2 remove-kinds.ps remove-kinds.r) κs)
     → remove-reads.Post κs a r s → remove-reads.Post κs a r′ s′ → (r ≡ r′) × (now (s .1 .0) ≡ now (s′ .1 .0)) × (now (s .1 .1 .0) ≡ now (s′ .1 .1 .0))
 remove-determined κs a r r′ s s′ p q = same-effect removalAt (removal-back _ r) (removal-back _ r′) p q
+
+-- and an unloading's
+abbrev pub unloadingAt : UnloadAnswer → Unloading
+unloadingAt x = cond (eqb (x .no) 0) (unloading.Done (record { map = x .map; gone = x .gone })) (unloading.Refused (refusalAt (x .no)))
+
+pub unloading-back : (m : Map) (r : Unloading) → unloadingAt (unloadAnswer m r) ≡ r
+unloading-back m (unloading.Done g) = refl
+unloading-back m (unloading.Refused y) = rw (ne-eqb (refusalNumber y) 0 (omega (arith, number-pos y)), at-number y)
+
+pub unload-determined :
+    (κs : Lfts 2) (a : K.Dens κs unload-kinds.ps) (r r′ : K.resT unload-kinds.r κs .Denot) (s s′ : AtExit (K.endedOf 2 unload-kinds.ps unload-kinds.r) κs)
+    → unload-reads.Post κs a r s → unload-reads.Post κs a r′ s′ → (r ≡ r′) × (now (s .1 .0) ≡ now (s′ .1 .0)) × (now (s .1 .1 .0) ≡ now (s′ .1 .1 .0))
+unload-determined κs a r r′ s s′ p q = same-effect unloadingAt (unloading-back _ r) (unloading-back _ r′) p q
 
 -- and an insertion's
 abbrev pub insertionAt : InsertAnswer → Insertion
@@ -339,6 +359,11 @@ pub open-remove-determined :
     (κs : Lfts 2) (a : K.Dens κs open-remove-kinds.ps) (r r′ : K.resT open-remove-kinds.r κs .Denot) (s s′ : AtExit (K.endedOf 2 open-remove-kinds.ps open-remove-kinds.r) κs)
     → open-remove-reads.Post κs a r s → open-remove-reads.Post κs a r′ s′ → (r ≡ r′) × (now (s .1 .0) ≡ now (s′ .1 .0)) × (now (s .1 .1 .0) ≡ now (s′ .1 .1 .0))
 open-remove-determined κs a r r′ s s′ p q = same-effect removalAt (removal-back _ r) (removal-back _ r′) p q
+
+pub open-unload-determined :
+    (κs : Lfts 2) (a : K.Dens κs open-unload-kinds.ps) (r r′ : K.resT open-unload-kinds.r κs .Denot) (s s′ : AtExit (K.endedOf 2 open-unload-kinds.ps open-unload-kinds.r) κs)
+    → open-unload-reads.Post κs a r s → open-unload-reads.Post κs a r′ s′ → (r ≡ r′) × (now (s .1 .0) ≡ now (s′ .1 .0)) × (now (s .1 .1 .0) ≡ now (s′ .1 .1 .0))
+open-unload-determined κs a r r′ s s′ p q = same-effect unloadingAt (unloading-back _ r) (unloading-back _ r′) p q
 
 pub open-insert-determined :
     (κs : Lfts 2) (a : K.Dens κs open-insert-kinds.ps) (r r′ : K.resT open-insert-kinds.r κs .Denot) (s s′ : AtExit (K.endedOf 2 open-insert-kinds.ps open-insert-kinds.r) κs)

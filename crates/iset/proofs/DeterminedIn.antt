@@ -10,7 +10,7 @@ use denote.Ref.{now}
 use Rattle.words.specs.Layouts.{asEight}
 use Rattle.words.proofs.Layouts.{eight-injective}
 use Rattle.iset.specs.Effects.{Effect, effect}
-use Rattle.iset.proofs.Determined.{same-effect, same-output, built-back, builtAt, checked-back, checkedAt, drain-back, drainAt, insertion-back, insertionAt, looked-back, lookedAt, reading-back, readingAt, removal-back, removalAt, started-back, startedAt, stepped-back, steppedAt, written-back, writtenAt}
+use Rattle.iset.proofs.Determined.{same-effect, same-output, built-back, builtAt, checked-back, checkedAt, drain-back, drainAt, insertion-back, insertionAt, looked-back, lookedAt, reading-back, readingAt, removal-back, removalAt, started-back, startedAt, stepped-back, steppedAt, unloading-back, unloadingAt, written-back, writtenAt}
 use Rattle.iset.proofs.Map.check_in.Reads as check-reads
 use Rattle.iset.proofs.Map.check_in.Kinds as check-kinds
 use Rattle.iset.proofs.Map.build_in.Reads as build-reads
@@ -23,6 +23,10 @@ use Rattle.iset.proofs.Map.remove_in.Reads as remove-reads
 use Rattle.iset.proofs.Map.remove_in.Kinds as remove-kinds
 use Rattle.iset.proofs.Map.open_remove_in.Reads as open-remove-reads
 use Rattle.iset.proofs.Map.open_remove_in.Kinds as open-remove-kinds
+use Rattle.iset.proofs.Map.unload_in.Reads as unload-reads
+use Rattle.iset.proofs.Map.unload_in.Kinds as unload-kinds
+use Rattle.iset.proofs.Map.open_unload_in.Reads as open-unload-reads
+use Rattle.iset.proofs.Map.open_unload_in.Kinds as open-unload-kinds
 use Rattle.iset.proofs.Map.read_in.Reads as read-reads
 use Rattle.iset.proofs.Map.read_in.Kinds as read-kinds
 use Rattle.iset.proofs.Map.open_read_in.Reads as open-read-reads
@@ -88,6 +92,16 @@ pub open-remove-in-determined :
     (κs : Lfts 2) (a : K.Dens κs open-remove-kinds.ps) (r r′ : K.resT open-remove-kinds.r κs .Denot) (s s′ : AtExit (K.endedOf 2 open-remove-kinds.ps open-remove-kinds.r) κs)
     → open-remove-reads.Post κs a r s → open-remove-reads.Post κs a r′ s′ → (r ≡ r′) × (now (s .1 .0) ≡ now (s′ .1 .0)) × (now (s .1 .1 .1 .0) ≡ now (s′ .1 .1 .1 .0))
 open-remove-in-determined κs a r r′ s s′ p q = same-effect-in (a .1 .1 .0) removalAt (removal-back _ r) (removal-back _ r′) p q
+
+pub unload-in-determined :
+    (κs : Lfts 2) (a : K.Dens κs unload-kinds.ps) (r r′ : K.resT unload-kinds.r κs .Denot) (s s′ : AtExit (K.endedOf 2 unload-kinds.ps unload-kinds.r) κs)
+    → unload-reads.Post κs a r s → unload-reads.Post κs a r′ s′ → (r ≡ r′) × (now (s .1 .0) ≡ now (s′ .1 .0)) × (now (s .1 .1 .1 .0) ≡ now (s′ .1 .1 .1 .0))
+unload-in-determined κs a r r′ s s′ p q = same-effect-in (a .1 .1 .0) unloadingAt (unloading-back _ r) (unloading-back _ r′) p q
+
+pub open-unload-in-determined :
+    (κs : Lfts 2) (a : K.Dens κs open-unload-kinds.ps) (r r′ : K.resT open-unload-kinds.r κs .Denot) (s s′ : AtExit (K.endedOf 2 open-unload-kinds.ps open-unload-kinds.r) κs)
+    → open-unload-reads.Post κs a r s → open-unload-reads.Post κs a r′ s′ → (r ≡ r′) × (now (s .1 .0) ≡ now (s′ .1 .0)) × (now (s .1 .1 .1 .0) ≡ now (s′ .1 .1 .1 .0))
+open-unload-in-determined κs a r r′ s s′ p q = same-effect-in (a .1 .1 .0) unloadingAt (unloading-back _ r) (unloading-back _ r′) p q
 
 pub read-in-determined :
     (κs : Lfts 2) (a : K.Dens κs read-kinds.ps) (r r′ : K.resT read-kinds.r κs .Denot) (s s′ : AtExit (K.endedOf 2 read-kinds.ps read-kinds.r) κs)

@@ -10,6 +10,7 @@ use borrow.Author.Tests.{lt-ltb, le-ltb, ltb-false, eq-eqb, ne-eqb}
 use Rattle.words.specs.Nodes.{capacity, HasBit, HoldsBits}
 use Rattle.words.specs.Layouts.{asEight, spared}
 use Rattle.words.specs.Refusals.{refusalNumber}
+use Rattle.words.specs.declared.interval.Span.{Span}
 use Rattle.words.specs.declared.node.Entry.{Entry}
 use Rattle.words.specs.declared.refusal.Refusal.{Refusal}
 use Rattle.words.proofs.Refusals.{number-pos}
@@ -18,15 +19,21 @@ use Rattle.tree_rm_rule.specs.Remove as rule
 use Rattle.tree_edit.specs.Store.{Store, store}
 use Rattle.tree_rm.specs.Answers.{removal}
 use Rattle.tree_rm.specs.declared.remove.Removed.{Removed}
+use Rattle.iter.specs.Ranges.{byRule}
+use Rattle.unload_rule.specs.Sweep.{Sweep}
+use Rattle.unload_rule.specs.Unload.{unloadRule}
+use Rattle.unload_rule.proofs.Ranges.{unload-sum}
+use Rattle.unload_core.specs.declared.Left.{Left}
 use Rattle.iset.specs.Effects.{Effect, effect}
 use Rattle.iset.specs.Check.{checkNumber}
-use Rattle.iset.specs.Maps.{mapAt, raised}
+use Rattle.iset.specs.Maps.{mapAt, raised, raisedBy}
 use Rattle.iset.specs.Remove.{openRemoveNumber, RemoveAnswer, refusedRemoval, removeDone}
 use Rattle.iset.specs.declared.Map.{Map}
 use Rattle.iset.specs.Build.{buildNumber, BuildAnswer, refusedBuild}
 use Rattle.iset.specs.declared.Checked.{Checked}
 use Rattle.iset.specs.declared.Checked.the-variants.{Sound, Refused}
 use Rattle.iset.specs.Insert.{openInsertNumber, InsertAnswer, refusedInsertion, insertDone}
+use Rattle.iset.specs.Unload.{UnloadAnswer, refusedUnloading, unloadDone, unloadRange}
 use Rattle.iset.proofs.Layouts.{held-few, held-six, held-eight}
 use Rattle.iset.proofs.Removals.{open-accepts}
 use Rattle.iset.proofs.Insertions as insertions
@@ -109,6 +116,9 @@ module _ (k : ℕ) (t : Checked) (z : Refusal) (e : checkNumber t ≡ k) (q : t 
   pub refused-insertion : (m : Map) → effect (refusedInsertion m (refusalNumber z)) W C ≡ effect (refusedInsertion m k) W C
   refused-insertion m = ap (λ (i : ℕ). effect (refusedInsertion m i) W C) same-number
 
+  pub refused-unloading : (m : Map) → effect (refusedUnloading m (refusalNumber z)) W C ≡ effect (refusedUnloading m k) W C
+  refused-unloading m = ap (λ (i : ℕ). effect (refusedUnloading m i) W C) same-number
+
 -- what the tests of a removal leave: a slot that is there, in slices with places
 module _ (m : Map) (narrow : Bool) (N C : List ℕ) (s : ℕ) (t : Checked) (e : checkNumber t ≡ openRemoveNumber m (asEight narrow N) C s)
     (q : t ≡ Sound) where
@@ -160,3 +170,22 @@ pub inserted-entry : (r : ℕ) (X K : List ℕ) (S : Store) → store X K r ≡ 
     → _≡_ {A = Effect InsertAnswer} (effect (record { no = 0; slot = m .count; map = mapAt (m .count + 1) r v; reach = j }) X K)
     (effect (insertDone m S k) (S .words) (S .colours))
 inserted-entry r X K S e m j k v f g = rw g (λ t. effect (insertDone m (e t) (f t)) (e t .words) (e t .colours))
+
+-- what the unloading's code answers and leaves; w is the range by its rule
+module _ (m : Map) (W C : List ℕ) (w : Span) (a : Left) (f : a .count ≡ unloadRule W C (m .count) (m .root) w .count) where
+  pub left-fewer : a .count ≤ m .count
+  left-fewer = omega (arith, f, unload-sum W C (m .count) (m .root) w)
+
+  pub gone-few : (g : ℕ) → g ≡ m .count - a .count → m .count ≤ 65535 → g ≤ 65535
+  gone-few g e h = omega arith
+
+  module _ (k : ℕ) (q : Span) (i : w ≡ byRule k q) (X K : List ℕ) (e : store X K (a .root) ≡ unloadRule W C (m .count) (m .root) w .store)
+      (g v : ℕ) (j : g ≡ m .count - a .count) (z : v ≡ raisedBy (m .version) g) where
+    gone-is : g ≡ unloadRule W C (m .count) (m .root) w .gone
+    gone-is = omega (arith, j, f, unload-sum W C (m .count) (m .root) w)
+
+    pub unloaded-range :
+        _≡_ {A = Effect UnloadAnswer} (effect (record { no = 0; gone = g; map = mapAt (a .count) (a .root) v }) X K) (unloadRange m W C k q)
+    unloaded-range =
+        rw (← i, z)
+        (λ t. effect (record { no = 0; gone = gone-is t; map = mapAt (f t) (e t .root) (raisedBy (m .version) (gone-is t)) }) (e t .words) (e t .colours))

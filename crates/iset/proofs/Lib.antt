@@ -5,6 +5,7 @@ pub mod Removals
 pub mod After
 pub mod Insertions
 pub mod Images
+pub mod Unloadings
 pub mod Opened
 pub mod Sequence
 pub mod Versions
@@ -31,4 +32,5 @@ pub mod Determined
 pub mod DeterminedIn
 pub mod Demands
 pub mod Saves
+pub mod Unloads
 pub mod Fits

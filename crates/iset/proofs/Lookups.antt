@@ -8,7 +8,7 @@ use native.Mathlib.Omega.{arith}
 use lib.ListN.{length}
 use lib.Dec.{ltb}
 use borrow.Author.Tests.{ltb-false, lt-ltb, le-ltb, eq-eqb, ne-eqb}
-use Rattle.words.specs.Nodes.{capacity}
+use Rattle.words.specs.Nodes.{capacity, HoldsBits}
 use Rattle.words.specs.Layouts.{asEight, spared}
 use Rattle.words.specs.Refusals.{refusalNumber}
 use Rattle.words.specs.Intervals.{admits, proper}
@@ -110,6 +110,9 @@ module _ (m : Map) (narrow : Bool) (N C : List ℕ) (q : Query) (t : Checked) (s
 
     pub start-eight : m .count * 8 ≤ length N + spared narrow
     start-eight = held-eight narrow N (length C) (m .count) started
+
+    pub start-bytes : HoldsBits C (m .count)
+    start-bytes = omega (arith, started)
 
   module _ (c : Cursor) where
     fit : openStepNumber m W C q c ≡ 0 → (m .count ≤ capacity (length W) (length C)) × Placed (m .count) c

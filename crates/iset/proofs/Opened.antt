@@ -10,6 +10,7 @@ use lib.Dec.{eqb}
 use borrow.Author.Tests.{ne-eqb}
 use Rattle.words.specs.Refusals.{refusalNumber}
 use Rattle.words.specs.declared.interval.Interval.{Interval}
+use Rattle.words.specs.declared.interval.Span.{Span}
 use Rattle.words.specs.declared.node.Entry.{Entry}
 use Rattle.words.specs.declared.refusal.Refusal.{Refusal}
 use Rattle.words.proofs.Refusals.{number-pos}
@@ -25,6 +26,7 @@ use Rattle.iset.specs.Plain.{plainNumber, openPlainCall, plainCall}
 use Rattle.iset.specs.Find.{openFindAllCall, findAllCall}
 use Rattle.iset.specs.Image.{WriteAnswer, refusedWrite, writeImageNumber, openWriteImageCall, writeImageCall}
 use Rattle.iset.specs.Ticket.{ReadAnswer, refusedReading, readNumber, openReadCall, readCall}
+use Rattle.iset.specs.Unload.{UnloadAnswer, refusedUnloading, openUnloadCall, unloadCall}
 use Rattle.iset.specs.declared.Map.{Map}
 use Rattle.iset.specs.declared.ticket.Ticket.{Ticket}
 use Rattle.iset.specs.declared.Checked.{Checked}
@@ -69,6 +71,10 @@ module _ (m : Map) (W C : List ℕ) (h : checkRule m W C ≡ 0) where
   unfolding openRemoveCall removeCall removeNumber
   remove-is s = rw h refl
 
+  pub unload-is : (k : ℕ) (q : Span) → openUnloadCall m W C k q ≡ unloadCall m W C k q
+  unfolding openUnloadCall unloadCall startNumber
+  unload-is k q = rw h refl
+
   pub insert-is : (e : Entry) → openInsertCall m W C e ≡ insertCall m W C e
   unfolding openInsertCall insertCall insertNumber roomThenCheck openInsertNumber
   insert-is e = rw (h, twice (fullNumber m W C)) refl
@@ -108,6 +114,9 @@ module _ (m : Map) (W C : List ℕ) (t : Checked) (e : checkNumber t ≡ checkRu
     pub remove-through : (s : ℕ) (r : Effect RemoveAnswer) → r ≡ openRemoveCall m W C s → r ≡ removeCall m W C s
     remove-through s r p = p ∙ remove-is m W C sound s
 
+    pub unload-through : (k : ℕ) (y : Span) (r : Effect UnloadAnswer) → r ≡ openUnloadCall m W C k y → r ≡ unloadCall m W C k y
+    unload-through k y r p = p ∙ unload-is m W C sound k y
+
   module _ (z : Refusal) (q : t ≡ Refused z) where
     broken : checkRule m W C ≡ refusalNumber z
     broken = sym e ∙ ap checkNumber q
@@ -143,6 +152,10 @@ module _ (m : Map) (W C : List ℕ) (t : Checked) (e : checkNumber t ≡ checkRu
     pub remove-away : (s : ℕ) → effect (refusedRemoval m (refusalNumber z)) W C ≡ removeCall m W C s
     unfolding removeCall removeNumber
     remove-away s = rw (broken, some z, some z)
+
+    pub unload-away : (k : ℕ) (y : Span) → effect (refusedUnloading m (refusalNumber z)) W C ≡ unloadCall m W C k y
+    unfolding unloadCall startNumber
+    unload-away k y = rw (broken, some z, some z)
 
 -- an insertion's, which finds a full store before the check
 module _ (m : Map) (W C : List ℕ) (t : Checked) (f : checkNumber t ≡ roomThenCheck m W C) (e : Entry) where

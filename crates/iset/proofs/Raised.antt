@@ -1,17 +1,21 @@
--- The version after one call: raised if the call is accepted, left if it is refused. On any words.
+-- The version after one call: raised if the call is accepted, by as many as went if it is an
+-- unloading, and left if it is refused. On any words.
 use mathlib.Core.Path.{_≡_, refl}
 use mathlib.Core.Bool.{Bool, true, false, cond}
 use mathlib.Core.List.{List}
-use Prim.Native.Nat.{ℕ}
+use Prim.Native.Nat.{ℕ, _<_}
+use native.Mathlib.Omega.{arith}
 use lib.ListN.{length}
 use lib.Dec.{eqb}
+use Rattle.words.specs.declared.interval.Span.{Span}
 use Rattle.words.specs.declared.node.Entry.{Entry}
 use Rattle.iset.specs.Effects.{Effect, effect}
-use Rattle.iset.specs.Maps.{raised}
+use Rattle.iset.specs.Maps.{raised, raisedBy}
 use Rattle.iset.specs.Build.{buildNumber, BuildAnswer, refusedBuild, buildList, buildCall}
 use Rattle.iset.specs.Remove.{removeNumber, RemoveAnswer, refusedRemoval, removeSlot, removeCall}
 use Rattle.iset.specs.Insert.{insertNumber, InsertAnswer, refusedInsertion, insertEntry, insertCall}
 use Rattle.iset.specs.Image.{readImageNumber, readStore, readImageCall}
+use Rattle.iset.specs.Unload.{unloadNumber, UnloadAnswer, refusedUnloading, unloadRange, unloadCall}
 use Rattle.iset.specs.Versions.{versionAfter}
 use Rattle.iset.specs.declared.Map.{Map}
 use Rattle.iset.proofs.Refusals.{build-no, remove-no, insert-no}
@@ -58,3 +62,15 @@ module _ (m : Map) (W C : List ℕ) where
       rw (read-image-no m W C I)
       (by-number (λ (c : Effect BuildAnswer). c .answer .map .version) (m .version) (readImageNumber (length W) (length C) I) (readStore m W C I)
       (effect (refusedBuild m (readImageNumber (length W) (length C) I)) W C) refl refl)
+
+  pub unload-version : m .version < 4294967296 → (k : ℕ) (q : Span)
+      → unloadCall m W C k q .answer .map .version ≡ raisedBy (m .version) (unloadCall m W C k q .answer .gone)
+  unfolding unloadCall
+  unload-version h k q = go (eqb (unloadNumber m W C k q) 0)
+    where
+      c : Bool → Effect UnloadAnswer
+      c t = cond t (unloadRange m W C k q) (effect (refusedUnloading m (unloadNumber m W C k q)) W C)
+
+      go : (t : Bool) → c t .answer .map .version ≡ raisedBy (m .version) (c t .answer .gone)
+      go true = refl
+      go false = omega arith

@@ -52,7 +52,8 @@ use Rattle.iset.specs.Lookup.{ordered, accepts, queryNumber, beginning, 
 use Rattle.iset.specs.Tallies.{TallyAnswer, tallyAnswer, refusedTally}
 use Rattle.iset.specs.Plain.{plainNumber, plainCall}
 use Rattle.iset.specs.Find.{findAllCall}
-use Rattle.iset.specs.Refusals.{Rows, accept, refuse, Exactly, NoSuch, Stale, BadRange, BadRuled, BadInterval, NoForm, BadCursor, ShortOutput, checkRows, buildRows, removeRows, insertRows, readRows, startRows, stepRows, drainRows, plainRows, findAllRows}
+use Rattle.iset.specs.Unload.{UnloadAnswer, unloadNumber, refusedUnloading, unloadCall}
+use Rattle.iset.specs.Refusals.{Rows, accept, refuse, Exactly, NoSuch, Stale, BadRange, BadRuled, BadInterval, NoForm, BadCursor, ShortOutput, checkRows, buildRows, removeRows, insertRows, readRows, startRows, stepRows, drainRows, plainRows, findAllRows, unloadRows}
 use Rattle.iset.specs.Ticket.{age, ticketNumber, readNumber, ReadAnswer, readCall}
 use Rattle.iset.specs.declared.Map.{Map}
 use Rattle.iset.specs.declared.ticket.Ticket.{Ticket}
@@ -433,6 +434,19 @@ module _ (m : Map) (W C : List ℕ) where
       → findAllCall m W C q out ≡ output (record { no = findAllCall m W C q out .answer .no; hits = 0; entered = 0 }) out
   unfolding findAllCall
   find-all-leaves q out d = rw (find-all-no q out) (kept (startNumber m W C q) _ _ (λ e. d (find-all-no q out ∙ e)))
+
+  -- an unloading: its range alone
+  pub unload-no : (k : ℕ) (q : Span) → unloadCall m W C k q .answer .no ≡ unloadNumber m W C k q
+  unfolding unloadCall
+  unload-no k q = number-is (λ (a : Effect UnloadAnswer). a .answer .no) (unloadNumber m W C k q) _ _ refl refl
+
+  pub unload-refusals : (k : ℕ) (q : Span) → Exactly (unloadRows m W C k q) (unloadCall m W C k q .answer .no)
+  unload-refusals k q = rw (unload-no k q) (start-row (Ruled k q))
+
+  pub unload-leaves : (k : ℕ) (q : Span) → (unloadCall m W C k q .answer .no ≡ 0 → ⊥)
+      → unloadCall m W C k q ≡ effect (refusedUnloading m (unloadCall m W C k q .answer .no)) W C
+  unfolding unloadCall
+  unload-leaves k q d = rw (unload-no k q) (kept (unloadNumber m W C k q) _ _ (λ e. d (unload-no k q ∙ e)))
 
   module _ (c : Cursor) where
     -- by the form that the test finds

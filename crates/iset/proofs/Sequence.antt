@@ -1,6 +1,6 @@
--- "The store after every build and removal passes the check", and after every insertion and
--- every reading of an image: a build with any number of changes after it, and any public calls one
--- after the other.
+-- "The store after every build and removal passes the check", and after every insertion, every
+-- reading of an image and every unloading: a build with any number of changes after it, and any
+-- public calls one after the other.
 use mathlib.Core.Path.{_≡_, refl, ap}
 use mathlib.Core.Bool.{cond}
 use mathlib.Core.List.{List, [], _∷_}
@@ -11,6 +11,7 @@ use lib.Dec.{eqb}
 use borrow.Author.Tests.{eq-eqb, ne-eqb}
 use Rattle.words.specs.Ix.{U}
 use Rattle.words.specs.Nodes.{capacity}
+use Rattle.words.specs.declared.interval.Span.{Span}
 use Rattle.words.specs.declared.node.Entry.{Entry}
 use Rattle.tree.specs.Tree.{leaf}
 use Rattle.tree.specs.Passes.{Passes}
@@ -26,6 +27,10 @@ use Rattle.tree_changes.proofs.Sequence.{ran}
 use Rattle.image_rule.specs.Layout.{countIn, rootIn}
 use Rattle.image_rule.specs.Stored.{loadedWords, loadedColours}
 use Rattle.image_rule.proofs.Stores.{length-loadedWords, length-loadedColours}
+use Rattle.iter.specs.Ranges.{byRule}
+use Rattle.unload_rule.specs.Sweep.{Sweep}
+use Rattle.unload_rule.specs.Swept.{Swept}
+use Rattle.unload_rule.specs.Unload.{within, unloadRule}
 use Rattle.iset.specs.Effects.{effect}
 use Rattle.iset.specs.Effects as calls
 use Rattle.iset.specs.Check.{checkRule}
@@ -33,15 +38,17 @@ use Rattle.iset.specs.Build.{buildNumber, BuildAnswer, refusedBuild, bui
 use Rattle.iset.specs.Remove.{removeNumber, RemoveAnswer, refusedRemoval, removeSlot, removeCall}
 use Rattle.iset.specs.Insert.{insertNumber, InsertAnswer, refusedInsertion, insertEntry, insertCall}
 use Rattle.iset.specs.Image.{readImageNumber, readStore, readImageCall}
-use Rattle.iset.specs.Maps.{mapAt, emptyMap, nextMap}
-use Rattle.iset.specs.Sequence.{Call, build, remove, insert, read, State, left, removed, inserted, answered, allAnswered, openAnswered, allOpenAnswered}
+use Rattle.iset.specs.Unload.{unloadNumber, UnloadAnswer, refusedUnloading, unloadRange, unloadCall}
+use Rattle.iset.specs.Maps.{mapAt, emptyMap, nextMap, raisedBy}
+use Rattle.iset.specs.Sequence.{Call, build, remove, insert, read, unload, State, left, removed, inserted, unloaded, answered, allAnswered, openAnswered, allOpenAnswered}
 use Rattle.iset.specs.declared.Map.{Map}
 use Rattle.iset.proofs.Builds.{Accepted, accepted, builds}
 use Rattle.iset.proofs.Checks.{check-zero, zero-check}
 use Rattle.iset.proofs.Images as images
 use Rattle.iset.proofs.Insertions as insertions
-use Rattle.iset.proofs.Opened.{remove-is, insert-is}
+use Rattle.iset.proofs.Opened.{remove-is, insert-is, unload-is}
 use Rattle.iset.proofs.Removals as removals
+use Rattle.iset.proofs.Unloadings as unloadings
 
 -- what a build leaves
 abbrev pub builtStore : Map → List ℕ → List ℕ → List ℕ → Store
@@ -135,11 +142,22 @@ module _ (m : Map) (W C : List ℕ) where
         (rw (i .words-length, i .colours-length) (omega (arith, insertions.accepts m W C e z .0))) (insertions.by-rule m W C e z .passes))
         h
 
+    unload-sound : (k : ℕ) (q : Span) → Sound (answered S (unload k q))
+    unfolding unloadCall
+    unload-sound k q =
+        let R : Sweep = unloadRule W C (m .count) (m .root) (byRule k q) in
+        by-number (λ (a : UnloadAnswer). a .map) (unloadNumber m W C k q) (unloadRange m W C k q) (effect (refusedUnloading m (unloadNumber m W C k q)) W C)
+        (λ e. let w : Swept W C (m .count) (m .root) (within (byRule k q)) (check-zero m W C h .1) R = unloadings.by-rule m W C k q h (check-zero m W C h .1) in
+        zero-check (mapAt (R .count) (R .store .root) (raisedBy (m .version) (R .gone))) (R .store .words) (R .store .colours)
+        (rw (w .inside .words-length, w .inside .colours-length) (omega (arith, fits, w .count-is))) (w .passes))
+        h
+
     answered-sound : (x : Call) → Sound (answered S x)
     answered-sound (build l) = build-sound l
     answered-sound (remove s) = remove-sound s
     answered-sound (insert e) = insert-sound e
     answered-sound (read I) = read-sound I
+    answered-sound (unload k q) = unload-sound k q
 
 -- and so do any calls one after the other, refused ones among them
 pub calls-sound : (l : List Call) (S : State) → Sound S → Sound (allAnswered S l)
@@ -154,6 +172,7 @@ opened-call S h (build l) = refl
 opened-call S h (read I) = refl
 opened-call S h (remove s) = ap removed (remove-is (S .map) (S .words) (S .colours) h s)
 opened-call S h (insert e) = ap inserted (insert-is (S .map) (S .words) (S .colours) h e)
+opened-call S h (unload k q) = ap unloaded (unload-is (S .map) (S .words) (S .colours) h k q)
 
 pub opened-calls : (l : List Call) (S : State) → Sound S → allOpenAnswered S l ≡ allAnswered S l
 opened-calls [] S h = refl

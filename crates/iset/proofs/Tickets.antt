@@ -9,11 +9,12 @@ use native.Mathlib.Omega.{arith}
 use lib.Dec.{eqb}
 use borrow.Author.Tests.{eq-eqb}
 use Rattle.iset.specs.Effects.{Effect}
-use Rattle.iset.specs.Maps.{raised}
+use Rattle.iset.specs.Maps.{raised, raisedBy}
 use Rattle.iset.specs.Build.{BuildAnswer}
 use Rattle.iset.specs.Remove.{RemoveAnswer}
 use Rattle.iset.specs.Insert.{InsertAnswer}
-use Rattle.iset.specs.Sequence.{Call, build, remove, insert, read, State, answered, allAnswered, refusalOf, made}
+use Rattle.iset.specs.Unload.{UnloadAnswer}
+use Rattle.iset.specs.Sequence.{Call, build, remove, insert, read, unload, State, answered, allAnswered, refusalOf, once, changesOf, made}
 use Rattle.iset.specs.Ticket.{ticketOf, age, readNumber, readDone, readCall}
 use Rattle.iset.specs.Versions.{versionAfter, readIn}
 use Rattle.iset.specs.declared.ticket.Ticket.{Ticket}
@@ -21,28 +22,34 @@ use Rattle.iset.proofs.Readings as readings
 use Rattle.iset.proofs.Refusals.{build-leaves, remove-leaves, insert-leaves, read-no}
 use Rattle.iset.proofs.Sequence.{Sound, calls-sound}
 use Rattle.iset.proofs.ImageRefusals.{read-image-leaves}
-use Rattle.iset.proofs.Raised.{build-version, remove-version, insert-version, read-image-version}
-use Rattle.iset.proofs.Versions.{raise-one, raise-none, raised-below, age-is}
+use Rattle.iset.proofs.Unloadings.{unload-words}
+use Rattle.iset.proofs.Raised.{build-version, remove-version, insert-version, read-image-version, unload-version}
+use Rattle.iset.proofs.Versions.{raise-more, raised-below, age-is}
 
--- One call raises the version if it was accepted, and leaves it if it was refused.
-call-version : (S : State) (x : Call) → answered S x .map .version ≡ versionAfter (S .map) (refusalOf S x)
-call-version S (build l) = build-version (S .map) (S .words) (S .colours) l
-call-version S (remove s) = remove-version (S .map) (S .words) (S .colours) s
-call-version S (insert e) = insert-version (S .map) (S .words) (S .colours) e
-call-version S (read I) = read-image-version (S .map) (S .words) (S .colours) I
+-- One call raises the version by the changes that it made: by one if it was accepted, by none if it
+-- was refused, by as many as went if it is an unloading.
+by-once : (v k r : ℕ) → v < 4294967296 → r ≡ cond (eqb k 0) (raised v) v → r ≡ raisedBy v (once k)
+by-once v k r h e = go (eqb k 0) e
+  where
+    go : (t : Bool) → r ≡ cond t (raised v) v → r ≡ raisedBy v (cond t 1 0)
+    go true i = i
+    go false i = omega (arith, i)
 
--- and any number of calls: the version counts those that were accepted, modulo 2^32
+call-version : (S : State) (x : Call) → S .map .version < 4294967296 → answered S x .map .version ≡ raisedBy (S .map .version) (changesOf S x)
+call-version S (build l) h = by-once (S .map .version) (refusalOf S (build l)) _ h (build-version (S .map) (S .words) (S .colours) l)
+call-version S (remove s) h = by-once (S .map .version) (refusalOf S (remove s)) _ h (remove-version (S .map) (S .words) (S .colours) s)
+call-version S (insert e) h = by-once (S .map .version) (refusalOf S (insert e)) _ h (insert-version (S .map) (S .words) (S .colours) e)
+call-version S (read I) h = by-once (S .map .version) (refusalOf S (read I)) _ h (read-image-version (S .map) (S .words) (S .colours) I)
+call-version S (unload k q) h = unload-version (S .map) (S .words) (S .colours) h k q
+
+-- and any number of calls: the version counts the changes that they made, modulo 2^32
 pub version-run : (l : List Call) (S : State) → S .map .version < 4294967296
     → allAnswered S l .map .version ≡ (S .map .version + made S l) % 4294967296
 version-run [] S h = omega arith
-version-run (x ∷ l) S h = go (eqb (refusalOf S x) 0) (call-version S x) (version-run l (answered S x))
-  where
-    go : (t : Bool) → answered S x .map .version ≡ cond t (raised (S .map .version)) (S .map .version)
-        → (answered S x .map .version < 4294967296
-        → allAnswered (answered S x) l .map .version ≡ (answered S x .map .version + made (answered S x) l) % 4294967296)
-        → allAnswered (answered S x) l .map .version ≡ (S .map .version + (cond t 1 0 + made (answered S x) l)) % 4294967296
-    go true e f = f (rw e (raised-below (S .map .version))) ∙ rw e (raise-one (S .map .version) (made (answered S x) l))
-    go false e f = f (rw e h) ∙ rw e (raise-none (S .map .version) (made (answered S x) l))
+version-run (x ∷ l) S h =
+    let e : answered S x .map .version ≡ raisedBy (S .map .version) (changesOf S x) = call-version S x h in
+    version-run l (answered S x) (rw e (raised-below (S .map .version) (changesOf S x)))
+    ∙ rw e (raise-more (S .map .version) (changesOf S x) (made (answered S x) l))
 
 -- A ticket of slot s, taken in S, read after the calls l.
 module _ (S : State) (h : S .map .version < 4294967296) (s : ℕ) (l : List Call) where
@@ -79,22 +86,20 @@ module _ (S : State) (h : S .map .version < 4294967296) (s : ℕ) (l : List Call
     same : made S l ≡ 0 → s < N .map .count → readIn N t .no ≡ 0
     same e i = number ∙ readings.accepted (N .map) (N .words) (N .colours) t (calls-sound l S p) (omega (arith, aged)) i
 
--- A call that is refused leaves the words.
-refused-words : (S : State) (x : Call) → (refusalOf S x ≡ 0 → ⊥) → answered S x .words ≡ S .words
-refused-words S (build l) d = ap (λ (c : Effect BuildAnswer). c .words) (build-leaves (S .map) (S .words) (S .colours) l d)
-refused-words S (remove s) d = ap (λ (c : Effect RemoveAnswer). c .words) (remove-leaves (S .map) (S .words) (S .colours) s d)
-refused-words S (insert e) d = ap (λ (c : Effect InsertAnswer). c .words) (insert-leaves (S .map) (S .words) (S .colours) e d)
-refused-words S (read I) d = ap (λ (c : Effect BuildAnswer). c .words) (read-image-leaves (S .map) (S .words) (S .colours) I d)
+-- A call that makes no change leaves the words.
+refused-by : (k : ℕ) → once k ≡ 0 → k ≡ 0 → ⊥
+refused-by k e i = let z : _≡_ {A = ℕ} 1 0 = rw (eq-eqb k 0 i) at e in omega arith
+
+unmade-call : (S : State) (x : Call) → changesOf S x ≡ 0 → answered S x .words ≡ S .words
+unmade-call S (build l) e = ap (λ (c : Effect BuildAnswer). c .words) (build-leaves (S .map) (S .words) (S .colours) l (refused-by _ e))
+unmade-call S (remove s) e = ap (λ (c : Effect RemoveAnswer). c .words) (remove-leaves (S .map) (S .words) (S .colours) s (refused-by _ e))
+unmade-call S (insert x) e = ap (λ (c : Effect InsertAnswer). c .words) (insert-leaves (S .map) (S .words) (S .colours) x (refused-by _ e))
+unmade-call S (read I) e = ap (λ (c : Effect BuildAnswer). c .words) (read-image-leaves (S .map) (S .words) (S .colours) I (refused-by _ e))
+unmade-call S (unload k q) e = unload-words (S .map) (S .words) (S .colours) k q e
 
 unmade-words : (l : List Call) (S : State) → made S l ≡ 0 → allAnswered S l .words ≡ S .words
 unmade-words [] S z = refl
-unmade-words (x ∷ l) S z = go (refusalOf S x) refl z (unmade-words l (answered S x))
-  where
-    go : (k : ℕ) → refusalOf S x ≡ k → cond (eqb k 0) 1 0 + made (answered S x) l ≡ 0
-        → (made (answered S x) l ≡ 0 → allAnswered (answered S x) l .words ≡ answered S x .words)
-        → allAnswered (answered S x) l .words ≡ S .words
-    go zero e y f = absurd (omega arith)
-    go (suc k) e y f = f (omega arith) ∙ refused-words S x (λ i. omega arith)
+unmade-words (x ∷ l) S z = unmade-words l (answered S x) (omega (arith, z)) ∙ unmade-call S x (omega (arith, z))
 
 -- what is read: the entry that the slot has
 pub reads : (S : State) (t : Ticket) → readIn S t .no ≡ 0 → readIn S t ≡ readDone (S .words) (t .slot)

@@ -2,18 +2,18 @@
 use mathlib.Core.Path.{_≡_}
 use Prim.Native.Nat.{ℕ, _+_, _%_, _<_}
 use native.Mathlib.Omega.{arith}
-use Rattle.iset.specs.Maps.{raised}
+use Rattle.iset.specs.Maps.{raised, raisedBy}
 use Rattle.iset.specs.Ticket.{age}
 
--- one change, or none, and k more
+-- one change, or some, and k more
 pub raise-one : (v k : ℕ) → (raised v + k) % 4294967296 ≡ (v + (1 + k)) % 4294967296
 raise-one v k = omega arith
 
-pub raise-none : (v k : ℕ) → (v + k) % 4294967296 ≡ (v + (0 + k)) % 4294967296
-raise-none v k = omega arith
+pub raise-more : (v j k : ℕ) → (raisedBy v j + k) % 4294967296 ≡ (v + (j + k)) % 4294967296
+raise-more v j k = omega arith
 
-pub raised-below : (v : ℕ) → raised v < 4294967296
-raised-below v = omega arith
+pub raised-below : (v j : ℕ) → raisedBy v j < 4294967296
+raised-below v j = omega arith
 
 -- k changes after the version v
 pub age-is : (v k : ℕ) → v < 4294967296 → age ((v + k) % 4294967296) v ≡ k % 4294967296

@@ -6,8 +6,9 @@ pub mod Remove
 pub mod Insert
 pub mod Image
 pub mod Ticket
-pub mod Sequence
 pub mod Lookup
+pub mod Unload
+pub mod Sequence
 pub mod Runs
 pub mod Tallies
 pub mod Plain
@@ -19,6 +20,7 @@ pub mod Refusals
 pub mod Ruled
 pub mod Versions
 pub mod Saved
+pub mod Unloaded
 pub mod Below
 pub mod Demands
 pub mod Fits

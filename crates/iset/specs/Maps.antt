@@ -20,6 +20,10 @@ emptyMap = mapOf 0 U
 abbrev pub raised : (version : ℕ) → ℕ
 raised v = (v + 1) % 4294967296
 
+-- and by so many changes at once
+abbrev pub raisedBy : (version changes : ℕ) → ℕ
+raisedBy v changes = (v + changes) % 4294967296
+
 -- what a change of the map m comes to
 abbrev pub nextMap : (map : Map) (count root : ℕ) → Map
 nextMap m count root = mapAt count root (raised (m .version))

@@ -1,5 +1,5 @@
--- Document 01's table of refusals, document 02's items 1, 4, 5, 6 and 11, and the fast lookup: for
--- each public call its rows, a refusal's number and when it is given, in the order in which the
+-- Document 01's table of refusals, document 02's items 1, 4, 5, 6, 11 and 13, and the fast lookup:
+-- for each public call its rows, a refusal's number and when it is given, in the order in which the
 -- first is given.
 -- Letters: m map, W words, C colours, k number that is answered or rule or limit, P condition or
 --   proof that the store passes, a lower number, b higher number, y high bound, s slot or stack,
@@ -172,6 +172,10 @@ abbrev pub findAllRows : (map : Map) (words colours : List ℕ) (query : Query) 
 findAllRows m W C (Overlap q) = refuse 1 (NoRoom m W C) (refuse 2 (Broken m W C) (refuse 4 (BadRange (q .lo) (q .hi)) accept))
 findAllRows m W C (Ruled k q) = refuse 1 (NoRoom m W C) (refuse 2 (Broken m W C) (refuse 4 (BadRuled k q) accept))
 findAllRows m W C (Exact x) = startRows m W C x
+
+-- document 02, item 13: unloading a range, "1, 2, 4", 4 as for a lookup by the rule of a number
+abbrev pub unloadRows : (map : Map) (words colours : List ℕ) (rule : ℕ) (range : Span) → Rows
+unloadRows m W C k q = refuse 1 (NoRoom m W C) (refuse 2 (Broken m W C) (refuse 4 (BadRuled k q) accept))
 
 -- document 02, item 6: writing an image, "1, 2, then 9 for a short output"
 abbrev pub writeImageRows : (map : Map) (words colours : List ℕ) (places : ℕ) → Rows

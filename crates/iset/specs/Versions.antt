@@ -8,13 +8,15 @@ use mathlib.Core.List.{List}
 use Prim.Native.Nat.{ℕ, _+_, _%_, _<_, _≤_}
 use lib.Dec.{eqb}
 use Rattle.words.specs.Nodes.{entry}
+use Rattle.words.specs.declared.interval.Span.{Span}
 use Rattle.words.specs.declared.node.Entry.{Entry}
 use Rattle.iset.specs.Check.{checkRule}
-use Rattle.iset.specs.Maps.{raised}
+use Rattle.iset.specs.Maps.{raised, raisedBy}
 use Rattle.iset.specs.Build.{buildCall}
 use Rattle.iset.specs.Remove.{removeCall}
 use Rattle.iset.specs.Insert.{insertCall}
 use Rattle.iset.specs.Image.{readImageCall}
+use Rattle.iset.specs.Unload.{unloadCall}
 use Rattle.iset.specs.Refusals.{Exactly, readRows}
 use Rattle.iset.specs.Sequence.{Call, State, allAnswered, made}
 use Rattle.iset.specs.Ticket.{ticketOf, ReadAnswer, refusedReading, readCall}
@@ -38,6 +40,8 @@ pub record Request4 (S : State) : Type 0 where
   pub remove-raises : (s : ℕ) → let c = removeCall (S .map) (S .words) (S .colours) s in c .answer .map .version ≡ versionAfter (S .map) (c .answer .no)
   pub insert-raises : (e : Entry) → let c = insertCall (S .map) (S .words) (S .colours) e in c .answer .map .version ≡ versionAfter (S .map) (c .answer .no)
   pub read-image-raises : (I : List ℕ) → let c = readImageCall (S .map) (S .words) (S .colours) I in c .answer .map .version ≡ versionAfter (S .map) (c .answer .no)
+  -- item 13: "The version rises by the number removed"; a refusal removes none
+  pub unload-raises : (k : ℕ) (q : Span) → let c = unloadCall (S .map) (S .words) (S .colours) k q in c .answer .map .version ≡ raisedBy (S .map .version) (c .answer .gone)
   pub version-run : (l : List Call) → allAnswered S l .map .version ≡ (S .map .version + made S l) % 4294967296
   -- "reading through it answers the entry or refuses .. 11 Stale, after 2 and before 3"
   pub refusals : (t : Ticket) → Exactly (readRows (S .map) (S .words) (S .colours) t) (readIn S t .no)

@@ -12,9 +12,11 @@ use crate::save::Written;
 use crate::scan::Looked;
 use crate::ticket::Reading;
 use crate::ticket::Ticket;
+use crate::unload::Unloading;
 use iter::Cursor;
 use iter::rules::Query;
 use words::interval::Interval;
+use words::interval::Span;
 ghost use mathlib.Core.Path.{_≡_};
 ghost use Rattle.iset.specs.Build.{buildAnswer, buildCall};
 ghost use Rattle.iset.specs.Check.{checkNumber, checkRule};
@@ -27,6 +29,7 @@ ghost use Rattle.iset.specs.Plain.{openPlainCall, plainCall};
 ghost use Rattle.iset.specs.Remove.{openRemoveCall, removeAnswer, removeCall};
 ghost use Rattle.iset.specs.Tallies.{tallyAnswer};
 ghost use Rattle.iset.specs.Ticket.{openReadCall, readAnswer, readCall};
+ghost use Rattle.iset.specs.Unload.{openUnloadCall, unloadAnswer, unloadCall};
 
 impl Map {
     pub fn check(self, nodes: &[u64], colours: &[u8]) -> Checked
@@ -82,6 +85,32 @@ impl Map {
             ≡ openRemoveCall self (now (nodes .entry)) (now (colours .entry)) slot ⌝ }
     {
         self.open_remove_in(nodes, false, colours, slot)
+    }
+
+    pub fn unload(
+        self,
+        nodes: &mut [u64],
+        colours: &mut [u8],
+        rule: u64,
+        range: Span,
+    ) -> Unloading
+        ensures { λ r. ⌜ effect (unloadAnswer self r) (now (nodes .exit)) (now (colours .exit))
+            ≡ unloadCall self (now (nodes .entry)) (now (colours .entry)) rule range ⌝ }
+    {
+        self.unload_in(nodes, false, colours, rule, range)
+    }
+
+    pub fn open_unload(
+        self,
+        nodes: &mut [u64],
+        colours: &mut [u8],
+        rule: u64,
+        range: Span,
+    ) -> Unloading
+        ensures { λ r. ⌜ effect (unloadAnswer self r) (now (nodes .exit)) (now (colours .exit))
+            ≡ openUnloadCall self (now (nodes .entry)) (now (colours .entry)) rule range ⌝ }
+    {
+        self.open_unload_in(nodes, false, colours, rule, range)
     }
 
     pub fn read(self, nodes: &[u64], colours: &[u8], ticket: Ticket) -> Reading
