@@ -174,6 +174,8 @@ MEANINGS = {
     'iset/Runs': 'x:Ask call; r:Run rest; i moves; h highest equal node; k slot',
     'iset/Saved': 'o map that is replaced; X words of the target; D colours of the target',
     'iset/Sequence': 'S:State state; x call; l:[ℕ] triples; l:[Call] calls',
+    'iset/Tidy': 'k number of a refusal; R:Both store afterwards',
+    'iset/Renumbered': 'S:State state; T state afterwards; X words; D colours; f field; a slot; i place',
     'iset/Versions': """
         S state; t ticket; l:[ℕ] triples; l:[Call] calls; B state before the builds""",
     'iter': """

@@ -98,10 +98,9 @@ module _ (find : List ℕ → ℕ → ℕ → ℕ) where
       let e : raisedBy (S .map .version) (R .gone + 1) ≡ raisedBy (raised (S .map .version)) (R .gone) = omega (arith, raise-one (S .map .version) (R .gone)) in
       let f : changesOf S (remove s) + made (answered S (remove s)) L ≡ 1 + R .gone =
       λ i. one-made S h s l i + (ap (λ (X : State). made X L) (removed-to S h s l) ∙ r .1) i in
-      rw (sweep-one find turns (storeOf S) n l, slots-one find turns (storeOf S) n l)
-      (
+      rw (sweep-one find turns (storeOf S) n l, slots-one find turns (storeOf S) n l) (
         (λ i. record { map = mapAt (R .count) (R .store .root) (e i); words = R .store .words; colours = R .store .colours })
-        ∙ r .0 ∙ ap (λ (X : State). allAnswered X L) (sym (removed-to S h s l)),
+            ∙ r .0 ∙ ap (λ (X : State). allAnswered X L) (sym (removed-to S h s l)),
         omega (arith, f),
       )
 
