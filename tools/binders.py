@@ -159,7 +159,7 @@ MEANINGS = {
     'iset/Below': 'n count; W words; C colours; X other words; D other colours',
     'iset/Build': 'm map that is replaced',
     'iset/Check': 'k number of a refusal; x next number',
-    'iset/Demands': 'S triples; a slot; t ticket',
+    'iset/Demands': 'S triples; a slot; t ticket; k rule',
     'iset/Fits': 'k number (the limit less 1)',
     'iset/Image': 'v length of an image',
     'iset/Insert': 'a start; b end; v value; S:Store store; k:2 changed hulls',
@@ -173,11 +173,16 @@ MEANINGS = {
     'iset/Remove': 'R removal by the rule; P:Pairs pairs; p pair; a kept slot; k:2 changed hulls',
     'iset/Runs': 'x:Ask call; r:Run rest; i moves; h highest equal node; k slot',
     'iset/Saved': 'o map that is replaced; X words of the target; D colours of the target',
-    'iset/Sequence': 'S:State state; x call; l:[ℕ] triples; l:[Call] calls',
+    'iset/Sequence': 'S:State state; x call; l:[ℕ] triples; l:[Call] calls; k rule',
+    'iset/Unload': 'R:Sweep sweep (what the rule comes to); k rule',
+    'iset/Unloaded': """
+        S:State state; T:State state afterwards; k rule; j second rule; q range; p:Span second range;
+        E:[Entry] entries before""",
     'iset/Tidy': 'k number of a refusal; R:Both store afterwards',
     'iset/Renumbered': 'S:State state; T state afterwards; X words; D colours; f field; a slot; i place',
     'iset/Versions': """
-        S state; t ticket; l:[ℕ] triples; l:[Call] calls; B state before the builds""",
+        S state; t ticket; l:[ℕ] triples; l:[Call] calls;
+        B state before the builds; k number of a refusal or rule""",
     'iter': """
         Q rules of the lookup; c cursor; s slot; b side (true: left); e entered so far;
         x interval asked for; q range""",

@@ -38,6 +38,7 @@ use Rattle.iset.specs.Check.{checkRule}
 use Rattle.iset.specs.Build.{BuildAnswer, buildNumber, buildAnswer, buildCall}
 use Rattle.iset.specs.Remove.{RemoveAnswer, removeNumber, removeAnswer, removeCall}
 use Rattle.iset.specs.Insert.{InsertAnswer, insertNumber, insertAnswer, insertCall}
+use Rattle.iset.specs.Unload.{UnloadAnswer, unloadAnswer, unloadCall}
 use Rattle.iset.specs.Ticket.{readAnswer, readCall}
 use Rattle.iset.specs.declared.ticket.Reading.the-variants as reading
 use Rattle.iset.specs.Lookup.{startNumber, startAnswer, startCall, stepAnswer, stepCall, DrainAnswer, drainAnswer, drainCall}
@@ -51,6 +52,8 @@ use Rattle.iset.specs.declared.remove.Removed as removed-payload
 use Rattle.iset.specs.declared.remove.Removal.the-variants as removed-as
 use Rattle.iset.specs.declared.insert.Inserted as inserted-payload
 use Rattle.iset.specs.declared.insert.Insertion.the-variants as inserted-as
+use Rattle.iset.specs.declared.unload.Unloaded as unloaded-payload
+use Rattle.iset.specs.declared.unload.Unloading.the-variants as unloaded-as
 use Rattle.iset.specs.declared.lookup.Started.the-variants as started
 use Rattle.iset.specs.declared.lookup.Stepped.the-variants as stepped
 use Rattle.iset.specs.declared.lookup.Drain.the-variants as drained
@@ -63,6 +66,8 @@ use Rattle.iset.proofs.Map.remove.Reads as remove-reads
 use Rattle.iset.proofs.Map.remove.Kinds as remove-kinds
 use Rattle.iset.proofs.Map.insert.Reads as insert-reads
 use Rattle.iset.proofs.Map.insert.Kinds as insert-kinds
+use Rattle.iset.proofs.Map.unload.Reads as unload-reads
+use Rattle.iset.proofs.Map.unload.Kinds as unload-kinds
 use Rattle.iset.proofs.Map.fresh_exact.Reads as exact-reads
 use Rattle.iset.proofs.Map.fresh_exact.Kinds as exact-kinds
 use Rattle.iset.proofs.Map.step.Reads as step-reads
@@ -161,6 +166,11 @@ pub insert-done : (κs : Lfts 2) (a : K.Dens κs insert-kinds.ps) (r : K.resT in
     → insertCall (a .0) (now (a .1 .0)) (now (a .1 .1 .0)) (record { start = a .1 .1 .1 .0; end = a .1 .1 .1 .1 .0; value = a .1 .1 .1 .1 .1 .0 }) .answer
     ≡ record { no = 0; slot = g .slot; map = g .map; reach = g .reach }
 insert-done κs a r s p g e = ap (λ (c : Effect InsertAnswer). c .answer) (sym p) ∙ ap (insertAnswer (a .0)) e
+
+pub unload-done : (κs : Lfts 2) (a : K.Dens κs unload-kinds.ps) (r : K.resT unload-kinds.r κs .Denot) (s : AtExit (K.endedOf 2 unload-kinds.ps unload-kinds.r) κs)
+    → unload-reads.Post κs a r s → (g : unloaded-payload.Unloaded) → r ≡ unloaded-as.Done g
+    → unloadCall (a .0) (now (a .1 .0)) (now (a .1 .1 .0)) (a .1 .1 .1 .0) (a .1 .1 .1 .1 .0) .answer ≡ record { no = 0; gone = g .gone; map = g .map }
+unload-done κs a r s p g e = ap (λ (c : Effect UnloadAnswer). c .answer) (sym p) ∙ ap (unloadAnswer (a .0)) e
 
 pub read-done : (κs : Lfts 2) (a : K.Dens κs read-kinds.ps) (r : K.resT read-kinds.r κs .Denot) (s : AtExit (K.endedOf 2 read-kinds.ps read-kinds.r) κs)
     → read-reads.Post κs a r s → (e : Entry) → r ≡ reading.Done e

@@ -52,7 +52,7 @@ use Rattle.iset.specs.Lookup.{ordered, accepts, queryNumber, beginning, 
 use Rattle.iset.specs.Tallies.{TallyAnswer, tallyAnswer, refusedTally}
 use Rattle.iset.specs.Plain.{plainNumber, plainCall}
 use Rattle.iset.specs.Find.{findAllCall}
-use Rattle.iset.specs.Unload.{UnloadAnswer, unloadNumber, refusedUnloading, unloadCall}
+use Rattle.iset.specs.Unload.{UnloadAnswer, unloadNumber, refusedUnloading, unloadAnswer, unloadCall}
 use Rattle.iset.specs.Refusals.{Rows, accept, refuse, Exactly, NoSuch, Stale, BadRange, BadRuled, BadInterval, NoForm, BadCursor, ShortOutput, checkRows, buildRows, removeRows, insertRows, readRows, startRows, stepRows, drainRows, plainRows, findAllRows, unloadRows}
 use Rattle.iset.specs.Ticket.{age, ticketNumber, readNumber, ReadAnswer, readCall}
 use Rattle.iset.specs.declared.Map.{Map}
@@ -66,6 +66,8 @@ use Rattle.iset.specs.declared.remove.Removal.{Removal}
 use Rattle.iset.specs.declared.remove.Removal.the-variants as removal
 use Rattle.iset.specs.declared.insert.Insertion.{Insertion}
 use Rattle.iset.specs.declared.insert.Insertion.the-variants as insertion
+use Rattle.iset.specs.declared.unload.Unloading.{Unloading}
+use Rattle.iset.specs.declared.unload.Unloading.the-variants as unloading
 use Rattle.iset.specs.declared.lookup.Drain.{Drain}
 use Rattle.iset.specs.declared.lookup.Drain.the-variants as drained
 use Rattle.iset.specs.declared.scan.Looked.{Looked}
@@ -74,6 +76,8 @@ use Rattle.iset.proofs.Map.insert.Reads as insert-reads
 use Rattle.iset.proofs.Map.insert.Kinds as insert-kinds
 use Rattle.iset.proofs.Map.remove.Reads as remove-reads
 use Rattle.iset.proofs.Map.remove.Kinds as remove-kinds
+use Rattle.iset.proofs.Map.unload.Reads as unload-reads
+use Rattle.iset.proofs.Map.unload.Kinds as unload-kinds
 use Rattle.iset.proofs.Map.drain.Reads as drain-reads
 use Rattle.iset.proofs.Map.drain.Kinds as drain-kinds
 use Rattle.iset.proofs.Map.plain.Reads as plain-reads
@@ -592,6 +596,18 @@ insert-code κs a r s p y e =
     let k : refusalNumber y ≡ insertCall m W C t .answer .no =
     ap (λ (x : Insertion). insertAnswer m x .no) (sym e) ∙ ap (λ (x : Effect InsertAnswer). x .answer .no) p in
     store-left _ _ (p ∙ insert-leaves m W C t (refused-number (insertCall m W C t .answer .no) y k))
+
+pub unload-code : (κs : Lfts 2) (a : K.Dens κs unload-kinds.ps) (r : K.resT unload-kinds.r κs .Denot) (s : AtExit (K.endedOf 2 unload-kinds.ps unload-kinds.r) κs)
+    → unload-reads.Post κs a r s → (y : Refusal) → r ≡ unloading.Refused y → (now (s .1 .0) ≡ now (a .1 .0)) × (now (s .1 .1 .0) ≡ now (a .1 .1 .0))
+unload-code κs a r s p y e =
+    let m : Map = a .0 in
+    let W : List ℕ = now (a .1 .0) in
+    let C : List ℕ = now (a .1 .1 .0) in
+    let t : ℕ = a .1 .1 .1 .0 in
+    let q : Span = a .1 .1 .1 .1 .0 in
+    let k : refusalNumber y ≡ unloadCall m W C t q .answer .no =
+    ap (λ (x : Unloading). unloadAnswer m x .no) (sym e) ∙ ap (λ (x : Effect UnloadAnswer). x .answer .no) p in
+    store-left _ _ (p ∙ unload-leaves m W C t q (refused-number (unloadCall m W C t q .answer .no) y k))
 
 pub drain-code : (κs : Lfts 3) (a : K.Dens κs drain-kinds.ps) (r : K.resT drain-kinds.r κs .Denot) (s : AtExit (K.endedOf 3 drain-kinds.ps drain-kinds.r) κs)
     → drain-reads.Post κs a r s → (y : Refusal) → r ≡ drained.Refused y → now (s .1 .1 .1 .1 .1 .1 .0) ≡ now (a .1 .1 .1 .1 .1 .1 .0)

@@ -2,7 +2,7 @@
 -- answer and leave. A call's rule (specs/Check to Lookup) is what its code is proved to answer and
 -- leave on every input, so a statement about the rules is one about the calls. `proofs/Demands`
 -- proves them.
--- Letters: m map, W words, C colours, r root, S triples, a slot, t ticket, s slot, e entry,
+-- Letters: m map, W words, C colours, r root, S triples, a slot, t ticket, k rule, s slot, e entry,
 --   x interval, q query or range, c cursor, P proof that the store passes, l calls, I image (its
 --   bytes)
 use mathlib.Core.Path.{_≡_}

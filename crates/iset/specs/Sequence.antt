@@ -1,6 +1,6 @@
 -- Public calls one after the other, each on the map that the last one answered.
--- Letters: S state, x call, l triples or calls, s slot, e entry, c effect, a answer, I image (its
---   bytes)
+-- Letters: S state, x call, l triples or calls, k rule, s slot, e entry, q range, c effect,
+--   a answer, I image (its bytes)
 use mathlib.Core.Bool.{cond}
 use mathlib.Core.List.{List, [], _∷_}
 use Prim.Native.Nat.{ℕ, _+_}
@@ -76,7 +76,7 @@ refusalOf S (renumber plan) = renumberCall (S .map) (S .words) (S .colours) plan
 -- how many changes of the map a call made: one if it was not refused; and document 02, item 13:
 -- "The version rises by the number removed, and each of them counts as a change"
 abbrev pub once : (number : ℕ) → ℕ
-once k = cond (eqb k 0) 1 0
+once number = cond (eqb number 0) 1 0
 
 abbrev pub changesOf : (state : State) (call : Call) → ℕ
 changesOf S (build l) = once (refusalOf S (build l))

@@ -1,5 +1,7 @@
 -- Document 02, item 13, as one statement about what the public calls answer and leave: unloading
 -- everything in a range. `proofs/Unloads` proves it.
+-- Letters: S state, k rule, j second rule, q range, p other or second range, E entries before,
+--   e entry, c effect, P proof that the store passes
 use mathlib.Core.Path.{_≡_}
 use mathlib.Core.Bool.{_||_}
 use mathlib.Core.List.{List, map}
@@ -27,27 +29,27 @@ use Rattle.iset.specs.Sequence.{Call, remove, unload, State, answered, a
 use Rattle.iset.specs.Unload.{UnloadAnswer, refusedUnloading, openUnloadCall, unloadCall}
 
 -- the store of a state passes the check
-abbrev pub Good : State → Type 0
+abbrev pub Good : (state : State) → Type 0
 Good S = Passes (S .words) (S .colours) (S .map .count) (S .map .root)
 
 -- the call in a state, and what it answers and leaves in the form of its rule
-abbrev pub unloadIn : State → ℕ → Span → Effect UnloadAnswer
+abbrev pub unloadIn : (state : State) (rule : ℕ) (range : Span) → Effect UnloadAnswer
 unloadIn S k q = unloadCall (S .map) (S .words) (S .colours) k q
 
-abbrev pub unloading : State → ℕ → Span → Sweep
+abbrev pub unloading : (state : State) (rule : ℕ) (range : Span) → Sweep
 unloading S k q =
     let c : Effect UnloadAnswer = unloadIn S k q in
     record { store = store (c .words) (c .colours) (c .answer .map .root); count = c .answer .map .count; gone = c .answer .gone }
 
 -- the slots that it removes, one after the other, each as it is then
-abbrev pub removals : State → ℕ → Span → List Call
+abbrev pub removals : (state : State) (rule : ℕ) (range : Span) → List Call
 removals S k q = map remove (unloadSlots (S .words) (S .colours) (S .map .count) (S .map .root) (byRule k q))
 
 -- two ranges, one after the other, and how many entries went
-abbrev pub afterBoth : State → ℕ → Span → ℕ → Span → State
+abbrev pub afterBoth : (state : State) (rule : ℕ) (range : Span) (second : ℕ) (other : Span) → State
 afterBoth S k q j p = answered (answered S (unload k q)) (unload j p)
 
-abbrev pub bothGone : State → ℕ → Span → ℕ → Span → ℕ
+abbrev pub bothGone : (state : State) (rule : ℕ) (range : Span) (second : ℕ) (other : Span) → ℕ
 bothGone S k q j p = changesOf S (unload k q) + changesOf (answered S (unload k q)) (unload j p)
 
 -- the store of a state passes the check, and these are its entries in tree order

@@ -1,7 +1,7 @@
 -- Document 02, item 4, as one statement about what the public calls answer and leave: the version
 -- and the tickets. `proofs/Rounds` proves it.
--- Letters: m map, S state, t ticket, l triples or calls, B state before the builds, s slot,
---   e entry, k number of a refusal, I image (its bytes)
+-- Letters: m map, S state, t ticket, l triples or calls, B state before the builds, k number of a
+--   refusal or rule, s slot, e entry, q range, I image (its bytes)
 use mathlib.Core.Path.{_≡_}
 use mathlib.Core.Bool.{cond}
 use mathlib.Core.List.{List}

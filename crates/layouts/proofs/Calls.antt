@@ -14,11 +14,12 @@ use Rattle.iset.specs.Check.{checkNumber}
 use Rattle.iset.specs.Build.{BuildAnswer, buildAnswer}
 use Rattle.iset.specs.Insert.{entryOf, InsertAnswer, insertAnswer}
 use Rattle.iset.specs.Remove.{RemoveAnswer, removeAnswer}
+use Rattle.iset.specs.Unload.{UnloadAnswer, unloadAnswer}
 use Rattle.iset.specs.Ticket.{readAnswer}
 use Rattle.iset.specs.Lookup.{startAnswer, stepAnswer, DrainAnswer, drainAnswer}
 use Rattle.iset.specs.Tallies.{TallyAnswer, tallyAnswer}
 use Rattle.iset.specs.Image.{WriteAnswer, writeAnswer}
-use Rattle.layouts.specs.Operations.{Memory, writes, fills, result, check, build, insert, openInsert, remove, openRemove, read, openRead, freshExact, openFreshExact, step, openStep, drain, openDrain, findAll, openFindAll, plain, openPlain, writeImage, openWriteImage, readImage}
+use Rattle.layouts.specs.Operations.{Memory, writes, fills, result, check, build, insert, openInsert, remove, openRemove, unload, openUnload, read, openRead, freshExact, openFreshExact, step, openStep, drain, openDrain, findAll, openFindAll, plain, openPlain, writeImage, openWriteImage, readImage}
 use Rattle.layouts.specs.Does.{seen, Does}
 use Rattle.iset.proofs.Map.check_in.Reads as check-in-reads
 use Rattle.iset.proofs.Map.check_in.Kinds as check-in-kinds
@@ -44,6 +45,14 @@ use Rattle.iset.proofs.Map.open_remove_in.Reads as open-remove-in-reads
 use Rattle.iset.proofs.Map.open_remove_in.Kinds as open-remove-in-kinds
 use Rattle.iset.proofs.Map.open_remove.Reads as open-remove-reads
 use Rattle.iset.proofs.Map.open_remove.Kinds as open-remove-kinds
+use Rattle.iset.proofs.Map.unload_in.Reads as unload-in-reads
+use Rattle.iset.proofs.Map.unload_in.Kinds as unload-in-kinds
+use Rattle.iset.proofs.Map.unload.Reads as unload-reads
+use Rattle.iset.proofs.Map.unload.Kinds as unload-kinds
+use Rattle.iset.proofs.Map.open_unload_in.Reads as open-unload-in-reads
+use Rattle.iset.proofs.Map.open_unload_in.Kinds as open-unload-in-kinds
+use Rattle.iset.proofs.Map.open_unload.Reads as open-unload-reads
+use Rattle.iset.proofs.Map.open_unload.Kinds as open-unload-kinds
 use Rattle.iset.proofs.Map.read_in.Reads as read-in-reads
 use Rattle.iset.proofs.Map.read_in.Kinds as read-in-kinds
 use Rattle.iset.proofs.Map.read.Reads as read-reads
@@ -192,6 +201,34 @@ pub does-open-remove : (κs : Lfts 2) (a : K.Dens κs open-remove-kinds.ps) (r :
     (lent (now (s .1 .0)) (now (s .1 .1 .0)) [])
 unfolding result asEight
 does-open-remove κs a r s p = record { answers = ap (λ (k : Effect RemoveAnswer). k .answer) p; leaves = ap (λ (k : Effect RemoveAnswer). writes (seen false (lent (now (a .1 .0)) (now (a .1 .1 .0)) [])) k .memory) p }
+
+pub does-unload-in : (κs : Lfts 2) (a : K.Dens κs unload-in-kinds.ps) (r : K.resT unload-in-kinds.r κs .Denot) (s : AtExit (K.endedOf 2 unload-in-kinds.ps unload-in-kinds.r) κs)
+    → unload-in-reads.Post κs a r s
+    → Does (a .1 .1 .0) (unload (a .1 .1 .1 .1 .0) (a .1 .1 .1 .1 .1 .0)) (a .0) (lent (now (a .1 .0)) (now (a .1 .1 .1 .0)) []) (unloadAnswer (a .0) r)
+    (lent (now (s .1 .0)) (now (s .1 .1 .1 .0)) [])
+unfolding result
+does-unload-in κs a r s p = record { answers = ap (λ (k : Effect UnloadAnswer). k .answer) p; leaves = ap (λ (k : Effect UnloadAnswer). writes (seen (a .1 .1 .0) (lent (now (a .1 .0)) (now (a .1 .1 .1 .0)) [])) k .memory) p }
+
+pub does-unload : (κs : Lfts 2) (a : K.Dens κs unload-kinds.ps) (r : K.resT unload-kinds.r κs .Denot) (s : AtExit (K.endedOf 2 unload-kinds.ps unload-kinds.r) κs)
+    → unload-reads.Post κs a r s
+    → Does false (unload (a .1 .1 .1 .0) (a .1 .1 .1 .1 .0)) (a .0) (lent (now (a .1 .0)) (now (a .1 .1 .0)) []) (unloadAnswer (a .0) r)
+    (lent (now (s .1 .0)) (now (s .1 .1 .0)) [])
+unfolding result asEight
+does-unload κs a r s p = record { answers = ap (λ (k : Effect UnloadAnswer). k .answer) p; leaves = ap (λ (k : Effect UnloadAnswer). writes (seen false (lent (now (a .1 .0)) (now (a .1 .1 .0)) [])) k .memory) p }
+
+pub does-open-unload-in : (κs : Lfts 2) (a : K.Dens κs open-unload-in-kinds.ps) (r : K.resT open-unload-in-kinds.r κs .Denot) (s : AtExit (K.endedOf 2 open-unload-in-kinds.ps open-unload-in-kinds.r) κs)
+    → open-unload-in-reads.Post κs a r s
+    → Does (a .1 .1 .0) (openUnload (a .1 .1 .1 .1 .0) (a .1 .1 .1 .1 .1 .0)) (a .0) (lent (now (a .1 .0)) (now (a .1 .1 .1 .0)) []) (unloadAnswer (a .0) r)
+    (lent (now (s .1 .0)) (now (s .1 .1 .1 .0)) [])
+unfolding result
+does-open-unload-in κs a r s p = record { answers = ap (λ (k : Effect UnloadAnswer). k .answer) p; leaves = ap (λ (k : Effect UnloadAnswer). writes (seen (a .1 .1 .0) (lent (now (a .1 .0)) (now (a .1 .1 .1 .0)) [])) k .memory) p }
+
+pub does-open-unload : (κs : Lfts 2) (a : K.Dens κs open-unload-kinds.ps) (r : K.resT open-unload-kinds.r κs .Denot) (s : AtExit (K.endedOf 2 open-unload-kinds.ps open-unload-kinds.r) κs)
+    → open-unload-reads.Post κs a r s
+    → Does false (openUnload (a .1 .1 .1 .0) (a .1 .1 .1 .1 .0)) (a .0) (lent (now (a .1 .0)) (now (a .1 .1 .0)) []) (unloadAnswer (a .0) r)
+    (lent (now (s .1 .0)) (now (s .1 .1 .0)) [])
+unfolding result asEight
+does-open-unload κs a r s p = record { answers = ap (λ (k : Effect UnloadAnswer). k .answer) p; leaves = ap (λ (k : Effect UnloadAnswer). writes (seen false (lent (now (a .1 .0)) (now (a .1 .1 .0)) [])) k .memory) p }
 
 pub does-read-in : (κs : Lfts 2) (a : K.Dens κs read-in-kinds.ps) (r : K.resT read-in-kinds.r κs .Denot) (s : AtExit (K.endedOf 2 read-in-kinds.ps read-in-kinds.r) κs)
     → read-in-reads.Post κs a r s

@@ -2,6 +2,7 @@
 use mathlib.Core.List.{List}
 use Prim.Native.Nat.{ℕ}
 use Rattle.words.specs.declared.interval.Interval.{Interval}
+use Rattle.words.specs.declared.interval.Span.{Span}
 use Rattle.words.specs.declared.node.Entry.{Entry}
 use Rattle.iter.specs.declared.Cursor.{Cursor}
 use Rattle.iter.specs.declared.rules.Query.{Query}
@@ -10,6 +11,7 @@ use Rattle.iset.specs.Check.{checkRule}
 use Rattle.iset.specs.Build.{BuildAnswer, buildCall}
 use Rattle.iset.specs.Insert.{InsertAnswer, openInsertCall, insertCall}
 use Rattle.iset.specs.Remove.{RemoveAnswer, openRemoveCall, removeCall}
+use Rattle.iset.specs.Unload.{UnloadAnswer, openUnloadCall, unloadCall}
 use Rattle.iset.specs.Ticket.{ReadAnswer, openReadCall, readCall}
 use Rattle.iset.specs.Lookup.{StartAnswer, openStartCall, startCall, StepAnswer, openStepCall, stepCall, DrainAnswer, openDrainCall, drainCall}
 use Rattle.iset.specs.Tallies.{TallyAnswer}
@@ -31,6 +33,8 @@ pub data Operation : Type 0 where
   openInsert : (entry : Entry) → Operation
   remove : (slot : ℕ) → Operation
   openRemove : (slot : ℕ) → Operation
+  unload : (rule : ℕ) (range : Span) → Operation
+  openUnload : (rule : ℕ) (range : Span) → Operation
   read : (ticket : Ticket) → Operation
   openRead : (ticket : Ticket) → Operation
   freshExact : (interval : Interval) → Operation
@@ -61,6 +65,8 @@ Answer (insert e) = InsertAnswer
 Answer (openInsert e) = InsertAnswer
 Answer (remove s) = RemoveAnswer
 Answer (openRemove s) = RemoveAnswer
+Answer (unload k q) = UnloadAnswer
+Answer (openUnload k q) = UnloadAnswer
 Answer (read t) = ReadAnswer
 Answer (openRead t) = ReadAnswer
 Answer (freshExact x) = StartAnswer
@@ -111,6 +117,8 @@ result (insert e) m M = writes M (insertCall m (M .words) (M .colours) e)
 result (openInsert e) m M = writes M (openInsertCall m (M .words) (M .colours) e)
 result (remove s) m M = writes M (removeCall m (M .words) (M .colours) s)
 result (openRemove s) m M = writes M (openRemoveCall m (M .words) (M .colours) s)
+result (unload k q) m M = writes M (unloadCall m (M .words) (M .colours) k q)
+result (openUnload k q) m M = writes M (openUnloadCall m (M .words) (M .colours) k q)
 result (read t) m M = stays M (readCall m (M .words) (M .colours) t)
 result (openRead t) m M = stays M (openReadCall m (M .words) (M .colours) t)
 result (freshExact x) m M = stays M (startCall m (M .words) (M .colours) x)
@@ -141,6 +149,8 @@ mapAfter (insert e) m a = a .map
 mapAfter (openInsert e) m a = a .map
 mapAfter (remove s) m a = a .map
 mapAfter (openRemove s) m a = a .map
+mapAfter (unload k q) m a = a .map
+mapAfter (openUnload k q) m a = a .map
 mapAfter (read t) m a = m
 mapAfter (openRead t) m a = m
 mapAfter (freshExact x) m a = m
