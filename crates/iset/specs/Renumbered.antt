@@ -1,7 +1,7 @@
 -- Document 02, item 14, as one statement about what the public calls answer and leave: numbering
 -- the slots anew. `proofs/Renumberings` proves it.
--- Letters: S store, s slot, a answer, P proof that the store passes, f field, i place, T other
---   store, X later words, D later colours
+-- Letters: S state, T state afterwards, X words, D colours, f field, a slot, i place, s slot,
+--   P proof that the store passes
 use mathlib.Core.Path.{_≡_}
 use mathlib.Core.List.{List, map}
 use Prim.Native.Nat.{ℕ, _<_, _≤_}
@@ -22,18 +22,18 @@ use Rattle.iset.specs.Tidy.{RenumberAnswer, refusedRenumbering, openProp
 use Rattle.iset.specs.Unloaded.{Good}
 
 -- both calls in a state
-abbrev pub proposeIn : (store : State) (out : List ℕ) → Output ℕ
+abbrev pub proposeIn : (state : State) (out : List ℕ) → Output ℕ
 proposeIn S out = proposeCall (S .map) (S .words) (S .colours) out
 
-abbrev pub renumberIn : (store : State) (plan : List ℕ) → Effect RenumberAnswer
+abbrev pub renumberIn : (state : State) (plan : List ℕ) → Effect RenumberAnswer
 renumberIn S plan = renumberCall (S .map) (S .words) (S .colours) plan
 
 -- the plan that the planner writes: the first places of its output, one for each slot
-abbrev pub proposalOf : (store : State) (out : List ℕ) → List ℕ
+abbrev pub proposalOf : (state : State) (out : List ℕ) → List ℕ
 proposalOf S out = take (S .map .count) (proposeIn S out .output)
 
 -- the state after a renumbering by it
-abbrev pub tidiedBy : (store : State) (out : List ℕ) → State
+abbrev pub tidiedBy : (state : State) (out : List ℕ) → State
 tidiedBy S out = answered S (renumber (proposalOf S out))
 
 -- two states that read the same, slot by slot

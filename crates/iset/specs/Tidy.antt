@@ -1,7 +1,7 @@
 -- Document 02, item 14: "the planner 1, 2, 9 (short output)"; the step that accepts a proposal "15
 -- BadPlan, after 2".
--- Letters: m map, W words, C colours, k number of a refusal, y refusal, g answer of the code,
---   R result
+-- Letters: m map, W words, C colours, k number of a refusal, R store afterwards, y refusal,
+--   g answer of the code
 use mathlib.Core.Bool.{cond}
 use mathlib.Core.List.{List}
 use Prim.Native.Nat.{ℕ}
