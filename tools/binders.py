@@ -191,6 +191,8 @@ MEANINGS = {
     'iset/Unloaded': """
         S:State state; T:State state afterwards; k rule; j second rule; q range; p:Span second range;
         E:[Entry] entries before""",
+    'iset/Tidy': 'k number of a refusal; R:Both store afterwards',
+    'iset/Renumbered': 'S:State state; T state afterwards; X words; D colours; f field; a slot; i place',
     'iset/Versions': """
         S state; t ticket; l:[ℕ] triples; l:[Call] calls;
         B state before the builds; k number of a refusal or rule""",
@@ -231,6 +233,15 @@ MEANINGS = {
         d word; k word; l more words; [[ℕ]] words""",
     'slots/Working': 'b end',
     'slots/Writing': 'p page; b byte; s text',
+    'tidy_rule': """
+        P plan; W words; C colours; n count; m slots to do; s slot; k link; v new slot; i slot; j other slot;
+        O output; l slots; r root; S:Both store""",
+    'tidy_rule/Plan': """
+        P plan; m slots to ask about; n count; k link; i first place; s slot; l slots; O output; W words; r root""",
+    'tidy_rule/Tidied': """
+        n count; P plan; W words before; C colours before; X words afterwards; D colours afterwards;
+        s old slot; b side (true: left); f:Field field; f:ℕ→ℕ new slot of each; a slot from the count up;
+        l:Tree left subtree; r:Tree right subtree""",
     'tree_in_laws': """
         e entry; x slot at which the repair stands; P parent of x; G grandparent of x; u uncle of x;
         b side (true: left); S:ℕ child that comes up; S store; p parent link; t store; X later words;

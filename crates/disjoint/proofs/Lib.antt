@@ -9,4 +9,5 @@ pub mod Laws
 pub mod Determined
 pub mod DeterminedIn
 pub mod Demands
+pub mod Renumberings
 pub mod Three

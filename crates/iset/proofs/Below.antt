@@ -1,7 +1,7 @@
 -- "Slots from count up are not read": on two stores that agree below the count each public call
 -- answers the same and writes the same into its output, and a removal or an insertion leaves stores
 -- that agree below the count that it answers.
-use mathlib.Core.Path.{_≡_, refl}
+use mathlib.Core.Path.{_≡_, refl, sym, _∙_}
 use mathlib.Core.Bool.{Bool, true, false, cond, _&&_}
 use mathlib.Core.List.{List, [], _∷_, _++_}
 use Prim.Native.Nat.{ℕ, zero, suc, _+_, _-_, _/_, _^_, _<_, _≤_}
@@ -56,6 +56,9 @@ use Rattle.iset.specs.Build.{buildNumber, refusedBuild, buildList, build
 use Rattle.iset.specs.Remove.{removeNumber, RemoveAnswer, refusedRemoval, removeReach, removeSlot, removeCall}
 use Rattle.iset.specs.Insert.{insertNumber, InsertAnswer, refusedInsertion, insertReach, insertEntry, insertCall}
 use Rattle.unload_rule.proofs.Below as unloading
+use Rattle.tidy_rule.specs.Tidy.{tidied}
+use Rattle.tidy_rule.proofs.Below as tidying
+use Rattle.iset.specs.Tidy.{proposeNumber, proposeBy, proposeCall, renumberNumber, RenumberAnswer, refusedRenumbering, renumberPlan, renumberCall}
 use Rattle.iset.specs.Unload.{unloadNumber, UnloadAnswer, refusedUnloading, unloadRange, unloadCall}
 use Rattle.iset.specs.Lookup.{beginning, startNumber, stepNumber, drainNumber, startCall, stepCall, drainCall}
 use Rattle.iset.specs.Plain.{plainNumber, plainCall}
@@ -66,11 +69,12 @@ use Rattle.iset.specs.Below.{SameBelow, SameEffect}
 use Rattle.iset.specs.declared.Map.{Map}
 use Rattle.iset.specs.declared.ticket.Ticket.{Ticket}
 use Rattle.iset.proofs.Checks.{check-zero}
-use Rattle.iset.proofs.Orders.{remove-order, read-order, write-image-order, insert-order, start-order, plain-order, step-order, drain-order}
+use Rattle.iset.proofs.Orders.{propose-order, renumber-order, remove-order, read-order, write-image-order, insert-order, start-order, plain-order, step-order, drain-order}
 use Rattle.iset.proofs.Removals as removals
 use Rattle.iset.proofs.Insertions as insertions
 use Rattle.iset.proofs.Readings as readings
 use Rattle.iset.proofs.Unloadings as unloadings
+use Rattle.iset.proofs.Tidyings as tidyings
 
 -- the check
 pub check-below : (m : Map) (W C X D : List ℕ) → SameBelow (m .count) W C X D → checkRule m W C ≡ checkRule m X D
@@ -455,6 +459,36 @@ module _ (m : Map) (W C X D : List ℕ) (s : SameBelow (m .count) W C X D) where
         (λ e. let h : m .count ≤ capacity (length W) (length C) = check-zero m W C (unloadings.accepts m W C k q e .0) .0 in
         let r = unloading.unload-below W X C D n (m .root) (byRule k q) (omega arith) (s .words, s .colours, refl) in
         record { answers = rw (r .gones, r .counts, r .stores .2); leaves = record { words = r .stores .0; colours = r .stores .1 } }) s)
+
+  -- the planner
+  module _ (out : List ℕ) where
+    same-proposeNumber : proposeNumber m W C (length out) ≡ proposeNumber m X D (length out)
+    same-proposeNumber = rw (propose-order m W C (length out), propose-order m X D (length out), check-below m W C X D s)
+
+    pub propose-below : proposeCall m W C out ≡ proposeCall m X D out
+    unfolding proposeCall
+    propose-below = rw (← same-proposeNumber) (go (proposeNumber m W C (length out)) refl)
+      where
+        go : (k : ℕ) → proposeNumber m W C (length out) ≡ k → proposeBy m W out k ≡ proposeBy m X out k
+        go zero e =
+            let c = check-zero m W C (tidyings.propose-accepts m W C (length out) e .0) in
+            let d = check-zero m X D (rw (← check-below m W C X D s) (tidyings.propose-accepts m W C (length out) e .0)) in
+            rw (tidying.proposed-below n W C X D (s .words) (m .root) (omega (arith, c .0)) (c .1) (d .1) out) refl
+        go (suc k) e = rw (ne-eqb (suc k) 0 (λ z. omega arith)) refl
+
+  -- a renumbering
+  module _ (plan : List ℕ) where
+    same-renumberNumber : renumberNumber m W C plan ≡ renumberNumber m X D plan
+    same-renumberNumber = rw (renumber-order m W C plan, renumber-order m X D plan, check-below m W C X D s)
+
+    pub renumber-below : SameEffect n (renumberCall m W C plan) (renumberCall m X D plan)
+    unfolding renumberCall
+    renumber-below =
+        rw (← same-renumberNumber)
+        (by-number (λ (a : RenumberAnswer). n) (renumberNumber m W C plan) (renumberPlan m W C plan) (renumberPlan m X D plan) (refusedRenumbering m (renumberNumber m W C plan))
+        (λ e. let r = tidying.tidied-below n W C X D (s .words) plan _ _ _ _ (tidyings.plan-fits m W C plan e) (s .colours)
+        (tidyings.by-rule m W C plan e) (tidyings.by-rule m X D plan (sym same-renumberNumber ∙ e)) in
+        record { answers = refl; leaves = record { words = r .0; colours = r .1 } }) s)
 
   -- an insertion: below the count that it answers
   module _ (e : Entry) where

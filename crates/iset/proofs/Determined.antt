@@ -32,6 +32,17 @@ use Rattle.iset.proofs.Map.unload.Reads as unload-reads
 use Rattle.iset.proofs.Map.unload.Kinds as unload-kinds
 use Rattle.iset.proofs.Map.open_unload.Reads as open-unload-reads
 use Rattle.iset.proofs.Map.open_unload.Kinds as open-unload-kinds
+use Rattle.iset.specs.Tidy.{RenumberAnswer, renumberAnswer}
+use Rattle.iset.specs.declared.tidy.Renumbering.{Renumbering}
+use Rattle.iset.specs.declared.tidy.Renumbering.the-variants as renumbering
+use Rattle.iset.proofs.Map.propose.Reads as propose-reads
+use Rattle.iset.proofs.Map.propose.Kinds as propose-kinds
+use Rattle.iset.proofs.Map.open_propose.Reads as open-propose-reads
+use Rattle.iset.proofs.Map.open_propose.Kinds as open-propose-kinds
+use Rattle.iset.proofs.Map.renumber.Reads as renumber-reads
+use Rattle.iset.proofs.Map.renumber.Kinds as renumber-kinds
+use Rattle.iset.proofs.Map.open_renumber.Reads as open-renumber-reads
+use Rattle.iset.proofs.Map.open_renumber.Kinds as open-renumber-kinds
 use Rattle.iset.specs.Insert.{InsertAnswer, insertAnswer}
 use Rattle.iset.specs.declared.insert.Insertion.{Insertion}
 use Rattle.iset.specs.declared.insert.Insertion.the-variants as insertion
@@ -186,6 +197,24 @@ pub unload-determined :
     (κs : Lfts 2) (a : K.Dens κs unload-kinds.ps) (r r′ : K.resT unload-kinds.r κs .Denot) (s s′ : AtExit (K.endedOf 2 unload-kinds.ps unload-kinds.r) κs)
     → unload-reads.Post κs a r s → unload-reads.Post κs a r′ s′ → (r ≡ r′) × (now (s .1 .0) ≡ now (s′ .1 .0)) × (now (s .1 .1 .0) ≡ now (s′ .1 .1 .0))
 unload-determined κs a r r′ s s′ p q = same-effect unloadingAt (unloading-back _ r) (unloading-back _ r′) p q
+
+-- the planner's number is the check's, and a renumbering's
+pub propose-determined :
+    (κs : Lfts 3) (a : K.Dens κs propose-kinds.ps) (r r′ : K.resT propose-kinds.r κs .Denot) (s s′ : AtExit (K.endedOf 3 propose-kinds.ps propose-kinds.r) κs)
+    → propose-reads.Post κs a r s → propose-reads.Post κs a r′ s′ → (r ≡ r′) × (now (s .1 .1 .1 .0) ≡ now (s′ .1 .1 .1 .0))
+propose-determined κs a r r′ s s′ p q = same-output checkedAt (checked-back r) (checked-back r′) p q
+
+abbrev pub renumberingAt : RenumberAnswer → Renumbering
+renumberingAt x = cond (eqb (x .no) 0) (renumbering.Done (x .map)) (renumbering.Refused (refusalAt (x .no)))
+
+pub renumbering-back : (m : Map) (r : Renumbering) → renumberingAt (renumberAnswer m r) ≡ r
+renumbering-back m (renumbering.Done g) = refl
+renumbering-back m (renumbering.Refused y) = rw (ne-eqb (refusalNumber y) 0 (omega (arith, number-pos y)), at-number y)
+
+pub renumber-determined :
+    (κs : Lfts 3) (a : K.Dens κs renumber-kinds.ps) (r r′ : K.resT renumber-kinds.r κs .Denot) (s s′ : AtExit (K.endedOf 3 renumber-kinds.ps renumber-kinds.r) κs)
+    → renumber-reads.Post κs a r s → renumber-reads.Post κs a r′ s′ → (r ≡ r′) × (now (s .1 .0) ≡ now (s′ .1 .0)) × (now (s .1 .1 .0) ≡ now (s′ .1 .1 .0))
+renumber-determined κs a r r′ s s′ p q = same-effect renumberingAt (renumbering-back _ r) (renumbering-back _ r′) p q
 
 -- and an insertion's
 abbrev pub insertionAt : InsertAnswer → Insertion
@@ -364,6 +393,16 @@ pub open-unload-determined :
     (κs : Lfts 2) (a : K.Dens κs open-unload-kinds.ps) (r r′ : K.resT open-unload-kinds.r κs .Denot) (s s′ : AtExit (K.endedOf 2 open-unload-kinds.ps open-unload-kinds.r) κs)
     → open-unload-reads.Post κs a r s → open-unload-reads.Post κs a r′ s′ → (r ≡ r′) × (now (s .1 .0) ≡ now (s′ .1 .0)) × (now (s .1 .1 .0) ≡ now (s′ .1 .1 .0))
 open-unload-determined κs a r r′ s s′ p q = same-effect unloadingAt (unloading-back _ r) (unloading-back _ r′) p q
+
+pub open-propose-determined :
+    (κs : Lfts 3) (a : K.Dens κs open-propose-kinds.ps) (r r′ : K.resT open-propose-kinds.r κs .Denot) (s s′ : AtExit (K.endedOf 3 open-propose-kinds.ps open-propose-kinds.r) κs)
+    → open-propose-reads.Post κs a r s → open-propose-reads.Post κs a r′ s′ → (r ≡ r′) × (now (s .1 .1 .1 .0) ≡ now (s′ .1 .1 .1 .0))
+open-propose-determined κs a r r′ s s′ p q = same-output checkedAt (checked-back r) (checked-back r′) p q
+
+pub open-renumber-determined :
+    (κs : Lfts 3) (a : K.Dens κs open-renumber-kinds.ps) (r r′ : K.resT open-renumber-kinds.r κs .Denot) (s s′ : AtExit (K.endedOf 3 open-renumber-kinds.ps open-renumber-kinds.r) κs)
+    → open-renumber-reads.Post κs a r s → open-renumber-reads.Post κs a r′ s′ → (r ≡ r′) × (now (s .1 .0) ≡ now (s′ .1 .0)) × (now (s .1 .1 .0) ≡ now (s′ .1 .1 .0))
+open-renumber-determined κs a r r′ s s′ p q = same-effect renumberingAt (renumbering-back _ r) (renumbering-back _ r′) p q
 
 pub open-insert-determined :
     (κs : Lfts 2) (a : K.Dens κs open-insert-kinds.ps) (r r′ : K.resT open-insert-kinds.r κs .Denot) (s s′ : AtExit (K.endedOf 2 open-insert-kinds.ps open-insert-kinds.r) κs)

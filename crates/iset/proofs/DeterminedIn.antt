@@ -10,7 +10,7 @@ use denote.Ref.{now}
 use Rattle.words.specs.Layouts.{asEight}
 use Rattle.words.proofs.Layouts.{eight-injective}
 use Rattle.iset.specs.Effects.{Effect, effect}
-use Rattle.iset.proofs.Determined.{same-effect, same-output, built-back, builtAt, checked-back, checkedAt, drain-back, drainAt, insertion-back, insertionAt, looked-back, lookedAt, reading-back, readingAt, removal-back, removalAt, started-back, startedAt, stepped-back, steppedAt, unloading-back, unloadingAt, written-back, writtenAt}
+use Rattle.iset.proofs.Determined.{same-effect, same-output, built-back, builtAt, checked-back, checkedAt, drain-back, drainAt, insertion-back, insertionAt, looked-back, lookedAt, reading-back, readingAt, removal-back, removalAt, renumbering-back, renumberingAt, started-back, startedAt, stepped-back, steppedAt, unloading-back, unloadingAt, written-back, writtenAt}
 use Rattle.iset.proofs.Map.check_in.Reads as check-reads
 use Rattle.iset.proofs.Map.check_in.Kinds as check-kinds
 use Rattle.iset.proofs.Map.build_in.Reads as build-reads
@@ -27,6 +27,14 @@ use Rattle.iset.proofs.Map.unload_in.Reads as unload-reads
 use Rattle.iset.proofs.Map.unload_in.Kinds as unload-kinds
 use Rattle.iset.proofs.Map.open_unload_in.Reads as open-unload-reads
 use Rattle.iset.proofs.Map.open_unload_in.Kinds as open-unload-kinds
+use Rattle.iset.proofs.Map.propose_in.Reads as propose-reads
+use Rattle.iset.proofs.Map.propose_in.Kinds as propose-kinds
+use Rattle.iset.proofs.Map.open_propose_in.Reads as open-propose-reads
+use Rattle.iset.proofs.Map.open_propose_in.Kinds as open-propose-kinds
+use Rattle.iset.proofs.Map.renumber_in.Reads as renumber-reads
+use Rattle.iset.proofs.Map.renumber_in.Kinds as renumber-kinds
+use Rattle.iset.proofs.Map.open_renumber_in.Reads as open-renumber-reads
+use Rattle.iset.proofs.Map.open_renumber_in.Kinds as open-renumber-kinds
 use Rattle.iset.proofs.Map.read_in.Reads as read-reads
 use Rattle.iset.proofs.Map.read_in.Kinds as read-kinds
 use Rattle.iset.proofs.Map.open_read_in.Reads as open-read-reads
@@ -102,6 +110,26 @@ pub open-unload-in-determined :
     (κs : Lfts 2) (a : K.Dens κs open-unload-kinds.ps) (r r′ : K.resT open-unload-kinds.r κs .Denot) (s s′ : AtExit (K.endedOf 2 open-unload-kinds.ps open-unload-kinds.r) κs)
     → open-unload-reads.Post κs a r s → open-unload-reads.Post κs a r′ s′ → (r ≡ r′) × (now (s .1 .0) ≡ now (s′ .1 .0)) × (now (s .1 .1 .1 .0) ≡ now (s′ .1 .1 .1 .0))
 open-unload-in-determined κs a r r′ s s′ p q = same-effect-in (a .1 .1 .0) unloadingAt (unloading-back _ r) (unloading-back _ r′) p q
+
+pub propose-in-determined :
+    (κs : Lfts 3) (a : K.Dens κs propose-kinds.ps) (r r′ : K.resT propose-kinds.r κs .Denot) (s s′ : AtExit (K.endedOf 3 propose-kinds.ps propose-kinds.r) κs)
+    → propose-reads.Post κs a r s → propose-reads.Post κs a r′ s′ → (r ≡ r′) × (now (s .1 .1 .1 .1 .0) ≡ now (s′ .1 .1 .1 .1 .0))
+propose-in-determined κs a r r′ s s′ p q = same-output checkedAt (checked-back r) (checked-back r′) p q
+
+pub open-propose-in-determined :
+    (κs : Lfts 3) (a : K.Dens κs open-propose-kinds.ps) (r r′ : K.resT open-propose-kinds.r κs .Denot) (s s′ : AtExit (K.endedOf 3 open-propose-kinds.ps open-propose-kinds.r) κs)
+    → open-propose-reads.Post κs a r s → open-propose-reads.Post κs a r′ s′ → (r ≡ r′) × (now (s .1 .1 .1 .1 .0) ≡ now (s′ .1 .1 .1 .1 .0))
+open-propose-in-determined κs a r r′ s s′ p q = same-output checkedAt (checked-back r) (checked-back r′) p q
+
+pub renumber-in-determined :
+    (κs : Lfts 3) (a : K.Dens κs renumber-kinds.ps) (r r′ : K.resT renumber-kinds.r κs .Denot) (s s′ : AtExit (K.endedOf 3 renumber-kinds.ps renumber-kinds.r) κs)
+    → renumber-reads.Post κs a r s → renumber-reads.Post κs a r′ s′ → (r ≡ r′) × (now (s .1 .0) ≡ now (s′ .1 .0)) × (now (s .1 .1 .1 .0) ≡ now (s′ .1 .1 .1 .0))
+renumber-in-determined κs a r r′ s s′ p q = same-effect-in (a .1 .1 .0) renumberingAt (renumbering-back _ r) (renumbering-back _ r′) p q
+
+pub open-renumber-in-determined :
+    (κs : Lfts 3) (a : K.Dens κs open-renumber-kinds.ps) (r r′ : K.resT open-renumber-kinds.r κs .Denot) (s s′ : AtExit (K.endedOf 3 open-renumber-kinds.ps open-renumber-kinds.r) κs)
+    → open-renumber-reads.Post κs a r s → open-renumber-reads.Post κs a r′ s′ → (r ≡ r′) × (now (s .1 .0) ≡ now (s′ .1 .0)) × (now (s .1 .1 .1 .0) ≡ now (s′ .1 .1 .1 .0))
+open-renumber-in-determined κs a r r′ s s′ p q = same-effect-in (a .1 .1 .0) renumberingAt (renumbering-back _ r) (renumbering-back _ r′) p q
 
 pub read-in-determined :
     (κs : Lfts 2) (a : K.Dens κs read-kinds.ps) (r r′ : K.resT read-kinds.r κs .Denot) (s s′ : AtExit (K.endedOf 2 read-kinds.ps read-kinds.r) κs)

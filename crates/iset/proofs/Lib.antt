@@ -6,6 +6,7 @@ pub mod After
 pub mod Insertions
 pub mod Images
 pub mod Unloadings
+pub mod Tidyings
 pub mod Opened
 pub mod Sequence
 pub mod Versions
@@ -16,6 +17,7 @@ pub mod Found
 pub mod Runs
 pub mod Refusals
 pub mod ImageRefusals
+pub mod TidyRefusals
 pub mod AtOnces
 pub mod Raised
 pub mod Tickets
@@ -33,4 +35,5 @@ pub mod DeterminedIn
 pub mod Demands
 pub mod Saves
 pub mod Unloads
+pub mod Renumberings
 pub mod Fits

@@ -27,6 +27,7 @@ use Rattle.iset.specs.Find.{openFindAllCall, findAllCall}
 use Rattle.iset.specs.Image.{WriteAnswer, refusedWrite, writeImageNumber, openWriteImageCall, writeImageCall}
 use Rattle.iset.specs.Ticket.{ReadAnswer, refusedReading, readNumber, openReadCall, readCall}
 use Rattle.iset.specs.Unload.{UnloadAnswer, refusedUnloading, openUnloadCall, unloadCall}
+use Rattle.iset.specs.Tidy.{proposeNumber, openProposeCall, proposeCall, renumberNumber, RenumberAnswer, refusedRenumbering, openRenumberCall, renumberCall}
 use Rattle.iset.specs.declared.Map.{Map}
 use Rattle.iset.specs.declared.ticket.Ticket.{Ticket}
 use Rattle.iset.specs.declared.Checked.{Checked}
@@ -75,6 +76,14 @@ module _ (m : Map) (W C : List ℕ) (h : checkRule m W C ≡ 0) where
   unfolding openUnloadCall unloadCall startNumber
   unload-is k q = rw h refl
 
+  pub propose-is : (out : List ℕ) → openProposeCall m W C out ≡ proposeCall m W C out
+  unfolding openProposeCall proposeCall proposeNumber
+  propose-is out = rw h refl
+
+  pub renumber-is : (plan : List ℕ) → openRenumberCall m W C plan ≡ renumberCall m W C plan
+  unfolding openRenumberCall renumberCall renumberNumber
+  renumber-is plan = rw h refl
+
   pub insert-is : (e : Entry) → openInsertCall m W C e ≡ insertCall m W C e
   unfolding openInsertCall insertCall insertNumber roomThenCheck openInsertNumber
   insert-is e = rw (h, twice (fullNumber m W C)) refl
@@ -117,6 +126,12 @@ module _ (m : Map) (W C : List ℕ) (t : Checked) (e : checkNumber t ≡ checkRu
     pub unload-through : (k : ℕ) (y : Span) (r : Effect UnloadAnswer) → r ≡ openUnloadCall m W C k y → r ≡ unloadCall m W C k y
     unload-through k y r p = p ∙ unload-is m W C sound k y
 
+    pub propose-through : (out : List ℕ) (r : Output ℕ) → r ≡ openProposeCall m W C out → r ≡ proposeCall m W C out
+    propose-through out r p = p ∙ propose-is m W C sound out
+
+    pub renumber-through : (plan : List ℕ) (r : Effect RenumberAnswer) → r ≡ openRenumberCall m W C plan → r ≡ renumberCall m W C plan
+    renumber-through plan r p = p ∙ renumber-is m W C sound plan
+
   module _ (z : Refusal) (q : t ≡ Refused z) where
     broken : checkRule m W C ≡ refusalNumber z
     broken = sym e ∙ ap checkNumber q
@@ -156,6 +171,14 @@ module _ (m : Map) (W C : List ℕ) (t : Checked) (e : checkNumber t ≡ checkRu
     pub unload-away : (k : ℕ) (y : Span) → effect (refusedUnloading m (refusalNumber z)) W C ≡ unloadCall m W C k y
     unfolding unloadCall startNumber
     unload-away k y = rw (broken, some z, some z)
+
+    pub propose-away : (out : List ℕ) → output (refusalNumber z) out ≡ proposeCall m W C out
+    unfolding proposeCall proposeNumber
+    propose-away out = rw (broken, some z, some z)
+
+    pub renumber-away : (plan : List ℕ) → effect (refusedRenumbering m (refusalNumber z)) W C ≡ renumberCall m W C plan
+    unfolding renumberCall renumberNumber
+    renumber-away plan = rw (broken, some z, some z)
 
 -- an insertion's, which finds a full store before the check
 module _ (m : Map) (W C : List ℕ) (t : Checked) (f : checkNumber t ≡ roomThenCheck m W C) (e : Entry) where

@@ -21,6 +21,8 @@ use Rattle.iset.specs.Lookup.{queryNumber, beginning, formNumber, openSt
 use Rattle.iset.specs.Plain.{openPlainNumber, plainNumber}
 use Rattle.image_rule.specs.Layout.{imageLength}
 use Rattle.iset.specs.Image.{openWriteImageNumber, writeImageNumber}
+use Rattle.tidy_rule.specs.Plan.{fits}
+use Rattle.iset.specs.Tidy.{openProposeNumber, proposeNumber, openRenumberNumber, renumberNumber}
 use Rattle.iset.specs.Ticket.{ticketNumber, openReadNumber, readNumber}
 use Rattle.iset.specs.declared.Map.{Map}
 use Rattle.iset.specs.declared.ticket.Ticket.{Ticket}
@@ -51,6 +53,15 @@ module _ (m : Map) (W C : List ℕ) where
       → writeImageNumber m W C places ≡ first (checkRule m W C) (cond (leb (imageLength (m .count)) places) 0 9)
   unfolding writeImageNumber openWriteImageNumber
   write-image-order places = passed-on (checkRule m W C) (countNumber m W C) (cond (leb (imageLength (m .count)) places) 0 9) (checked-count m W C)
+
+  -- the check, then an output with a place for every slot; the check, then the plan
+  pub propose-order : (places : ℕ) → proposeNumber m W C places ≡ first (checkRule m W C) (cond (leb (m .count) places) 0 9)
+  unfolding proposeNumber openProposeNumber
+  propose-order places = passed-on (checkRule m W C) (countNumber m W C) (cond (leb (m .count) places) 0 9) (checked-count m W C)
+
+  pub renumber-order : (plan : List ℕ) → renumberNumber m W C plan ≡ first (checkRule m W C) (cond (fits (m .count) plan) 0 15)
+  unfolding renumberNumber openRenumberNumber
+  renumber-order plan = passed-on (checkRule m W C) (countNumber m W C) (cond (fits (m .count) plan) 0 15) (checked-count m W C)
 
   -- a full store, then the check, then the interval
   pub insert-order : (e : Entry)

@@ -16,10 +16,12 @@ use Rattle.iset.specs.Remove.{removeNumber, RemoveAnswer, refusedRemoval
 use Rattle.iset.specs.Insert.{insertNumber, InsertAnswer, refusedInsertion, insertEntry, insertCall}
 use Rattle.iset.specs.Image.{readImageNumber, readStore, readImageCall}
 use Rattle.iset.specs.Unload.{unloadNumber, UnloadAnswer, refusedUnloading, unloadRange, unloadCall}
+use Rattle.iset.specs.Tidy.{renumberNumber, RenumberAnswer, refusedRenumbering, renumberPlan, renumberCall}
 use Rattle.iset.specs.Versions.{versionAfter}
 use Rattle.iset.specs.declared.Map.{Map}
 use Rattle.iset.proofs.Refusals.{build-no, remove-no, insert-no}
 use Rattle.iset.proofs.ImageRefusals.{read-image-no}
+use Rattle.iset.proofs.TidyRefusals.{renumber-no}
 
 -- by the number k of the call
 by-number : {A : Type 0} (version : A → ℕ) (v k : ℕ) (x y : A) → version x ≡ raised v → version y ≡ v
@@ -62,6 +64,14 @@ module _ (m : Map) (W C : List ℕ) where
       rw (read-image-no m W C I)
       (by-number (λ (c : Effect BuildAnswer). c .answer .map .version) (m .version) (readImageNumber (length W) (length C) I) (readStore m W C I)
       (effect (refusedBuild m (readImageNumber (length W) (length C) I)) W C) refl refl)
+
+  pub renumber-version : (plan : List ℕ)
+      → renumberCall m W C plan .answer .map .version ≡ versionAfter m (renumberCall m W C plan .answer .no)
+  unfolding renumberCall
+  renumber-version plan =
+      rw (renumber-no m W C plan)
+      (by-number (λ (c : Effect RenumberAnswer). c .answer .map .version) (m .version) (renumberNumber m W C plan) (renumberPlan m W C plan)
+      (effect (refusedRenumbering m (renumberNumber m W C plan)) W C) refl refl)
 
   pub unload-version : m .version < 4294967296 → (k : ℕ) (q : Span)
       → unloadCall m W C k q .answer .map .version ≡ raisedBy (m .version) (unloadCall m W C k q .answer .gone)

@@ -15,7 +15,7 @@ use Rattle.iset.specs.Versions.{readIn, Request4}
 use Rattle.iset.proofs.Answers.{build-answers}
 use Rattle.iset.proofs.Refusals.{build-no, read-refusals, read-leaves}
 use Rattle.iset.proofs.Sequence.{Sound, empty-passes, calls-sound}
-use Rattle.iset.proofs.Raised.{build-version, remove-version, insert-version, read-image-version, unload-version}
+use Rattle.iset.proofs.Raised.{build-version, remove-version, insert-version, read-image-version, unload-version, renumber-version}
 use Rattle.iset.proofs.Tickets.{version-run, reads, stale-refused, stale, unchanged, round}
 
 -- the build of one entry, and k of them
@@ -83,6 +83,7 @@ request-4 S h =
       insert-raises = λ e. insert-version (S .map) (S .words) (S .colours) e;
       read-image-raises = λ I. read-image-version (S .map) (S .words) (S .colours) I;
       unload-raises = λ k q. unload-version (S .map) (S .words) (S .colours) h k q;
+      renumber-raises = λ l. renumber-version (S .map) (S .words) (S .colours) l;
       version-run = λ l. version-run l S h;
       refusals = λ t. read-refusals (S .map) (S .words) (S .colours) t;
       refused = λ t. read-leaves (S .map) (S .words) (S .colours) t;

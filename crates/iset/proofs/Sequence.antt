@@ -1,5 +1,5 @@
 -- "The store after every build and removal passes the check", and after every insertion, every
--- reading of an image and every unloading: a build with any number of changes after it, and any
+-- reading of an image, every unloading and every renumbering: a build with any number of changes after it, and any
 -- public calls one after the other.
 use mathlib.Core.Path.{_≡_, refl, ap}
 use mathlib.Core.Bool.{cond}
@@ -39,16 +39,22 @@ use Rattle.iset.specs.Remove.{removeNumber, RemoveAnswer, refusedRemoval
 use Rattle.iset.specs.Insert.{insertNumber, InsertAnswer, refusedInsertion, insertEntry, insertCall}
 use Rattle.iset.specs.Image.{readImageNumber, readStore, readImageCall}
 use Rattle.iset.specs.Unload.{unloadNumber, UnloadAnswer, refusedUnloading, unloadRange, unloadCall}
+use Rattle.tidy_rule.specs.Plan.{renamed}
+use Rattle.tidy_rule.specs.Tidy.{Both, tidied}
+use Rattle.tidy_rule.specs.Tidied.{Tidied}
+use Rattle.tidy_rule.proofs.Renumbers as renumbers
+use Rattle.iset.specs.Tidy.{renumberNumber, RenumberAnswer, refusedRenumbering, renumberPlan, renumberCall}
 use Rattle.iset.specs.Maps.{mapAt, emptyMap, nextMap, raisedBy}
-use Rattle.iset.specs.Sequence.{Call, build, remove, insert, read, unload, State, left, removed, inserted, unloaded, answered, allAnswered, openAnswered, allOpenAnswered}
+use Rattle.iset.specs.Sequence.{Call, build, remove, insert, read, unload, renumber, State, left, removed, inserted, unloaded, renumbered, answered, allAnswered, openAnswered, allOpenAnswered}
 use Rattle.iset.specs.declared.Map.{Map}
 use Rattle.iset.proofs.Builds.{Accepted, accepted, builds}
 use Rattle.iset.proofs.Checks.{check-zero, zero-check}
 use Rattle.iset.proofs.Images as images
 use Rattle.iset.proofs.Insertions as insertions
-use Rattle.iset.proofs.Opened.{remove-is, insert-is, unload-is}
+use Rattle.iset.proofs.Opened.{remove-is, insert-is, unload-is, renumber-is}
 use Rattle.iset.proofs.Removals as removals
 use Rattle.iset.proofs.Unloadings as unloadings
+use Rattle.iset.proofs.Tidyings as tidyings
 
 -- what a build leaves
 abbrev pub builtStore : Map → List ℕ → List ℕ → List ℕ → Store
@@ -152,12 +158,25 @@ module _ (m : Map) (W C : List ℕ) where
         (rw (w .inside .words-length, w .inside .colours-length) (omega (arith, fits, w .count-is))) (w .passes))
         h
 
+    renumber-sound : (plan : List ℕ) → Sound (answered S (renumber plan))
+    unfolding renumberCall
+    renumber-sound plan =
+        let R : Both = tidied (m .count) plan W C in
+        by-number (λ (a : RenumberAnswer). a .map) (renumberNumber m W C plan) (renumberPlan m W C plan) (effect (refusedRenumbering m (renumberNumber m W C plan)) W C)
+        (λ e. let o : Tidied (m .count) plan W C (R .words) (R .colours) = tidyings.by-rule m W C plan e in
+        zero-check (nextMap m (m .count) (renamed (m .count) plan (m .root))) (R .words) (R .colours)
+        (rw (o .words-length, o .colours-length) fits)
+        (renumbers.renumbered (m .count) plan W C (R .words) (R .colours) (tidyings.plan-fits m W C plan e) o (m .root) (tidyings.few m W C plan e)
+        (tidyings.tree-before m W C plan e)))
+        h
+
     answered-sound : (x : Call) → Sound (answered S x)
     answered-sound (build l) = build-sound l
     answered-sound (remove s) = remove-sound s
     answered-sound (insert e) = insert-sound e
     answered-sound (read I) = read-sound I
     answered-sound (unload k q) = unload-sound k q
+    answered-sound (renumber plan) = renumber-sound plan
 
 -- and so do any calls one after the other, refused ones among them
 pub calls-sound : (l : List Call) (S : State) → Sound S → Sound (allAnswered S l)
@@ -173,6 +192,7 @@ opened-call S h (read I) = refl
 opened-call S h (remove s) = ap removed (remove-is (S .map) (S .words) (S .colours) h s)
 opened-call S h (insert e) = ap inserted (insert-is (S .map) (S .words) (S .colours) h e)
 opened-call S h (unload k q) = ap unloaded (unload-is (S .map) (S .words) (S .colours) h k q)
+opened-call S h (renumber plan) = ap renumbered (renumber-is (S .map) (S .words) (S .colours) h plan)
 
 pub opened-calls : (l : List Call) (S : State) → Sound S → allOpenAnswered S l ≡ allAnswered S l
 opened-calls [] S h = refl

@@ -14,7 +14,8 @@ use Rattle.iset.specs.Build.{BuildAnswer}
 use Rattle.iset.specs.Remove.{RemoveAnswer}
 use Rattle.iset.specs.Insert.{InsertAnswer}
 use Rattle.iset.specs.Unload.{UnloadAnswer}
-use Rattle.iset.specs.Sequence.{Call, build, remove, insert, read, unload, State, answered, allAnswered, refusalOf, once, changesOf, made}
+use Rattle.iset.specs.Tidy.{RenumberAnswer}
+use Rattle.iset.specs.Sequence.{Call, build, remove, insert, read, unload, renumber, State, answered, allAnswered, refusalOf, once, changesOf, made}
 use Rattle.iset.specs.Ticket.{ticketOf, age, readNumber, readDone, readCall}
 use Rattle.iset.specs.Versions.{versionAfter, readIn}
 use Rattle.iset.specs.declared.ticket.Ticket.{Ticket}
@@ -22,8 +23,9 @@ use Rattle.iset.proofs.Readings as readings
 use Rattle.iset.proofs.Refusals.{build-leaves, remove-leaves, insert-leaves, read-no}
 use Rattle.iset.proofs.Sequence.{Sound, calls-sound}
 use Rattle.iset.proofs.ImageRefusals.{read-image-leaves}
+use Rattle.iset.proofs.TidyRefusals.{renumber-leaves}
 use Rattle.iset.proofs.Unloadings.{unload-words}
-use Rattle.iset.proofs.Raised.{build-version, remove-version, insert-version, read-image-version, unload-version}
+use Rattle.iset.proofs.Raised.{build-version, remove-version, insert-version, read-image-version, unload-version, renumber-version}
 use Rattle.iset.proofs.Versions.{raise-more, raised-below, age-is}
 
 -- One call raises the version by the changes that it made: by one if it was accepted, by none if it
@@ -41,6 +43,7 @@ call-version S (remove s) h = by-once (S .map .version) (refusalOf S (remove s))
 call-version S (insert e) h = by-once (S .map .version) (refusalOf S (insert e)) _ h (insert-version (S .map) (S .words) (S .colours) e)
 call-version S (read I) h = by-once (S .map .version) (refusalOf S (read I)) _ h (read-image-version (S .map) (S .words) (S .colours) I)
 call-version S (unload k q) h = unload-version (S .map) (S .words) (S .colours) h k q
+call-version S (renumber l) h = by-once (S .map .version) (refusalOf S (renumber l)) _ h (renumber-version (S .map) (S .words) (S .colours) l)
 
 -- and any number of calls: the version counts the changes that they made, modulo 2^32
 pub version-run : (l : List Call) (S : State) → S .map .version < 4294967296
@@ -96,6 +99,7 @@ unmade-call S (remove s) e = ap (λ (c : Effect RemoveAnswer). c .words) (remove
 unmade-call S (insert x) e = ap (λ (c : Effect InsertAnswer). c .words) (insert-leaves (S .map) (S .words) (S .colours) x (refused-by _ e))
 unmade-call S (read I) e = ap (λ (c : Effect BuildAnswer). c .words) (read-image-leaves (S .map) (S .words) (S .colours) I (refused-by _ e))
 unmade-call S (unload k q) e = unload-words (S .map) (S .words) (S .colours) k q e
+unmade-call S (renumber l) e = ap (λ (c : Effect RenumberAnswer). c .words) (renumber-leaves (S .map) (S .words) (S .colours) l (refused-by _ e))
 
 unmade-words : (l : List Call) (S : State) → made S l ≡ 0 → allAnswered S l .words ≡ S .words
 unmade-words [] S z = refl

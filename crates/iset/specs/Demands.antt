@@ -35,11 +35,12 @@ use Rattle.iset.specs.Insert.{InsertAnswer, refusedInsertion, insertCall
 use Rattle.iset.specs.Ticket.{refusedReading, readCall}
 use Rattle.iset.specs.Image.{refusedWrite, writeImageCall, readImageCall}
 use Rattle.iset.specs.Unload.{refusedUnloading, unloadCall}
+use Rattle.iset.specs.Tidy.{proposeCall, refusedRenumbering, renumberCall}
 use Rattle.iset.specs.Lookup.{refusedStart, startCall, refusedStep, stepCall, refusedDrain, drainCall}
 use Rattle.iset.specs.Tallies.{refusedTally}
 use Rattle.iset.specs.Plain.{plainCall}
 use Rattle.iset.specs.Find.{findAllCall}
-use Rattle.iset.specs.Refusals.{BadRange, BadInterval, Exactly, checkRows, buildRows, removeRows, insertRows, readRows, startRows, stepRows, drainRows, plainRows, findAllRows, writeImageRows, readImageRows, unloadRows}
+use Rattle.iset.specs.Refusals.{BadRange, BadInterval, Exactly, checkRows, buildRows, removeRows, insertRows, readRows, startRows, stepRows, drainRows, plainRows, findAllRows, writeImageRows, readImageRows, unloadRows, proposeRows, renumberRows}
 use Rattle.iset.specs.Runs.{Ask, OverlapRun, ExactRun}
 use Rattle.iset.specs.declared.Map.{Map}
 use Rattle.iset.specs.declared.ticket.Ticket.{Ticket}
@@ -62,6 +63,8 @@ pub record Demand1 (m : Map) (W C : List ℕ) : Type 0 where
   pub write-image : (out : List ℕ) → Exactly (writeImageRows m W C (length out)) (writeImageCall m W C out .answer .no)
   pub read-image : (I : List ℕ) → Exactly (readImageRows W C I) (readImageCall m W C I .answer .no)
   pub unload : (k : ℕ) (q : Span) → Exactly (unloadRows m W C k q) (unloadCall m W C k q .answer .no)
+  pub propose : (out : List ℕ) → Exactly (proposeRows m W C (length out)) (proposeCall m W C out .answer)
+  pub renumber : (plan : List ℕ) → Exactly (renumberRows m W C plan) (renumberCall m W C plan .answer .no)
   -- a refused call answers its number with the map or the cursor as given ("a refused build: count
   -- 0, root U", with the version as given), and leaves what was lent
   pub build-leaves : (S : List ℕ) → (buildCall m W C S .answer .no ≡ 0 → ⊥) → buildCall m W C S ≡ effect (refusedBuild m (buildCall m W C S .answer .no)) W C
@@ -84,6 +87,9 @@ pub record Demand1 (m : Map) (W C : List ℕ) : Type 0 where
       → readImageCall m W C I ≡ effect (refusedBuild m (readImageCall m W C I .answer .no)) W C
   pub unload-leaves : (k : ℕ) (q : Span) → (unloadCall m W C k q .answer .no ≡ 0 → ⊥)
       → unloadCall m W C k q ≡ effect (refusedUnloading m (unloadCall m W C k q .answer .no)) W C
+  pub propose-leaves : (out : List ℕ) → (proposeCall m W C out .answer ≡ 0 → ⊥) → proposeCall m W C out ≡ output (proposeCall m W C out .answer) out
+  pub renumber-leaves : (plan : List ℕ) → (renumberCall m W C plan .answer .no ≡ 0 → ⊥)
+      → renumberCall m W C plan ≡ effect (refusedRenumbering m (renumberCall m W C plan .answer .no)) W C
 
 -- What `Map::remove` answers and leaves, in the form of the rule of removal; what `Map::insert`
 -- leaves, in that of insertion.

@@ -8,6 +8,7 @@ pub mod Image
 pub mod Ticket
 pub mod Lookup
 pub mod Unload
+pub mod Tidy
 pub mod Sequence
 pub mod Runs
 pub mod Tallies
@@ -21,6 +22,7 @@ pub mod Ruled
 pub mod Versions
 pub mod Saved
 pub mod Unloaded
+pub mod Renumbered
 pub mod Below
 pub mod Demands
 pub mod Fits

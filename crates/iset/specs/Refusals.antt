@@ -1,4 +1,5 @@
--- Document 01's table of refusals, document 02's items 1, 4, 5, 6, 11 and 13, and the fast lookup:
+-- Document 01's table of refusals, document 02's items 1, 4, 5, 6, 11, 13 and 14, and the fast
+-- lookup:
 -- for each public call its rows, a refusal's number and when it is given, in the order in which the
 -- first is given.
 -- Letters: m map, W words, C colours, k number that is answered or rule or limit, P condition or
@@ -17,7 +18,7 @@ use Rattle.words.specs.declared.interval.Bound.the-variants.{Included, Excluded
 use Rattle.words.specs.declared.interval.Interval.{Interval}
 use Rattle.words.specs.declared.interval.Span.{Span}
 use Rattle.words.specs.declared.node.Entry.{Entry}
-use Rattle.tree.specs.Tree.{node}
+use Rattle.tree.specs.Tree.{node, times}
 use Rattle.tree.specs.Order.{NotAfter}
 use Rattle.tree.specs.Passes.{Passes}
 use Rattle.builder.specs.Input.{startOf, endOf, intervalOf}
@@ -176,6 +177,18 @@ findAllRows m W C (Exact x) = startRows m W C x
 -- document 02, item 13: unloading a range, "1, 2, 4", 4 as for a lookup by the rule of a number
 abbrev pub unloadRows : (map : Map) (words colours : List ℕ) (rule : ℕ) (range : Span) → Rows
 unloadRows m W C k q = refuse 1 (NoRoom m W C) (refuse 2 (Broken m W C) (refuse 4 (BadRuled k q) accept))
+
+-- document 02, item 14: the planner, "1, 2, 9 (short output)"
+abbrev pub proposeRows : (map : Map) (words colours : List ℕ) (places : ℕ) → Rows
+proposeRows m W C places = refuse 1 (NoRoom m W C) (refuse 2 (Broken m W C) (refuse 9 (places < m .count) accept))
+
+-- 15, BadPlan: not "exactly if it names each slot below count once"
+abbrev pub BadPlan : (map : Map) (plan : List ℕ) → Type 0
+BadPlan m plan = (length plan ≡ m .count) × ((s : ℕ) → s < m .count → times s plan ≡ 1) → ⊥
+
+-- and the step that accepts a proposal: "15 BadPlan, after 2"
+abbrev pub renumberRows : (map : Map) (words colours plan : List ℕ) → Rows
+renumberRows m W C plan = refuse 1 (NoRoom m W C) (refuse 2 (Broken m W C) (refuse 15 (BadPlan m plan) accept))
 
 -- document 02, item 6: writing an image, "1, 2, then 9 for a short output"
 abbrev pub writeImageRows : (map : Map) (words colours : List ℕ) (places : ℕ) → Rows

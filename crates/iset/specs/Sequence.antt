@@ -12,17 +12,19 @@ use Rattle.iset.specs.Build.{BuildAnswer, buildCall}
 use Rattle.iset.specs.Remove.{RemoveAnswer, openRemoveCall, removeCall}
 use Rattle.iset.specs.Insert.{InsertAnswer, openInsertCall, insertCall}
 use Rattle.iset.specs.Image.{readImageCall}
+use Rattle.iset.specs.Tidy.{RenumberAnswer, openRenumberCall, renumberCall}
 use Rattle.iset.specs.Unload.{UnloadAnswer, openUnloadCall, unloadCall}
 use Rattle.iset.specs.declared.Map.{Map}
 
 -- the calls that write the store: of any list, any slot, any entry, any image, any range by any
--- rule
+-- rule, any plan
 pub data Call : Type 0 where
   build : (triples : List ℕ) → Call
   remove : (slot : ℕ) → Call
   insert : (entry : Entry) → Call
   read : (image : List ℕ) → Call
   unload : (rule : ℕ) (range : Span) → Call
+  renumber : (plan : List ℕ) → Call
 
 -- a map with the words and the colours that it stands in
 pub record State : Type 0 where
@@ -46,6 +48,9 @@ inserted = left (λ (a : InsertAnswer). a .map)
 abbrev pub unloaded : (effect : Effect UnloadAnswer) → State
 unloaded = left (λ (a : UnloadAnswer). a .map)
 
+abbrev pub renumbered : (effect : Effect RenumberAnswer) → State
+renumbered = left (λ (a : RenumberAnswer). a .map)
+
 -- after a call, refused or not
 abbrev pub answered : (state : State) (call : Call) → State
 answered S (build l) = built (buildCall (S .map) (S .words) (S .colours) l)
@@ -53,6 +58,7 @@ answered S (remove s) = removed (removeCall (S .map) (S .words) (S .colours) s)
 answered S (insert e) = inserted (insertCall (S .map) (S .words) (S .colours) e)
 answered S (read I) = built (readImageCall (S .map) (S .words) (S .colours) I)
 answered S (unload k q) = unloaded (unloadCall (S .map) (S .words) (S .colours) k q)
+answered S (renumber plan) = renumbered (renumberCall (S .map) (S .words) (S .colours) plan)
 
 abbrev pub allAnswered : (state : State) (calls : List Call) → State
 allAnswered S [] = S
@@ -65,6 +71,7 @@ refusalOf S (remove s) = removeCall (S .map) (S .words) (S .colours) s .answer .
 refusalOf S (insert e) = insertCall (S .map) (S .words) (S .colours) e .answer .no
 refusalOf S (read I) = readImageCall (S .map) (S .words) (S .colours) I .answer .no
 refusalOf S (unload k q) = unloadCall (S .map) (S .words) (S .colours) k q .answer .no
+refusalOf S (renumber plan) = renumberCall (S .map) (S .words) (S .colours) plan .answer .no
 
 -- how many changes of the map a call made: one if it was not refused; and document 02, item 13:
 -- "The version rises by the number removed, and each of them counts as a change"
@@ -77,6 +84,7 @@ changesOf S (remove s) = once (refusalOf S (remove s))
 changesOf S (insert e) = once (refusalOf S (insert e))
 changesOf S (read I) = once (refusalOf S (read I))
 changesOf S (unload k q) = unloadCall (S .map) (S .words) (S .colours) k q .answer .gone
+changesOf S (renumber plan) = once (refusalOf S (renumber plan))
 
 -- and how many the calls of a list made
 abbrev pub made : (state : State) (calls : List Call) → ℕ
@@ -90,6 +98,7 @@ openAnswered S (remove s) = removed (openRemoveCall (S .map) (S .words) (S .colo
 openAnswered S (insert e) = inserted (openInsertCall (S .map) (S .words) (S .colours) e)
 openAnswered S (read I) = answered S (read I)
 openAnswered S (unload k q) = unloaded (openUnloadCall (S .map) (S .words) (S .colours) k q)
+openAnswered S (renumber plan) = renumbered (openRenumberCall (S .map) (S .words) (S .colours) plan)
 
 abbrev pub allOpenAnswered : (state : State) (calls : List Call) → State
 allOpenAnswered S [] = S

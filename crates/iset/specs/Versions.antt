@@ -17,6 +17,7 @@ use Rattle.iset.specs.Remove.{removeCall}
 use Rattle.iset.specs.Insert.{insertCall}
 use Rattle.iset.specs.Image.{readImageCall}
 use Rattle.iset.specs.Unload.{unloadCall}
+use Rattle.iset.specs.Tidy.{renumberCall}
 use Rattle.iset.specs.Refusals.{Exactly, readRows}
 use Rattle.iset.specs.Sequence.{Call, State, allAnswered, made}
 use Rattle.iset.specs.Ticket.{ticketOf, ReadAnswer, refusedReading, readCall}
@@ -42,6 +43,8 @@ pub record Request4 (S : State) : Type 0 where
   pub read-image-raises : (I : List ℕ) → let c = readImageCall (S .map) (S .words) (S .colours) I in c .answer .map .version ≡ versionAfter (S .map) (c .answer .no)
   -- item 13: "The version rises by the number removed"; a refusal removes none
   pub unload-raises : (k : ℕ) (q : Span) → let c = unloadCall (S .map) (S .words) (S .colours) k q in c .answer .map .version ≡ raisedBy (S .map .version) (c .answer .gone)
+  -- item 14: a renumbering raises it by one, whether or not anything moves
+  pub renumber-raises : (l : List ℕ) → let c = renumberCall (S .map) (S .words) (S .colours) l in c .answer .map .version ≡ versionAfter (S .map) (c .answer .no)
   pub version-run : (l : List Call) → allAnswered S l .map .version ≡ (S .map .version + made S l) % 4294967296
   -- "reading through it answers the entry or refuses .. 11 Stale, after 2 and before 3"
   pub refusals : (t : Ticket) → Exactly (readRows (S .map) (S .words) (S .colours) t) (readIn S t .no)

@@ -12,6 +12,7 @@ use crate::save::Written;
 use crate::scan::Looked;
 use crate::ticket::Reading;
 use crate::ticket::Ticket;
+use crate::tidy::Renumbering;
 use crate::unload::Unloading;
 use iter::Cursor;
 use iter::rules::Query;
@@ -29,6 +30,7 @@ ghost use Rattle.iset.specs.Plain.{openPlainCall, plainCall};
 ghost use Rattle.iset.specs.Remove.{openRemoveCall, removeAnswer, removeCall};
 ghost use Rattle.iset.specs.Tallies.{tallyAnswer};
 ghost use Rattle.iset.specs.Ticket.{openReadCall, readAnswer, readCall};
+ghost use Rattle.iset.specs.Tidy.{openProposeCall, openRenumberCall, proposeCall, renumberAnswer, renumberCall};
 ghost use Rattle.iset.specs.Unload.{openUnloadCall, unloadAnswer, unloadCall};
 
 impl Map {
@@ -105,6 +107,32 @@ impl Map {
             ≡ openUnloadCall self (now (nodes .entry)) (now (colours .entry)) rule range ⌝ }
     {
         self.open_unload_in(nodes, false, colours, rule, range)
+    }
+
+    pub fn propose(self, nodes: &[u64], colours: &[u8], out: &mut [u64]) -> Checked
+        ensures { λ r. ⌜ output (checkNumber r) (now (out .exit)) ≡ proposeCall self (now (nodes .entry)) (now (colours .entry)) (now (out .entry)) ⌝ }
+    {
+        self.propose_in(nodes, false, colours, out)
+    }
+
+    pub fn open_propose(self, nodes: &[u64], colours: &[u8], out: &mut [u64]) -> Checked
+        ensures { λ r. ⌜ output (checkNumber r) (now (out .exit)) ≡ openProposeCall self (now (nodes .entry)) (now (colours .entry)) (now (out .entry)) ⌝ }
+    {
+        self.open_propose_in(nodes, false, colours, out)
+    }
+
+    pub fn renumber(self, nodes: &mut [u64], colours: &mut [u8], plan: &[u64]) -> Renumbering
+        ensures { λ r. ⌜ effect (renumberAnswer self r) (now (nodes .exit)) (now (colours .exit))
+            ≡ renumberCall self (now (nodes .entry)) (now (colours .entry)) (now (plan .entry)) ⌝ }
+    {
+        self.renumber_in(nodes, false, colours, plan)
+    }
+
+    pub fn open_renumber(self, nodes: &mut [u64], colours: &mut [u8], plan: &[u64]) -> Renumbering
+        ensures { λ r. ⌜ effect (renumberAnswer self r) (now (nodes .exit)) (now (colours .exit))
+            ≡ openRenumberCall self (now (nodes .entry)) (now (colours .entry)) (now (plan .entry)) ⌝ }
+    {
+        self.open_renumber_in(nodes, false, colours, plan)
     }
 
     pub fn read(self, nodes: &[u64], colours: &[u8], ticket: Ticket) -> Reading

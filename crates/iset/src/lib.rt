@@ -16,6 +16,7 @@ pub mod remove;
 pub mod save;
 pub mod scan;
 pub mod ticket;
+pub mod tidy;
 pub mod unload;
 
 // The types that the calls' signatures name, so that a user imports from this crate alone.

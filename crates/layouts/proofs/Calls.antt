@@ -15,11 +15,12 @@ use Rattle.iset.specs.Build.{BuildAnswer, buildAnswer}
 use Rattle.iset.specs.Insert.{entryOf, InsertAnswer, insertAnswer}
 use Rattle.iset.specs.Remove.{RemoveAnswer, removeAnswer}
 use Rattle.iset.specs.Unload.{UnloadAnswer, unloadAnswer}
+use Rattle.iset.specs.Tidy.{RenumberAnswer, renumberAnswer}
 use Rattle.iset.specs.Ticket.{readAnswer}
 use Rattle.iset.specs.Lookup.{startAnswer, stepAnswer, DrainAnswer, drainAnswer}
 use Rattle.iset.specs.Tallies.{TallyAnswer, tallyAnswer}
 use Rattle.iset.specs.Image.{WriteAnswer, writeAnswer}
-use Rattle.layouts.specs.Operations.{Memory, writes, fills, result, check, build, insert, openInsert, remove, openRemove, unload, openUnload, read, openRead, freshExact, openFreshExact, step, openStep, drain, openDrain, findAll, openFindAll, plain, openPlain, writeImage, openWriteImage, readImage}
+use Rattle.layouts.specs.Operations.{Memory, writes, fills, result, check, build, insert, openInsert, remove, openRemove, unload, openUnload, propose, openPropose, renumber, openRenumber, read, openRead, freshExact, openFreshExact, step, openStep, drain, openDrain, findAll, openFindAll, plain, openPlain, writeImage, openWriteImage, readImage}
 use Rattle.layouts.specs.Does.{seen, Does}
 use Rattle.iset.proofs.Map.check_in.Reads as check-in-reads
 use Rattle.iset.proofs.Map.check_in.Kinds as check-in-kinds
@@ -53,6 +54,22 @@ use Rattle.iset.proofs.Map.open_unload_in.Reads as open-unload-in-reads
 use Rattle.iset.proofs.Map.open_unload_in.Kinds as open-unload-in-kinds
 use Rattle.iset.proofs.Map.open_unload.Reads as open-unload-reads
 use Rattle.iset.proofs.Map.open_unload.Kinds as open-unload-kinds
+use Rattle.iset.proofs.Map.propose_in.Reads as propose-in-reads
+use Rattle.iset.proofs.Map.propose_in.Kinds as propose-in-kinds
+use Rattle.iset.proofs.Map.propose.Reads as propose-reads
+use Rattle.iset.proofs.Map.propose.Kinds as propose-kinds
+use Rattle.iset.proofs.Map.open_propose_in.Reads as open-propose-in-reads
+use Rattle.iset.proofs.Map.open_propose_in.Kinds as open-propose-in-kinds
+use Rattle.iset.proofs.Map.open_propose.Reads as open-propose-reads
+use Rattle.iset.proofs.Map.open_propose.Kinds as open-propose-kinds
+use Rattle.iset.proofs.Map.renumber_in.Reads as renumber-in-reads
+use Rattle.iset.proofs.Map.renumber_in.Kinds as renumber-in-kinds
+use Rattle.iset.proofs.Map.renumber.Reads as renumber-reads
+use Rattle.iset.proofs.Map.renumber.Kinds as renumber-kinds
+use Rattle.iset.proofs.Map.open_renumber_in.Reads as open-renumber-in-reads
+use Rattle.iset.proofs.Map.open_renumber_in.Kinds as open-renumber-in-kinds
+use Rattle.iset.proofs.Map.open_renumber.Reads as open-renumber-reads
+use Rattle.iset.proofs.Map.open_renumber.Kinds as open-renumber-kinds
 use Rattle.iset.proofs.Map.read_in.Reads as read-in-reads
 use Rattle.iset.proofs.Map.read_in.Kinds as read-in-kinds
 use Rattle.iset.proofs.Map.read.Reads as read-reads
@@ -229,6 +246,62 @@ pub does-open-unload : (κs : Lfts 2) (a : K.Dens κs open-unload-kinds.ps) (r :
     (lent (now (s .1 .0)) (now (s .1 .1 .0)) [])
 unfolding result asEight
 does-open-unload κs a r s p = record { answers = ap (λ (k : Effect UnloadAnswer). k .answer) p; leaves = ap (λ (k : Effect UnloadAnswer). writes (seen false (lent (now (a .1 .0)) (now (a .1 .1 .0)) [])) k .memory) p }
+
+pub does-propose-in : (κs : Lfts 3) (a : K.Dens κs propose-in-kinds.ps) (r : K.resT propose-in-kinds.r κs .Denot) (s : AtExit (K.endedOf 3 propose-in-kinds.ps propose-in-kinds.r) κs)
+    → propose-in-reads.Post κs a r s
+    → Does (a .1 .1 .0) propose (a .0) (lent (now (a .1 .0)) (now (a .1 .1 .1 .0)) (now (a .1 .1 .1 .1 .0))) (checkNumber r)
+    (lent (now (a .1 .0)) (now (a .1 .1 .1 .0)) (now (s .1 .1 .1 .1 .0)))
+unfolding result
+does-propose-in κs a r s p = record { answers = ap (λ (k : Output ℕ). k .answer) p; leaves = ap (λ (k : Output ℕ). fills (seen (a .1 .1 .0) (lent (now (a .1 .0)) (now (a .1 .1 .1 .0)) (now (a .1 .1 .1 .1 .0)))) k .memory) p }
+
+pub does-propose : (κs : Lfts 3) (a : K.Dens κs propose-kinds.ps) (r : K.resT propose-kinds.r κs .Denot) (s : AtExit (K.endedOf 3 propose-kinds.ps propose-kinds.r) κs)
+    → propose-reads.Post κs a r s
+    → Does false propose (a .0) (lent (now (a .1 .0)) (now (a .1 .1 .0)) (now (a .1 .1 .1 .0))) (checkNumber r)
+    (lent (now (a .1 .0)) (now (a .1 .1 .0)) (now (s .1 .1 .1 .0)))
+unfolding result asEight
+does-propose κs a r s p = record { answers = ap (λ (k : Output ℕ). k .answer) p; leaves = ap (λ (k : Output ℕ). fills (seen false (lent (now (a .1 .0)) (now (a .1 .1 .0)) (now (a .1 .1 .1 .0)))) k .memory) p }
+
+pub does-open-propose-in : (κs : Lfts 3) (a : K.Dens κs open-propose-in-kinds.ps) (r : K.resT open-propose-in-kinds.r κs .Denot) (s : AtExit (K.endedOf 3 open-propose-in-kinds.ps open-propose-in-kinds.r) κs)
+    → open-propose-in-reads.Post κs a r s
+    → Does (a .1 .1 .0) openPropose (a .0) (lent (now (a .1 .0)) (now (a .1 .1 .1 .0)) (now (a .1 .1 .1 .1 .0))) (checkNumber r)
+    (lent (now (a .1 .0)) (now (a .1 .1 .1 .0)) (now (s .1 .1 .1 .1 .0)))
+unfolding result
+does-open-propose-in κs a r s p = record { answers = ap (λ (k : Output ℕ). k .answer) p; leaves = ap (λ (k : Output ℕ). fills (seen (a .1 .1 .0) (lent (now (a .1 .0)) (now (a .1 .1 .1 .0)) (now (a .1 .1 .1 .1 .0)))) k .memory) p }
+
+pub does-open-propose : (κs : Lfts 3) (a : K.Dens κs open-propose-kinds.ps) (r : K.resT open-propose-kinds.r κs .Denot) (s : AtExit (K.endedOf 3 open-propose-kinds.ps open-propose-kinds.r) κs)
+    → open-propose-reads.Post κs a r s
+    → Does false openPropose (a .0) (lent (now (a .1 .0)) (now (a .1 .1 .0)) (now (a .1 .1 .1 .0))) (checkNumber r)
+    (lent (now (a .1 .0)) (now (a .1 .1 .0)) (now (s .1 .1 .1 .0)))
+unfolding result asEight
+does-open-propose κs a r s p = record { answers = ap (λ (k : Output ℕ). k .answer) p; leaves = ap (λ (k : Output ℕ). fills (seen false (lent (now (a .1 .0)) (now (a .1 .1 .0)) (now (a .1 .1 .1 .0)))) k .memory) p }
+
+pub does-renumber-in : (κs : Lfts 3) (a : K.Dens κs renumber-in-kinds.ps) (r : K.resT renumber-in-kinds.r κs .Denot) (s : AtExit (K.endedOf 3 renumber-in-kinds.ps renumber-in-kinds.r) κs)
+    → renumber-in-reads.Post κs a r s
+    → Does (a .1 .1 .0) (renumber (now (a .1 .1 .1 .1 .0))) (a .0) (lent (now (a .1 .0)) (now (a .1 .1 .1 .0)) []) (renumberAnswer (a .0) r)
+    (lent (now (s .1 .0)) (now (s .1 .1 .1 .0)) [])
+unfolding result
+does-renumber-in κs a r s p = record { answers = ap (λ (k : Effect RenumberAnswer). k .answer) p; leaves = ap (λ (k : Effect RenumberAnswer). writes (seen (a .1 .1 .0) (lent (now (a .1 .0)) (now (a .1 .1 .1 .0)) [])) k .memory) p }
+
+pub does-renumber : (κs : Lfts 3) (a : K.Dens κs renumber-kinds.ps) (r : K.resT renumber-kinds.r κs .Denot) (s : AtExit (K.endedOf 3 renumber-kinds.ps renumber-kinds.r) κs)
+    → renumber-reads.Post κs a r s
+    → Does false (renumber (now (a .1 .1 .1 .0))) (a .0) (lent (now (a .1 .0)) (now (a .1 .1 .0)) []) (renumberAnswer (a .0) r)
+    (lent (now (s .1 .0)) (now (s .1 .1 .0)) [])
+unfolding result asEight
+does-renumber κs a r s p = record { answers = ap (λ (k : Effect RenumberAnswer). k .answer) p; leaves = ap (λ (k : Effect RenumberAnswer). writes (seen false (lent (now (a .1 .0)) (now (a .1 .1 .0)) [])) k .memory) p }
+
+pub does-open-renumber-in : (κs : Lfts 3) (a : K.Dens κs open-renumber-in-kinds.ps) (r : K.resT open-renumber-in-kinds.r κs .Denot) (s : AtExit (K.endedOf 3 open-renumber-in-kinds.ps open-renumber-in-kinds.r) κs)
+    → open-renumber-in-reads.Post κs a r s
+    → Does (a .1 .1 .0) (openRenumber (now (a .1 .1 .1 .1 .0))) (a .0) (lent (now (a .1 .0)) (now (a .1 .1 .1 .0)) []) (renumberAnswer (a .0) r)
+    (lent (now (s .1 .0)) (now (s .1 .1 .1 .0)) [])
+unfolding result
+does-open-renumber-in κs a r s p = record { answers = ap (λ (k : Effect RenumberAnswer). k .answer) p; leaves = ap (λ (k : Effect RenumberAnswer). writes (seen (a .1 .1 .0) (lent (now (a .1 .0)) (now (a .1 .1 .1 .0)) [])) k .memory) p }
+
+pub does-open-renumber : (κs : Lfts 3) (a : K.Dens κs open-renumber-kinds.ps) (r : K.resT open-renumber-kinds.r κs .Denot) (s : AtExit (K.endedOf 3 open-renumber-kinds.ps open-renumber-kinds.r) κs)
+    → open-renumber-reads.Post κs a r s
+    → Does false (openRenumber (now (a .1 .1 .1 .0))) (a .0) (lent (now (a .1 .0)) (now (a .1 .1 .0)) []) (renumberAnswer (a .0) r)
+    (lent (now (s .1 .0)) (now (s .1 .1 .0)) [])
+unfolding result asEight
+does-open-renumber κs a r s p = record { answers = ap (λ (k : Effect RenumberAnswer). k .answer) p; leaves = ap (λ (k : Effect RenumberAnswer). writes (seen false (lent (now (a .1 .0)) (now (a .1 .1 .0)) [])) k .memory) p }
 
 pub does-read-in : (κs : Lfts 2) (a : K.Dens κs read-in-kinds.ps) (r : K.resT read-in-kinds.r κs .Denot) (s : AtExit (K.endedOf 2 read-in-kinds.ps read-in-kinds.r) κs)
     → read-in-reads.Post κs a r s

@@ -14,6 +14,7 @@ use Rattle.iset.specs.Build.{BuildAnswer, buildCall}
 use Rattle.iset.specs.Insert.{InsertAnswer, openInsertCall, insertCall}
 use Rattle.iset.specs.Remove.{RemoveAnswer, openRemoveCall, removeCall}
 use Rattle.iset.specs.Unload.{UnloadAnswer, openUnloadCall, unloadCall}
+use Rattle.iset.specs.Tidy.{openProposeCall, proposeCall, RenumberAnswer, openRenumberCall, renumberCall}
 use Rattle.iset.specs.Ticket.{ReadAnswer, openReadCall, readCall}
 use Rattle.iset.specs.Lookup.{StartAnswer, openStartCall, startCall, StepAnswer, openStepCall, stepCall, DrainAnswer, openDrainCall, drainCall}
 use Rattle.iset.specs.Tallies.{TallyAnswer}
@@ -37,6 +38,10 @@ pub data Operation : Type 0 where
   openRemove : (slot : ℕ) → Operation
   unload : (rule : ℕ) (range : Span) → Operation
   openUnload : (rule : ℕ) (range : Span) → Operation
+  propose : Operation
+  openPropose : Operation
+  renumber : (plan : List ℕ) → Operation
+  openRenumber : (plan : List ℕ) → Operation
   read : (ticket : Ticket) → Operation
   openRead : (ticket : Ticket) → Operation
   freshExact : (interval : Interval) → Operation
@@ -69,6 +74,10 @@ Answer (remove s) = RemoveAnswer
 Answer (openRemove s) = RemoveAnswer
 Answer (unload k q) = UnloadAnswer
 Answer (openUnload k q) = UnloadAnswer
+Answer propose = ℕ
+Answer openPropose = ℕ
+Answer (renumber l) = RenumberAnswer
+Answer (openRenumber l) = RenumberAnswer
 Answer (read t) = ReadAnswer
 Answer (openRead t) = ReadAnswer
 Answer (freshExact x) = StartAnswer
@@ -121,6 +130,10 @@ result (remove s) m M = writes M (removeCall m (M .words) (M .colours) s)
 result (openRemove s) m M = writes M (openRemoveCall m (M .words) (M .colours) s)
 result (unload k q) m M = writes M (unloadCall m (M .words) (M .colours) k q)
 result (openUnload k q) m M = writes M (openUnloadCall m (M .words) (M .colours) k q)
+result propose m M = fills M (proposeCall m (M .words) (M .colours) (M .out))
+result openPropose m M = fills M (openProposeCall m (M .words) (M .colours) (M .out))
+result (renumber l) m M = writes M (renumberCall m (M .words) (M .colours) l)
+result (openRenumber l) m M = writes M (openRenumberCall m (M .words) (M .colours) l)
 result (read t) m M = stays M (readCall m (M .words) (M .colours) t)
 result (openRead t) m M = stays M (openReadCall m (M .words) (M .colours) t)
 result (freshExact x) m M = stays M (startCall m (M .words) (M .colours) x)
@@ -153,6 +166,10 @@ mapAfter (remove s) m a = a .map
 mapAfter (openRemove s) m a = a .map
 mapAfter (unload k q) m a = a .map
 mapAfter (openUnload k q) m a = a .map
+mapAfter propose m a = m
+mapAfter openPropose m a = m
+mapAfter (renumber l) m a = a .map
+mapAfter (openRenumber l) m a = a .map
 mapAfter (read t) m a = m
 mapAfter (openRead t) m a = m
 mapAfter (freshExact x) m a = m

@@ -1,0 +1,4 @@
+pub mod Tagging
+pub mod Moving
+pub mod Planning
+pub mod Determined
