@@ -7,6 +7,7 @@ use native.Mathlib.Omega.{arith}
 use lib.Dec.{eqb}
 use lib.ListN.{getD}
 use borrow.Author.Tests.{ne-eqb}
+use Rattle.words.specs.Intervals.{intersects}
 use Rattle.words.specs.Nodes.{interval}
 use Rattle.tree_in_rule.specs.Insert.{own}
 use Rattle.tidy_rule.specs.Plan.{renamed}
@@ -14,7 +15,7 @@ use Rattle.tidy_rule.specs.Tidy.{Both, tidied}
 use Rattle.tidy_rule.specs.Tidied.{Tidied}
 use Rattle.tidy_rule.proofs.Plans.{Fits, plan-all}
 use Rattle.tidy_rule.proofs.Renumbers.{renumbered}
-use Rattle.disjoint_rule.specs.Disjoint.{Disjoint}
+use Rattle.disjoint_rule.specs.Disjoint.{rangeOf, Disjoint}
 use Rattle.iset.specs.Maps.{nextMap}
 use Rattle.iset.specs.Sequence.{renumber, State, answered}
 use Rattle.iset.specs.Tidy.{renumberNumber, renumberBy, renumberCall}
@@ -29,7 +30,7 @@ moved-apart n P W C X D w m d a b la lb ne =
     plan-all n P w a la (λ s ls i. plan-all n P w b lb (λ u lu j.
     let x : interval X a ≡ interval W s = rw (← i) (ap own (m .entries s ls)) in
     let y : interval X b ≡ interval W u = rw (← j) (ap own (m .entries u lu)) in
-    rw (x, y) (d s u ls lu (λ e. ne (sym i ∙ ap (λ (k : ℕ). getD P k 0) e ∙ j)))))
+    (λ t. intersects (rangeOf (y t)) (x t)) ∙ d s u ls lu (λ e. ne (sym i ∙ ap (λ (k : ℕ). getD P k 0) e ∙ j))))
 
 module _ (m : Map) (W C plan : List ℕ) (z : disjointRule m W C ≡ 0) where
   abbrev R : Both
