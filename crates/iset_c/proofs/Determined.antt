@@ -5,7 +5,7 @@ use contract.Lifetimes.{Lfts}
 use borrow.Fn.Kinds as K
 use denote.Triple.Clauses.{AtExit}
 use denote.Ref.{now}
-use Rattle.iset_c.proofs.Exits.{same-answer, same-effect, same-output}
+use Rattle.iset_c.proofs.Exits.{same-answer, same-effect, same-effect-in, same-output}
 use Rattle.iset_c.proofs.exports.iset_check.Reads as check-reads
 use Rattle.iset_c.proofs.exports.iset_check.Kinds as check-kinds
 use Rattle.iset_c.proofs.exports.iset_build.Reads as build-reads
@@ -14,6 +14,8 @@ use Rattle.iset_c.proofs.exports.iset_remove.Reads as remove-reads
 use Rattle.iset_c.proofs.exports.iset_remove.Kinds as remove-kinds
 use Rattle.iset_c.proofs.exports.iset_insert.Reads as insert-reads
 use Rattle.iset_c.proofs.exports.iset_insert.Kinds as insert-kinds
+use Rattle.iset_c.proofs.exports.iset_unload.Reads as unload-reads
+use Rattle.iset_c.proofs.exports.iset_unload.Kinds as unload-kinds
 use Rattle.iset_c.proofs.iset_slot_after.Reads as slot-after-reads
 use Rattle.iset_c.proofs.iset_slot_after.Kinds as slot-after-kinds
 use Rattle.iset_c.proofs.exports.iset_read.Reads as read-reads
@@ -28,6 +30,8 @@ use Rattle.iset_c.proofs.call.step.Reads as call-step-reads
 use Rattle.iset_c.proofs.call.step.Kinds as call-step-kinds
 use Rattle.iset_c.proofs.call.drain.Reads as call-drain-reads
 use Rattle.iset_c.proofs.call.drain.Kinds as call-drain-kinds
+use Rattle.iset_c.proofs.call.unload.Reads as call-unload-reads
+use Rattle.iset_c.proofs.call.unload.Kinds as call-unload-kinds
 use Rattle.iset_c.proofs.exports.iset_fresh_exact.Reads as fresh-exact-reads
 use Rattle.iset_c.proofs.exports.iset_fresh_exact.Kinds as fresh-exact-kinds
 use Rattle.iset_c.proofs.exports.iset_step.Reads as step-reads
@@ -90,6 +94,16 @@ pub insert-determined :
     × (now (s .1 .1 .1 .0) ≡ now (s′ .1 .1 .1 .0))
     × (now (s .1 .1 .1 .1 .0) ≡ now (s′ .1 .1 .1 .1 .0))
 insert-determined κs a r r′ s s′ p q = same-effect p q
+
+pub unload-determined :
+    (κs : Lfts 3) (a : K.Dens κs unload-kinds.ps) (r r′ : K.resT unload-kinds.r κs .Denot)
+    (s s′ : AtExit (K.endedOf 3 unload-kinds.ps unload-kinds.r) κs)
+    → unload-reads.Post κs a r s → unload-reads.Post κs a r′ s′
+    → (r ≡ r′)
+    × (now (s .1 .1 .1 .1 .1 .1 .1 .1 .1 .0) ≡ now (s′ .1 .1 .1 .1 .1 .1 .1 .1 .1 .0))
+    × (now (s .1 .1 .1 .0) ≡ now (s′ .1 .1 .1 .0))
+    × (now (s .1 .1 .1 .1 .0) ≡ now (s′ .1 .1 .1 .1 .0))
+unload-determined κs a r r′ s s′ p q = same-effect p q
 
 pub read-determined :
     (κs : Lfts 3) (a : K.Dens κs read-kinds.ps) (r r′ : K.resT read-kinds.r κs .Denot)
@@ -221,3 +235,13 @@ pub call-drain-determined :
     × (now (s .1 .1 .1 .1 .1 .1 .1 .1 .0) ≡ now (s′ .1 .1 .1 .1 .1 .1 .1 .1 .0))
     × (now (s .1 .1 .1 .1 .1 .1 .1 .0) ≡ now (s′ .1 .1 .1 .1 .1 .1 .1 .0))
 call-drain-determined κs a r r′ s s′ p q = same-output p q
+
+pub call-unload-determined :
+    (κs : Lfts 3) (a : K.Dens κs call-unload-kinds.ps) (r r′ : K.resT call-unload-kinds.r κs .Denot)
+    (s s′ : AtExit (K.endedOf 3 call-unload-kinds.ps call-unload-kinds.r) κs)
+    → call-unload-reads.Post κs a r s → call-unload-reads.Post κs a r′ s′
+    → (r ≡ r′)
+    × (now (s .1 .1 .1 .1 .1 .1 .0) ≡ now (s′ .1 .1 .1 .1 .1 .1 .0))
+    × (now (s .1 .0) ≡ now (s′ .1 .0))
+    × (now (s .1 .1 .1 .0) ≡ now (s′ .1 .1 .1 .0))
+call-unload-determined κs a r r′ s s′ p q = same-effect-in (a .1 .1 .0) p q

@@ -1,7 +1,10 @@
 -- One equation of what an export returns and leaves determines each part of it.
 use mathlib.Core.Path.{_≡_, sym, ap, _∙_}
+use mathlib.Core.Bool.{Bool}
 use mathlib.Core.List.{List, [], _∷_}
 use Prim.Native.Nat.{ℕ}
+use Rattle.words.specs.Layouts.{asEight}
+use Rattle.words.proofs.Layouts.{eight-injective}
 use Rattle.iset_c.specs.Replies.{Exit, exit}
 
 abbrev front : List (List ℕ) → List ℕ
@@ -28,6 +31,11 @@ module _ {n k : ℕ} {A B : List ℕ} {x : Exit} where
         ap (λ (y : Exit). front (y .slices)) e,
         ap (λ (y : Exit). front (rest (y .slices))) e,
       )
+
+  -- of words in either layout, which their eight-word form says all of
+  pub same-effect-in : (narrow : Bool) {W C X D : List ℕ} → exit n A (asEight narrow W ∷ C ∷ []) ≡ x → exit k B (asEight narrow X ∷ D ∷ []) ≡ x
+      → (n ≡ k) × (A ≡ B) × (W ≡ X) × (C ≡ D)
+  same-effect-in narrow {W = W} {X = X} p q = let e = same-effect p q in (e .0, e .1, eight-injective narrow W X (e .2), e .3)
 
   pub same-output : {X Y : List ℕ} → exit n A (X ∷ []) ≡ x → exit k B (Y ∷ []) ≡ x → (n ≡ k) × (A ≡ B) × (X ≡ Y)
   same-output {X = X} {Y = Y} p q =

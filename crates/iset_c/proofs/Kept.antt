@@ -8,6 +8,7 @@ use native.Mathlib.Omega.{arith}
 use lib.ListN.{length}
 use lib.Dec.{eqb, ltb}
 use borrow.Author.Tests.{ne-eqb}
+use Rattle.words.specs.declared.interval.Span.{Span}
 use Rattle.words.specs.declared.node.Entry.{Entry}
 use Rattle.iter.specs.declared.Cursor.{Cursor}
 use Rattle.iter.specs.declared.rules.Query.{Query}
@@ -15,12 +16,13 @@ use Rattle.iset.specs.Effects.{Effect, effect, Output, output}
 use Rattle.iset.specs.Build.{buildNumber, buildList, buildCall}
 use Rattle.iset.specs.Remove.{removeNumber, removeSlot, removeCall}
 use Rattle.iset.specs.Insert.{insertNumber, insertEntry, insertCall}
+use Rattle.iset.specs.Unload.{unloadNumber, unloadRange, unloadCall}
 use Rattle.iset.specs.Lookup.{startNumber, drainNumber, drainCall}
 use Rattle.iset.specs.Plain.{plainNumber, plainCall}
 use Rattle.iset.specs.Find.{findAllCall}
 use Rattle.iset.specs.Image.{writeImageNumber, writeImageCall, readImageNumber, readStore, readImageCall}
 use Rattle.iset.specs.declared.Map.{Map}
-use Rattle.iset_c.specs.Replies.{Reply, Exit, exit, number, handed, left, exitOf, effectExit, outputExit, buildReply, removeReply, insertReply, writeReply, drainReply, tallyReply, buildExit, removeExit, insertExit, drainExit, plainExit, findAllExit, writeImageExit, readImageExit}
+use Rattle.iset_c.specs.Replies.{Reply, Exit, exit, number, handed, left, exitOf, effectExit, rangedEffectExit, outputExit, buildReply, removeReply, insertReply, unloadReply, writeReply, drainReply, tallyReply, buildExit, removeExit, insertExit, unloadExit, drainExit, plainExit, findAllExit, writeImageExit, readImageExit}
 
 -- an export that refuses leaves the answer A and the other slices, l
 abbrev pub Kept : Exit → List ℕ → List (List ℕ) → Type 0
@@ -44,12 +46,16 @@ slices-kept b A R old new f d = go (ltb (length A) (length (R .numbers))) b d
 pub exit-kept : (b : Bool) (A : List ℕ) (R : Reply) (old new : List (List ℕ)) → ((R .no ≡ 0 → ⊥) → new ≡ old) → Kept (exitOf b A R old new) A old
 exit-kept b A R old new f d = rw (answer-kept b A R d, slices-kept b A R old new f d)
 
--- a call that is refused by the number k, or not: one that writes the store, and one that writes an
--- output
+-- a call that is refused by the number k, or not: one that writes the store, with a range or
+-- without one, and one that writes an output
+pub ranged-effect-kept : {K : Type 0} (reply : K → Reply) (b : Bool) (A W C : List ℕ) (k : ℕ) (x : Effect K) (a : K) → reply (x .answer) .no ≡ 0
+    → Kept (rangedEffectExit reply b A W C (cond (eqb k 0) x (effect a W C))) A (W ∷ C ∷ [])
+ranged-effect-kept reply b A W C zero x a z = exit-kept b A _ _ _ (λ d. absurd (d z))
+ranged-effect-kept reply b A W C (suc k) x a z = rw (ne-eqb (suc k) 0 (λ e. omega arith)) (exit-kept b A _ _ _ (λ d. refl))
+
 pub effect-kept : {K : Type 0} (reply : K → Reply) (A W C : List ℕ) (k : ℕ) (x : Effect K) (a : K) → reply (x .answer) .no ≡ 0
     → Kept (effectExit reply A W C (cond (eqb k 0) x (effect a W C))) A (W ∷ C ∷ [])
-effect-kept reply A W C zero x a z = exit-kept true A _ _ _ (λ d. absurd (d z))
-effect-kept reply A W C (suc k) x a z = rw (ne-eqb (suc k) 0 (λ e. omega arith)) (exit-kept true A _ _ _ (λ d. refl))
+effect-kept reply A W C k x a z = ranged-effect-kept reply true A W C k x a z
 
 pub output-kept : {K : Type 0} (reply : K → Reply) (b : Bool) (A out : List ℕ) (k : ℕ) (x : Output K) (a : K) → reply (x .answer) .no ≡ 0
     → Kept (outputExit reply b A out (cond (eqb k 0) x (output a out))) A (out ∷ [])
@@ -78,6 +84,10 @@ module _ (A : List ℕ) (m : Map) (W C : List ℕ) where
   read-image-kept I = effect-kept buildReply A W C (readImageNumber (length W) (length C) I) (readStore m W C I) _ refl
 
   -- b: whether the bounds have kinds
+  pub unload-kept : (b : Bool) (k : ℕ) (q : Span) → Kept (unloadExit b A m W C k q) A (W ∷ C ∷ [])
+  unfolding unloadCall
+  unload-kept b k q = ranged-effect-kept unloadReply b A W C (unloadNumber m W C k q) (unloadRange m W C k q) _ refl
+
   pub drain-kept : (b : Bool) (q : Query) (c : Cursor) (limit : ℕ) (out : List ℕ) → Kept (drainExit b A m W C q c limit out) A (out ∷ [])
   unfolding drainCall
   drain-kept b q c limit out = output-kept drainReply b A out (drainNumber m W C q c limit (length out)) _ _ refl

@@ -11,6 +11,7 @@ use Rattle.words.specs.Refusals.{refusalNumber}
 use Rattle.words.specs.declared.refusal.Refusal.{Refusal}
 use Rattle.words.proofs.Refusals.{number-pos}
 use Rattle.words.specs.declared.interval.Bound.{Bound}
+use Rattle.words.specs.declared.interval.Span.{Span}
 use Rattle.iter.specs.Cursors.{ended}
 use Rattle.iter.specs.Drains.{filled}
 use Rattle.iter.specs.declared.Cursor.{Cursor}
@@ -120,6 +121,12 @@ pub bounded-drain : (rule : Bool → List ℕ → Map → List ℕ → List ℕ 
     → (r : Exit) → r ≡ rule true A m W C made c limit out → r ≡ rule b A m W C query c limit out
 bounded-drain rule A m W C c limit out made query b t e f q r p = let d : b ≡ true = sym f ∙ q in rw (d, ← e) p
 
+-- and an unloading, public or opened
+pub bounded-unload : (rule : Bool → List ℕ → Map → List ℕ → List ℕ → ℕ → Span → Exit) (A : List ℕ) (m : Map) (W C : List ℕ)
+    (k : ℕ) (made range : Span) (b t : Bool) → made ≡ range → t ≡ b → t ≡ true
+    → (r : Exit) → r ≡ rule true A m W C k made → r ≡ rule b A m W C k range
+bounded-unload rule A m W C k made range b t e f q r p = let d : b ≡ true = sym f ∙ q in rw (d, ← e) p
+
 -- the numbers of a step that is known to be a hit or the end
 module _ (s : Step) (A X : List ℕ) (c : Cursor) (e : ℕ) where
   pub hit-put : s ≡ Hit c e → X ≡ filled (stepNumbers (c .slot) c e) A → X ≡ filled (foundNumbers s) A
@@ -128,5 +135,8 @@ module _ (s : Step) (A X : List ℕ) (c : Cursor) (e : ℕ) where
   pub end-put : s ≡ End e → c ≡ ended → X ≡ filled (stepNumbers U c e) A → X ≡ filled (foundNumbers s) A
   end-put q d p = rw q (rw d at p)
 
-pub range-made : (l h lo hi : Bound) → l ≡ lo → h ≡ hi → _≡_ {A = Query} (Overlap (record { lo = l; hi = h })) (Overlap (record { lo = lo; hi = hi }))
-range-made l h lo hi p q = rw (p, q)
+pub span-made : (l h lo hi : Bound) → l ≡ lo → h ≡ hi → _≡_ {A = Span} (record { lo = l; hi = h }) (record { lo = lo; hi = hi })
+span-made l h lo hi p q = rw (p, q)
+
+pub range-made : (made range : Span) → made ≡ range → Overlap made ≡ Overlap range
+range-made made range p = ap Overlap p

@@ -16,6 +16,7 @@ use denote.Triple.Clauses.{AtExit}
 use denote.Ref.{now}
 use Rattle.words.specs.Ix.{U}
 use Rattle.words.specs.declared.interval.Interval.{Interval}
+use Rattle.words.specs.declared.interval.Span.{Span}
 use Rattle.words.specs.declared.node.Entry.{Entry}
 use Rattle.iter.specs.Drains.{filled}
 use Rattle.iter.specs.declared.Cursor.{Cursor}
@@ -24,20 +25,21 @@ use Rattle.iter.specs.declared.rules.Query.the-variants.{Exact}
 use Rattle.iset.specs.Build.{BuildAnswer, buildCall}
 use Rattle.iset.specs.Remove.{RemoveAnswer, removeCall}
 use Rattle.iset.specs.Insert.{InsertAnswer, insertCall}
+use Rattle.iset.specs.Unload.{UnloadAnswer, unloadCall}
 use Rattle.iset.specs.Lookup.{startCall, stepCall, drainCall}
 use Rattle.iset.specs.Plain.{plainCall}
 use Rattle.iset.specs.Find.{findAllCall}
 use Rattle.iset.specs.Maps.{mapOf, mapAt}
-use Rattle.iset.specs.Refusals.{Rows, accept, refuse, Exactly, checkRows, buildRows, removeRows, insertRows, readRows, startRows, stepRows, drainRows, plainRows, findAllRows, writeImageRows, readImageRows}
+use Rattle.iset.specs.Refusals.{Rows, accept, refuse, Exactly, checkRows, buildRows, removeRows, insertRows, unloadRows, readRows, startRows, stepRows, drainRows, plainRows, findAllRows, writeImageRows, readImageRows}
 use Rattle.iset.specs.Ticket.{readCall}
 use Rattle.iset.specs.Image.{writeImageCall, readImageCall}
 use Rattle.iset.specs.declared.Map.{Map}
-use Rattle.iset.proofs.Refusals.{Lacks, passed-row, failed-row, check-refusals, build-refusals, remove-refusals, insert-refusals, read-refusals, start-refusals, step-refusals, drain-refusals, plain-refusals, find-all-refusals}
+use Rattle.iset.proofs.Refusals.{Lacks, passed-row, failed-row, check-refusals, build-refusals, remove-refusals, insert-refusals, unload-refusals, read-refusals, start-refusals, step-refusals, drain-refusals, plain-refusals, find-all-refusals}
 use Rattle.iset.specs.declared.ticket.Ticket.{Ticket}
 use Rattle.iset.proofs.ImageRefusals.{write-image-refusals, read-image-refusals}
 use Rattle.iset.proofs.BitRefusals.{Fails, le-fails, and-fails}
-use Rattle.iset_c.specs.Replies.{Reply, Exit, exit, number, handed, exitOf, stepReply, drainReply, tallyReply}
-use Rattle.iset_c.specs.Ranges.{rangeOf, kinds}
+use Rattle.iset_c.specs.Replies.{Reply, Exit, exit, number, handed, exitOf, unloadReply, stepReply, drainReply, tallyReply}
+use Rattle.iset_c.specs.Ranges.{rangeOf, spanOf, kinds}
 use Rattle.iset_c.specs.Places.{Told, BadBound, stepPlaces, drainPlaces, tallyPlaces}
 use Rattle.iset_c.proofs.exports.iset_check.Reads as check-reads
 use Rattle.iset_c.proofs.exports.iset_check.Kinds as check-kinds
@@ -47,6 +49,8 @@ use Rattle.iset_c.proofs.exports.iset_remove.Reads as remove-reads
 use Rattle.iset_c.proofs.exports.iset_remove.Kinds as remove-kinds
 use Rattle.iset_c.proofs.exports.iset_insert.Reads as insert-reads
 use Rattle.iset_c.proofs.exports.iset_insert.Kinds as insert-kinds
+use Rattle.iset_c.proofs.exports.iset_unload.Reads as unload-reads
+use Rattle.iset_c.proofs.exports.iset_unload.Kinds as unload-kinds
 use Rattle.iset_c.proofs.exports.iset_read.Reads as read-reads
 use Rattle.iset_c.proofs.exports.iset_read.Kinds as read-kinds
 use Rattle.iset_c.proofs.lookup.iset_fresh.Reads as fresh-reads
@@ -176,6 +180,26 @@ pub insert-told : (κs : Lfts 3) (a : K.Dens κs insert-kinds.ps) (r : K.resT in
     Told (insertRows m W C e) (b .map .count ∷ b .map .root ∷ b .slot ∷ b .reach ∷ b .map .version ∷ [])
     (now (a .1 .1 .1 .1 .1 .1 .1 .1 .0)) (now (s .1 .1 .1 .1 .1 .1 .1 .1 .0)) r
 insert-told κs a r s p = told _ true _ _ _ r (omega arith) (insert-refusals _ _ _ _) _ _ _ p
+
+-- `iset_unload`: count, root, version, how many entries went; by rule 1
+pub unload-told : (κs : Lfts 3) (a : K.Dens κs unload-kinds.ps) (r : K.resT unload-kinds.r κs .Denot) (s : AtExit (K.endedOf 3 unload-kinds.ps unload-kinds.r) κs)
+    → unload-reads.Post κs a r s
+    → let m : Map = mapAt (a .0) (a .1 .0) (a .1 .1 .0) in
+    let W : List ℕ = now (a .1 .1 .1 .0) in
+    let C : List ℕ = now (a .1 .1 .1 .1 .0) in
+    let b = a .1 .1 .1 .1 .1 in
+    let q : Span = spanOf (b .0) (b .1 .0) (b .1 .1 .0) (b .1 .1 .1 .0) in
+    let g : UnloadAnswer = unloadCall m W C 1 q .answer in
+    Told (refuse 102 (BadBound (b .0) (b .1 .1 .0)) (unloadRows m W C 1 q)) (g .map .count ∷ g .map .root ∷ g .map .version ∷ g .gone ∷ [])
+    (now (b .1 .1 .1 .1 .0)) (now (s .1 .1 .1 .1 .1 .1 .1 .1 .1 .0)) r
+unload-told κs a r s p =
+    let m : Map = mapAt (a .0) (a .1 .0) (a .1 .1 .0) in
+    let W : List ℕ = now (a .1 .1 .1 .0) in
+    let C : List ℕ = now (a .1 .1 .1 .1 .0) in
+    let b = a .1 .1 .1 .1 .1 in
+    let q : Span = spanOf (b .0) (b .1 .0) (b .1 .1 .0) (b .1 .1 .1 .0) in
+    told-ranged (unloadRows m W C 1 q) (unloadReply (unloadCall m W C 1 q .answer)) (now (b .1 .1 .1 .1 .0)) (now (s .1 .1 .1 .1 .1 .1 .1 .1 .1 .0)) r
+    (b .0) (b .1 .1 .0) (omega arith) (omega arith) (unload-refusals m W C 1 q) _ _ _ p
 
 -- `iset_read`: start, end, value
 pub read-told : (κs : Lfts 3) (a : K.Dens κs read-kinds.ps) (r : K.resT read-kinds.r κs .Denot) (s : AtExit (K.endedOf 3 read-kinds.ps read-kinds.r) κs)

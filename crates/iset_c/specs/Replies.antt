@@ -10,6 +10,7 @@ use Prim.Native.Nat.{ℕ}
 use lib.ListN.{length, getD}
 use lib.Dec.{eqb, ltb}
 use Rattle.words.specs.declared.interval.Interval.{Interval}
+use Rattle.words.specs.declared.interval.Span.{Span}
 use Rattle.words.specs.declared.node.Entry.{Entry}
 use Rattle.words.specs.declared.pair.Pairs.{Pairs}
 use Rattle.iter.specs.Answers.{answer}
@@ -21,6 +22,7 @@ use Rattle.iset.specs.Effects.{Effect, Output}
 use Rattle.iset.specs.Build.{BuildAnswer, buildCall}
 use Rattle.iset.specs.Remove.{RemoveAnswer, removeCall}
 use Rattle.iset.specs.Insert.{InsertAnswer, insertCall}
+use Rattle.iset.specs.Unload.{UnloadAnswer, unloadCall}
 use Rattle.iset.specs.Lookup.{StartAnswer, StepAnswer, DrainAnswer, startCall, stepCall, drainCall}
 use Rattle.iset.specs.Tallies.{TallyAnswer}
 use Rattle.iset.specs.Plain.{plainCall}
@@ -65,14 +67,18 @@ abbrev pub exitOf : (known : Bool) (places : List ℕ) (reply : Reply) (old new 
     → Exit
 exitOf b A R old new = exit (number b A R) (handed b A R) (left b A R old new)
 
--- of a call that writes nothing but its answer; of one that writes the store; of one that writes an
--- output
+-- of a call that writes nothing but its answer; of one with a range that writes the store, and of
+-- one without a range; of one that writes an output
 abbrev pub answerExit : (known : Bool) (places : List ℕ) (reply : Reply) → Exit
 answerExit b A R = exitOf b A R [] []
 
+abbrev pub rangedEffectExit : {K : Type 0} → (reply : K → Reply) (known : Bool)
+    (places words colours : List ℕ) (effect : Effect K) → Exit
+rangedEffectExit reply b A W C k = exitOf b A (reply (k .answer)) (W ∷ C ∷ []) (k .words ∷ k .colours ∷ [])
+
 abbrev pub effectExit : {K : Type 0} → (reply : K → Reply) (places words colours : List ℕ)
     (effect : Effect K) → Exit
-effectExit reply A W C k = exitOf true A (reply (k .answer)) (W ∷ C ∷ []) (k .words ∷ k .colours ∷ [])
+effectExit reply A W C k = rangedEffectExit reply true A W C k
 
 abbrev pub outputExit : {K : Type 0} → (reply : K → Reply) (known : Bool) (places out : List ℕ)
     (output : Output K) → Exit
@@ -114,6 +120,13 @@ insertedNumbers m slot reach = m .count ∷ m .root ∷ slot ∷ reach ∷ m .ve
 
 abbrev pub insertReply : (answer : InsertAnswer) → Reply
 insertReply a = record { no = a .no; numbers = insertedNumbers (a .map) (a .slot) (a .reach) }
+
+-- an unloading: the new map, and how many entries went
+abbrev pub unloadedNumbers : (map : Map) (gone : ℕ) → List ℕ
+unloadedNumbers m gone = m .count ∷ m .root ∷ m .version ∷ gone ∷ []
+
+abbrev pub unloadReply : (answer : UnloadAnswer) → Reply
+unloadReply a = record { no = a .no; numbers = unloadedNumbers (a .map) (a .gone) }
 
 -- a reading through a ticket: start, end, value
 abbrev pub entryNumbers : (entry : Entry) → List ℕ
@@ -178,6 +191,10 @@ removeExit A m W C slot = effectExit removeReply A W C (removeCall m W C slot)
 abbrev pub insertExit : (places : List ℕ) (map : Map) (words colours : List ℕ) (entry : Entry)
     → Exit
 insertExit A m W C e = effectExit insertReply A W C (insertCall m W C e)
+
+abbrev pub unloadExit : (known : Bool) (places : List ℕ) (map : Map) (words colours : List ℕ)
+    (rule : ℕ) (range : Span) → Exit
+unloadExit b A m W C rule range = rangedEffectExit unloadReply b A W C (unloadCall m W C rule range)
 
 abbrev pub readExit : (places : List ℕ) (map : Map) (words colours : List ℕ) (ticket : Ticket)
     → Exit

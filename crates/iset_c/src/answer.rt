@@ -8,6 +8,7 @@ use iset::Tally;
 use iset::insert::Inserted;
 use iset::remove::Removed;
 use iset::scan::Looked;
+use iset::unload::Unloaded;
 use words::ix::U;
 ghost use mathlib.Core.Path.{_≡_};
 ghost use mathlib.Core.Bool.{true};
@@ -15,7 +16,7 @@ ghost use Prim.Native.Nat.{_≤_};
 ghost use lib.ListN.{length};
 ghost use Rattle.iter.specs.Drains.{filled};
 ghost use Rattle.iset.specs.Tallies.{tallyAnswer};
-ghost use Rattle.iset_c.specs.Replies.{number, handed, tallyReply, mapNumbers, removedNumbers, insertedNumbers, entryNumbers, lengthNumbers, cursorNumbers, stepNumbers, foundNumbers, drainNumbers, tallyNumbers};
+ghost use Rattle.iset_c.specs.Replies.{number, handed, tallyReply, mapNumbers, removedNumbers, insertedNumbers, unloadedNumbers, entryNumbers, lengthNumbers, cursorNumbers, stepNumbers, foundNumbers, drainNumbers, tallyNumbers};
 
 // Writes the numbers to the front of the answer. Places past them are unchanged.
 pub(crate) fn put(numbers: &[u64], answer: &mut [u64])
@@ -68,6 +69,14 @@ pub fn put_inserted(a: Inserted, answer: &mut [u64])
         a.reach,
         a.map.version as u64,
     ];
+    put(&numbers, answer);
+}
+
+pub fn put_unloaded(g: Unloaded, answer: &mut [u64])
+    requires { ⌜ 4 ≤ length (now answer) ⌝ }
+    ensures { λ _. ⌜ now (answer .exit) ≡ filled (unloadedNumbers (g .map) (g .gone)) (now (answer .entry)) ⌝ }
+{
+    let numbers = [g.map.count, g.map.root, g.map.version as u64, g.gone];
     put(&numbers, answer);
 }
 

@@ -16,6 +16,7 @@ use crate::save::write_image_in;
 use crate::scan::plain_exact_in;
 use crate::scan::plain_in;
 use crate::ticket::read_in;
+use crate::unload::unload_in;
 ghost use mathlib.Core.Path.{_≡_};
 ghost use mathlib.Core.Bool.{true};
 ghost use mathlib.Core.List.{[], _∷_};
@@ -23,8 +24,8 @@ ghost use Rattle.words.specs.Ix.{U};
 ghost use Rattle.iset.specs.Check.{checkRule};
 ghost use Rattle.iset.specs.Insert.{entryOf};
 ghost use Rattle.iset.specs.Maps.{mapAt, mapOf};
-ghost use Rattle.iset_c.specs.Replies.{buildExit, cursorOf, drainExit, exit, findAllExit, insertExit, plainExit, readExit, readImageExit, removeExit, startExit, stepExit, ticketAt, writeImageExit};
-ghost use Rattle.iset_c.specs.Ranges.{exactOf, intervalOf, kinds, rangeOf};
+ghost use Rattle.iset_c.specs.Replies.{buildExit, cursorOf, drainExit, exit, findAllExit, insertExit, plainExit, readExit, readImageExit, removeExit, startExit, stepExit, ticketAt, unloadExit, writeImageExit};
+ghost use Rattle.iset_c.specs.Ranges.{exactOf, intervalOf, kinds, rangeOf, spanOf};
 
 #[no_mangle]
 pub extern "C" fn iset_check(count: u64, root: u64, nodes: &[u64], colours: &[u8]) -> u64
@@ -88,6 +89,37 @@ pub extern "C" fn iset_insert(
         start,
         end,
         value,
+        answer,
+    )
+}
+
+#[no_mangle]
+pub extern "C" fn iset_unload(
+    count: u64,
+    root: u64,
+    version: u32,
+    nodes: &mut [u64],
+    colours: &mut [u8],
+    lo_kind: u64,
+    lo: u64,
+    hi_kind: u64,
+    hi: u64,
+    answer: &mut [u64],
+) -> u64
+    ensures { λ r. ⌜ exit r (now (answer .exit)) (now (nodes .exit) ∷ now (colours .exit) ∷ [])
+        ≡ unloadExit (kinds «lo_kind» «hi_kind») (now (answer .entry)) (mapAt count root version) (now (nodes .entry)) (now (colours .entry)) 1 (spanOf «lo_kind» lo «hi_kind» hi) ⌝ }
+{
+    unload_in(
+        count,
+        root,
+        version,
+        nodes,
+        false,
+        colours,
+        lo_kind,
+        lo,
+        hi_kind,
+        hi,
         answer,
     )
 }

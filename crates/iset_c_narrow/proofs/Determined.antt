@@ -19,6 +19,8 @@ use Rattle.iset_c_narrow.proofs.closed.iset_narrow_remove.Reads as remo
 use Rattle.iset_c_narrow.proofs.closed.iset_narrow_remove.Kinds as remove-kinds
 use Rattle.iset_c_narrow.proofs.closed.iset_narrow_insert.Reads as insert-reads
 use Rattle.iset_c_narrow.proofs.closed.iset_narrow_insert.Kinds as insert-kinds
+use Rattle.iset_c_narrow.proofs.closed.iset_narrow_unload.Reads as unload-reads
+use Rattle.iset_c_narrow.proofs.closed.iset_narrow_unload.Kinds as unload-kinds
 use Rattle.iset_c_narrow.proofs.closed.iset_narrow_read.Reads as read-reads
 use Rattle.iset_c_narrow.proofs.closed.iset_narrow_read.Kinds as read-kinds
 use Rattle.iset_c_narrow.proofs.closed.iset_narrow_write_image.Reads as write-image-reads
@@ -47,6 +49,8 @@ use Rattle.iset_c_narrow.proofs.opened.iset_narrow_open_remove.Reads as
 use Rattle.iset_c_narrow.proofs.opened.iset_narrow_open_remove.Kinds as open-remove-kinds
 use Rattle.iset_c_narrow.proofs.opened.iset_narrow_open_insert.Reads as open-insert-reads
 use Rattle.iset_c_narrow.proofs.opened.iset_narrow_open_insert.Kinds as open-insert-kinds
+use Rattle.iset_c_narrow.proofs.opened.iset_narrow_open_unload.Reads as open-unload-reads
+use Rattle.iset_c_narrow.proofs.opened.iset_narrow_open_unload.Kinds as open-unload-kinds
 use Rattle.iset_c_narrow.proofs.opened.iset_narrow_open_read.Reads as open-read-reads
 use Rattle.iset_c_narrow.proofs.opened.iset_narrow_open_read.Kinds as open-read-kinds
 use Rattle.iset_c_narrow.proofs.opened.iset_narrow_open_write_image.Reads as open-write-image-reads
@@ -77,6 +81,8 @@ use Rattle.iset_c_narrow.proofs.ruled.iset_narrow_plain_ruled.Reads as 
 use Rattle.iset_c_narrow.proofs.ruled.iset_narrow_plain_ruled.Kinds as plain-ruled-kinds
 use Rattle.iset_c_narrow.proofs.ruled.iset_narrow_find_all_ruled.Reads as find-all-ruled-reads
 use Rattle.iset_c_narrow.proofs.ruled.iset_narrow_find_all_ruled.Kinds as find-all-ruled-kinds
+use Rattle.iset_c_narrow.proofs.ruled.iset_narrow_unload_ruled.Reads as unload-ruled-reads
+use Rattle.iset_c_narrow.proofs.ruled.iset_narrow_unload_ruled.Kinds as unload-ruled-kinds
 use Rattle.iset_c_narrow.proofs.ruled.iset_narrow_open_step_ruled.Reads as open-step-ruled-reads
 use Rattle.iset_c_narrow.proofs.ruled.iset_narrow_open_step_ruled.Kinds as open-step-ruled-kinds
 use Rattle.iset_c_narrow.proofs.ruled.iset_narrow_open_drain_ruled.Reads as open-drain-ruled-reads
@@ -85,6 +91,8 @@ use Rattle.iset_c_narrow.proofs.ruled.iset_narrow_open_plain_ruled.Read
 use Rattle.iset_c_narrow.proofs.ruled.iset_narrow_open_plain_ruled.Kinds as open-plain-ruled-kinds
 use Rattle.iset_c_narrow.proofs.ruled.iset_narrow_open_find_all_ruled.Reads as open-find-all-ruled-reads
 use Rattle.iset_c_narrow.proofs.ruled.iset_narrow_open_find_all_ruled.Kinds as open-find-all-ruled-kinds
+use Rattle.iset_c_narrow.proofs.ruled.iset_narrow_open_unload_ruled.Reads as open-unload-ruled-reads
+use Rattle.iset_c_narrow.proofs.ruled.iset_narrow_open_unload_ruled.Kinds as open-unload-ruled-kinds
 use Rattle.iset_c_narrow.proofs.apart.iset_narrow_disjoint_check.Reads as disjoint-check-reads
 use Rattle.iset_c_narrow.proofs.apart.iset_narrow_disjoint_check.Kinds as disjoint-check-kinds
 use Rattle.iset_c_narrow.proofs.apart.iset_narrow_disjoint_point.Reads as disjoint-point-reads
@@ -141,6 +149,16 @@ pub insert-determined :
     × (now (s .1 .1 .1 .0) ≡ now (s′ .1 .1 .1 .0))
     × (now (s .1 .1 .1 .1 .0) ≡ now (s′ .1 .1 .1 .1 .0))
 insert-determined κs a r r′ s s′ p q = same-six p q
+
+pub unload-determined :
+    (κs : Lfts 3) (a : K.Dens κs unload-kinds.ps) (r r′ : K.resT unload-kinds.r κs .Denot)
+    (s s′ : AtExit (K.endedOf 3 unload-kinds.ps unload-kinds.r) κs)
+    → unload-reads.Post κs a r s → unload-reads.Post κs a r′ s′
+    → (r ≡ r′)
+    × (now (s .1 .1 .1 .1 .1 .1 .1 .1 .1 .0) ≡ now (s′ .1 .1 .1 .1 .1 .1 .1 .1 .1 .0))
+    × (now (s .1 .1 .1 .0) ≡ now (s′ .1 .1 .1 .0))
+    × (now (s .1 .1 .1 .1 .0) ≡ now (s′ .1 .1 .1 .1 .0))
+unload-determined κs a r r′ s s′ p q = same-six p q
 
 pub read-determined :
     (κs : Lfts 3) (a : K.Dens κs read-kinds.ps) (r r′ : K.resT read-kinds.r κs .Denot)
@@ -266,6 +284,16 @@ pub open-insert-determined :
     × (now (s .1 .1 .1 .0) ≡ now (s′ .1 .1 .1 .0))
     × (now (s .1 .1 .1 .1 .0) ≡ now (s′ .1 .1 .1 .1 .0))
 open-insert-determined κs a r r′ s s′ p q = same-six p q
+
+pub open-unload-determined :
+    (κs : Lfts 3) (a : K.Dens κs open-unload-kinds.ps) (r r′ : K.resT open-unload-kinds.r κs .Denot)
+    (s s′ : AtExit (K.endedOf 3 open-unload-kinds.ps open-unload-kinds.r) κs)
+    → open-unload-reads.Post κs a r s → open-unload-reads.Post κs a r′ s′
+    → (r ≡ r′)
+    × (now (s .1 .1 .1 .1 .1 .1 .1 .1 .1 .0) ≡ now (s′ .1 .1 .1 .1 .1 .1 .1 .1 .1 .0))
+    × (now (s .1 .1 .1 .0) ≡ now (s′ .1 .1 .1 .0))
+    × (now (s .1 .1 .1 .1 .0) ≡ now (s′ .1 .1 .1 .1 .0))
+open-unload-determined κs a r r′ s s′ p q = same-six p q
 
 pub open-read-determined :
     (κs : Lfts 3) (a : K.Dens κs open-read-kinds.ps) (r r′ : K.resT open-read-kinds.r κs .Denot)
@@ -397,6 +425,16 @@ pub find-all-ruled-determined :
     × (now (s .1 .1 .1 .1 .1 .1 .1 .1 .1 .0) ≡ now (s′ .1 .1 .1 .1 .1 .1 .1 .1 .1 .0))
 find-all-ruled-determined κs a r r′ s s′ p q = same-output p q
 
+pub unload-ruled-determined :
+    (κs : Lfts 3) (a : K.Dens κs unload-ruled-kinds.ps) (r r′ : K.resT unload-ruled-kinds.r κs .Denot)
+    (s s′ : AtExit (K.endedOf 3 unload-ruled-kinds.ps unload-ruled-kinds.r) κs)
+    → unload-ruled-reads.Post κs a r s → unload-ruled-reads.Post κs a r′ s′
+    → (r ≡ r′)
+    × (now (s .1 .1 .1 .1 .1 .1 .1 .1 .1 .1 .0) ≡ now (s′ .1 .1 .1 .1 .1 .1 .1 .1 .1 .1 .0))
+    × (now (s .1 .1 .1 .0) ≡ now (s′ .1 .1 .1 .0))
+    × (now (s .1 .1 .1 .1 .0) ≡ now (s′ .1 .1 .1 .1 .0))
+unload-ruled-determined κs a r r′ s s′ p q = same-six p q
+
 pub open-step-ruled-determined :
     (κs : Lfts 3) (a : K.Dens κs open-step-ruled-kinds.ps) (r r′ : K.resT open-step-ruled-kinds.r κs .Denot)
     (s s′ : AtExit (K.endedOf 3 open-step-ruled-kinds.ps open-step-ruled-kinds.r) κs)
@@ -431,6 +469,16 @@ pub open-find-all-ruled-determined :
     × (now (s .1 .1 .1 .1 .1 .1 .1 .1 .1 .1 .0) ≡ now (s′ .1 .1 .1 .1 .1 .1 .1 .1 .1 .1 .0))
     × (now (s .1 .1 .1 .1 .1 .1 .1 .1 .1 .0) ≡ now (s′ .1 .1 .1 .1 .1 .1 .1 .1 .1 .0))
 open-find-all-ruled-determined κs a r r′ s s′ p q = same-output p q
+
+pub open-unload-ruled-determined :
+    (κs : Lfts 3) (a : K.Dens κs open-unload-ruled-kinds.ps) (r r′ : K.resT open-unload-ruled-kinds.r κs .Denot)
+    (s s′ : AtExit (K.endedOf 3 open-unload-ruled-kinds.ps open-unload-ruled-kinds.r) κs)
+    → open-unload-ruled-reads.Post κs a r s → open-unload-ruled-reads.Post κs a r′ s′
+    → (r ≡ r′)
+    × (now (s .1 .1 .1 .1 .1 .1 .1 .1 .1 .1 .0) ≡ now (s′ .1 .1 .1 .1 .1 .1 .1 .1 .1 .1 .0))
+    × (now (s .1 .1 .1 .0) ≡ now (s′ .1 .1 .1 .0))
+    × (now (s .1 .1 .1 .1 .0) ≡ now (s′ .1 .1 .1 .1 .0))
+open-unload-ruled-determined κs a r r′ s s′ p q = same-six p q
 
 pub disjoint-check-determined :
     (κs : Lfts 2) (a : K.Dens κs disjoint-check-kinds.ps) (r r′ : K.resT disjoint-check-kinds.r κs .Denot)

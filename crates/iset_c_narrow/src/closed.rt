@@ -16,6 +16,7 @@ use iset_c::save::write_image_in;
 use iset_c::scan::plain_exact_in;
 use iset_c::scan::plain_in;
 use iset_c::ticket::read_in;
+use iset_c::unload::unload_in;
 ghost use mathlib.Core.Path.{_≡_};
 ghost use mathlib.Core.Bool.{true};
 ghost use mathlib.Core.List.{[], _∷_};
@@ -24,8 +25,8 @@ ghost use Rattle.words.specs.Layouts.{unpack};
 ghost use Rattle.iset.specs.Check.{checkRule};
 ghost use Rattle.iset.specs.Insert.{entryOf};
 ghost use Rattle.iset.specs.Maps.{mapAt, mapOf};
-ghost use Rattle.iset_c.specs.Replies.{exit, cursorOf, ticketAt, buildExit, removeExit, insertExit, readExit, writeImageExit, readImageExit, startExit, stepExit, drainExit, plainExit, findAllExit};
-ghost use Rattle.iset_c.specs.Ranges.{rangeOf, intervalOf, exactOf, kinds};
+ghost use Rattle.iset_c.specs.Replies.{exit, cursorOf, ticketAt, buildExit, removeExit, insertExit, unloadExit, readExit, writeImageExit, readImageExit, startExit, stepExit, drainExit, plainExit, findAllExit};
+ghost use Rattle.iset_c.specs.Ranges.{rangeOf, spanOf, intervalOf, exactOf, kinds};
 
 #[no_mangle]
 pub extern "C" fn iset_narrow_check(count: u64, root: u64, nodes: &[u64], colours: &[u8]) -> u64
@@ -89,6 +90,37 @@ pub extern "C" fn iset_narrow_insert(
         start,
         end,
         value,
+        answer,
+    )
+}
+
+#[no_mangle]
+pub extern "C" fn iset_narrow_unload(
+    count: u64,
+    root: u64,
+    version: u32,
+    nodes: &mut [u64],
+    colours: &mut [u8],
+    lo_kind: u64,
+    lo: u64,
+    hi_kind: u64,
+    hi: u64,
+    answer: &mut [u64],
+) -> u64
+    ensures { λ r. ⌜ exit r (now (answer .exit)) (unpack (now (nodes .exit)) ∷ now (colours .exit) ∷ [])
+        ≡ unloadExit (kinds «lo_kind» «hi_kind») (now (answer .entry)) (mapAt count root version) (unpack (now (nodes .entry))) (now (colours .entry)) 1 (spanOf «lo_kind» lo «hi_kind» hi) ⌝ }
+{
+    unload_in(
+        count,
+        root,
+        version,
+        nodes,
+        true,
+        colours,
+        lo_kind,
+        lo,
+        hi_kind,
+        hi,
         answer,
     )
 }

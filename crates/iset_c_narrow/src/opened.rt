@@ -13,6 +13,7 @@ use iset_c_open::save::open_write_image_in;
 use iset_c_open::scan::open_plain_exact_in;
 use iset_c_open::scan::open_plain_in;
 use iset_c_open::ticket::open_read_in;
+use iset_c_open::unload::open_unload_in;
 ghost use mathlib.Core.Path.{_≡_};
 ghost use mathlib.Core.Bool.{true};
 ghost use mathlib.Core.List.{[], _∷_};
@@ -20,8 +21,8 @@ ghost use Rattle.words.specs.Layouts.{unpack};
 ghost use Rattle.iset.specs.Insert.{entryOf};
 ghost use Rattle.iset.specs.Maps.{mapAt, mapOf};
 ghost use Rattle.iset_c.specs.Replies.{exit, cursorOf, ticketAt};
-ghost use Rattle.iset_c.specs.Ranges.{rangeOf, intervalOf, exactOf, kinds};
-ghost use Rattle.iset_c_open.specs.Replies.{openRemoveExit, openInsertExit, openReadExit, openWriteImageExit, openStartExit, openStepExit, openDrainExit, openPlainExit, openFindAllExit};
+ghost use Rattle.iset_c.specs.Ranges.{rangeOf, spanOf, intervalOf, exactOf, kinds};
+ghost use Rattle.iset_c_open.specs.Replies.{openRemoveExit, openInsertExit, openUnloadExit, openReadExit, openWriteImageExit, openStartExit, openStepExit, openDrainExit, openPlainExit, openFindAllExit};
 
 #[no_mangle]
 pub extern "C" fn iset_narrow_open_remove(
@@ -64,6 +65,37 @@ pub extern "C" fn iset_narrow_open_insert(
         start,
         end,
         value,
+        answer,
+    )
+}
+
+#[no_mangle]
+pub extern "C" fn iset_narrow_open_unload(
+    count: u64,
+    root: u64,
+    version: u32,
+    nodes: &mut [u64],
+    colours: &mut [u8],
+    lo_kind: u64,
+    lo: u64,
+    hi_kind: u64,
+    hi: u64,
+    answer: &mut [u64],
+) -> u64
+    ensures { λ r. ⌜ exit r (now (answer .exit)) (unpack (now (nodes .exit)) ∷ now (colours .exit) ∷ [])
+        ≡ openUnloadExit (kinds «lo_kind» «hi_kind») (now (answer .entry)) (mapAt count root version) (unpack (now (nodes .entry))) (now (colours .entry)) 1 (spanOf «lo_kind» lo «hi_kind» hi) ⌝ }
+{
+    open_unload_in(
+        count,
+        root,
+        version,
+        nodes,
+        true,
+        colours,
+        lo_kind,
+        lo,
+        hi_kind,
+        hi,
         answer,
     )
 }

@@ -5,11 +5,13 @@ use contract.Lifetimes.{Lfts}
 use borrow.Fn.Kinds as K
 use denote.Triple.Clauses.{AtExit}
 use denote.Ref.{now}
-use Rattle.iset_c.proofs.Exits.{same-answer, same-effect, same-output}
+use Rattle.iset_c.proofs.Exits.{same-answer, same-effect, same-effect-in, same-output}
 use Rattle.iset_c_open.proofs.exports.iset_open_remove.Reads as remove-reads
 use Rattle.iset_c_open.proofs.exports.iset_open_remove.Kinds as remove-kinds
 use Rattle.iset_c_open.proofs.exports.iset_open_insert.Reads as insert-reads
 use Rattle.iset_c_open.proofs.exports.iset_open_insert.Kinds as insert-kinds
+use Rattle.iset_c_open.proofs.exports.iset_open_unload.Reads as unload-reads
+use Rattle.iset_c_open.proofs.exports.iset_open_unload.Kinds as unload-kinds
 use Rattle.iset_c_open.proofs.exports.iset_open_write_image.Reads as write-image-reads
 use Rattle.iset_c_open.proofs.exports.iset_open_write_image.Kinds as write-image-kinds
 use Rattle.iset_c_open.proofs.exports.iset_open_read.Reads as read-reads
@@ -18,6 +20,8 @@ use Rattle.iset_c_open.proofs.call.step.Reads as call-step-reads
 use Rattle.iset_c_open.proofs.call.step.Kinds as call-step-kinds
 use Rattle.iset_c_open.proofs.call.drain.Reads as call-drain-reads
 use Rattle.iset_c_open.proofs.call.drain.Kinds as call-drain-kinds
+use Rattle.iset_c_open.proofs.call.unload.Reads as call-unload-reads
+use Rattle.iset_c_open.proofs.call.unload.Kinds as call-unload-kinds
 use Rattle.iset_c_open.proofs.exports.iset_open_fresh_exact.Reads as fresh-exact-reads
 use Rattle.iset_c_open.proofs.exports.iset_open_fresh_exact.Kinds as fresh-exact-kinds
 use Rattle.iset_c_open.proofs.exports.iset_open_step.Reads as step-reads
@@ -58,6 +62,16 @@ pub insert-determined :
     × (now (s .1 .1 .1 .0) ≡ now (s′ .1 .1 .1 .0))
     × (now (s .1 .1 .1 .1 .0) ≡ now (s′ .1 .1 .1 .1 .0))
 insert-determined κs a r r′ s s′ p q = same-effect p q
+
+pub unload-determined :
+    (κs : Lfts 3) (a : K.Dens κs unload-kinds.ps) (r r′ : K.resT unload-kinds.r κs .Denot)
+    (s s′ : AtExit (K.endedOf 3 unload-kinds.ps unload-kinds.r) κs)
+    → unload-reads.Post κs a r s → unload-reads.Post κs a r′ s′
+    → (r ≡ r′)
+    × (now (s .1 .1 .1 .1 .1 .1 .1 .1 .1 .0) ≡ now (s′ .1 .1 .1 .1 .1 .1 .1 .1 .1 .0))
+    × (now (s .1 .1 .1 .0) ≡ now (s′ .1 .1 .1 .0))
+    × (now (s .1 .1 .1 .1 .0) ≡ now (s′ .1 .1 .1 .1 .0))
+unload-determined κs a r r′ s s′ p q = same-effect p q
 
 pub write-image-determined :
     (κs : Lfts 4) (a : K.Dens κs write-image-kinds.ps) (r r′ : K.resT write-image-kinds.r κs .Denot)
@@ -171,3 +185,13 @@ pub call-drain-determined :
     × (now (s .1 .1 .1 .1 .1 .1 .1 .1 .0) ≡ now (s′ .1 .1 .1 .1 .1 .1 .1 .1 .0))
     × (now (s .1 .1 .1 .1 .1 .1 .1 .0) ≡ now (s′ .1 .1 .1 .1 .1 .1 .1 .0))
 call-drain-determined κs a r r′ s s′ p q = same-output p q
+
+pub call-unload-determined :
+    (κs : Lfts 3) (a : K.Dens κs call-unload-kinds.ps) (r r′ : K.resT call-unload-kinds.r κs .Denot)
+    (s s′ : AtExit (K.endedOf 3 call-unload-kinds.ps call-unload-kinds.r) κs)
+    → call-unload-reads.Post κs a r s → call-unload-reads.Post κs a r′ s′
+    → (r ≡ r′)
+    × (now (s .1 .1 .1 .1 .1 .1 .0) ≡ now (s′ .1 .1 .1 .1 .1 .1 .0))
+    × (now (s .1 .0) ≡ now (s′ .1 .0))
+    × (now (s .1 .1 .1 .0) ≡ now (s′ .1 .1 .1 .0))
+call-unload-determined κs a r r′ s s′ p q = same-effect-in (a .1 .1 .0) p q

@@ -5,19 +5,21 @@ use mathlib.Core.Bool.{Bool, true}
 use mathlib.Core.List.{List, [], _∷_}
 use Prim.Native.Nat.{ℕ}
 use lib.ListN.{length}
+use Rattle.words.specs.declared.interval.Span.{Span}
 use Rattle.words.specs.declared.node.Entry.{Entry}
 use Rattle.iter.specs.declared.Cursor.{Cursor}
 use Rattle.iter.specs.declared.rules.Query.{Query}
 use Rattle.iset.specs.Remove.{openRemoveNumber, removeSlot, openRemoveCall}
 use Rattle.iset.specs.Insert.{openInsertNumber, insertEntry, openInsertCall}
+use Rattle.iset.specs.Unload.{openUnloadNumber, unloadRange, openUnloadCall}
 use Rattle.iset.specs.Lookup.{openStartNumber, openDrainNumber, openDrainCall}
 use Rattle.iset.specs.Plain.{openPlainNumber, openPlainCall}
 use Rattle.iset.specs.Find.{openFindAllCall}
 use Rattle.iset.specs.Image.{openWriteImageNumber, openWriteImageCall}
 use Rattle.iset.specs.declared.Map.{Map}
-use Rattle.iset_c.specs.Replies.{removeReply, insertReply, writeReply, drainReply, tallyReply}
-use Rattle.iset_c.proofs.Kept.{Kept, effect-kept, output-kept}
-use Rattle.iset_c_open.specs.Replies.{openRemoveExit, openInsertExit, openDrainExit, openPlainExit, openFindAllExit, openWriteImageExit}
+use Rattle.iset_c.specs.Replies.{removeReply, insertReply, unloadReply, writeReply, drainReply, tallyReply}
+use Rattle.iset_c.proofs.Kept.{Kept, effect-kept, ranged-effect-kept, output-kept}
+use Rattle.iset_c_open.specs.Replies.{openRemoveExit, openInsertExit, openUnloadExit, openDrainExit, openPlainExit, openFindAllExit, openWriteImageExit}
 
 module _ (A : List ℕ) (m : Map) (W C : List ℕ) where
   pub open-remove-kept : (s : ℕ) → Kept (openRemoveExit A m W C s) A (W ∷ C ∷ [])
@@ -32,7 +34,12 @@ module _ (A : List ℕ) (m : Map) (W C : List ℕ) where
   unfolding openWriteImageCall
   open-write-image-kept out = output-kept writeReply true A out (openWriteImageNumber m W C (length out)) _ _ refl
 
-  -- of iset_open_drain and iset_open_drain_exact; b: whether the bounds have kinds
+  -- b: whether the bounds have kinds
+  pub open-unload-kept : (b : Bool) (k : ℕ) (q : Span) → Kept (openUnloadExit b A m W C k q) A (W ∷ C ∷ [])
+  unfolding openUnloadCall
+  open-unload-kept b k q = ranged-effect-kept unloadReply b A W C (openUnloadNumber m W C k q) (unloadRange m W C k q) _ refl
+
+  -- of iset_open_drain and iset_open_drain_exact
   pub open-drain-kept : (b : Bool) (q : Query) (c : Cursor) (limit : ℕ) (out : List ℕ) → Kept (openDrainExit b A m W C q c limit out) A (out ∷ [])
   unfolding openDrainCall
   open-drain-kept b q c limit out = output-kept drainReply b A out (openDrainNumber m W C q c limit (length out)) _ _ refl

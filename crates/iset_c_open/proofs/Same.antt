@@ -5,6 +5,7 @@ use mathlib.Core.Bool.{Bool, true}
 use mathlib.Core.List.{List}
 use Prim.Native.Nat.{ℕ}
 use Rattle.words.specs.declared.interval.Interval.{Interval}
+use Rattle.words.specs.declared.interval.Span.{Span}
 use Rattle.words.specs.declared.node.Entry.{Entry}
 use Rattle.iter.specs.declared.Cursor.{Cursor}
 use Rattle.iter.specs.declared.rules.Query.{Query}
@@ -12,14 +13,15 @@ use Rattle.iset.specs.Effects.{Effect, Output}
 use Rattle.iset.specs.Check.{checkRule}
 use Rattle.iset.specs.Remove.{RemoveAnswer}
 use Rattle.iset.specs.Insert.{InsertAnswer}
+use Rattle.iset.specs.Unload.{UnloadAnswer}
 use Rattle.iset.specs.Lookup.{StartAnswer, StepAnswer, DrainAnswer}
 use Rattle.iset.specs.Tallies.{TallyAnswer}
 use Rattle.iset.specs.Ticket.{ReadAnswer}
 use Rattle.iset.specs.Image.{WriteAnswer}
 use Rattle.iset.specs.declared.Map.{Map}
-use Rattle.iset.proofs.Opened.{remove-is, insert-is, read-is, write-image-is, fresh-exact-is, step-is, drain-is, plain-is, find-all-is}
-use Rattle.iset_c.specs.Replies.{answerExit, effectExit, outputExit, removeReply, insertReply, readReply, writeReply, startReply, stepReply, drainReply, tallyReply, removeExit, insertExit, readExit, writeImageExit, startExit, stepExit, drainExit, plainExit, findAllExit}
-use Rattle.iset_c_open.specs.Replies.{openRemoveExit, openInsertExit, openReadExit, openWriteImageExit, openStartExit, openStepExit, openDrainExit, openPlainExit, openFindAllExit}
+use Rattle.iset.proofs.Opened.{remove-is, insert-is, unload-is, read-is, write-image-is, fresh-exact-is, step-is, drain-is, plain-is, find-all-is}
+use Rattle.iset_c.specs.Replies.{answerExit, effectExit, rangedEffectExit, outputExit, removeReply, insertReply, unloadReply, readReply, writeReply, startReply, stepReply, drainReply, tallyReply, removeExit, insertExit, unloadExit, readExit, writeImageExit, startExit, stepExit, drainExit, plainExit, findAllExit}
+use Rattle.iset_c_open.specs.Replies.{openRemoveExit, openInsertExit, openUnloadExit, openReadExit, openWriteImageExit, openStartExit, openStepExit, openDrainExit, openPlainExit, openFindAllExit}
 use Rattle.iset.specs.declared.ticket.Ticket.{Ticket}
 
 module _ (A : List ℕ) (m : Map) (W C : List ℕ) (h : checkRule m W C ≡ 0) where
@@ -28,6 +30,9 @@ module _ (A : List ℕ) (m : Map) (W C : List ℕ) (h : checkRule m W C ≡ 0) w
 
   pub insert-exit-is : (e : Entry) → openInsertExit A m W C e ≡ insertExit A m W C e
   insert-exit-is e = ap (λ (k : Effect InsertAnswer). effectExit insertReply A W C k) (insert-is m W C h e)
+
+  pub unload-exit-is : (b : Bool) (k : ℕ) (q : Span) → openUnloadExit b A m W C k q ≡ unloadExit b A m W C k q
+  unload-exit-is b k q = ap (λ (x : Effect UnloadAnswer). rangedEffectExit unloadReply b A W C x) (unload-is m W C h k q)
 
   pub read-exit-is : (t : Ticket) → openReadExit A m W C t ≡ readExit A m W C t
   read-exit-is t = ap (λ (k : ReadAnswer). answerExit true A (readReply k)) (read-is m W C h t)

@@ -5,18 +5,20 @@ use mathlib.Core.Bool.{Bool, true}
 use mathlib.Core.List.{List}
 use Prim.Native.Nat.{ℕ}
 use Rattle.words.specs.declared.interval.Interval.{Interval}
+use Rattle.words.specs.declared.interval.Span.{Span}
 use Rattle.words.specs.declared.node.Entry.{Entry}
 use Rattle.iter.specs.declared.Cursor.{Cursor}
 use Rattle.iter.specs.declared.rules.Query.{Query}
 use Rattle.iset.specs.Remove.{openRemoveCall}
 use Rattle.iset.specs.Insert.{openInsertCall}
+use Rattle.iset.specs.Unload.{openUnloadCall}
 use Rattle.iset.specs.Lookup.{openStartCall, openStepCall, openDrainCall}
 use Rattle.iset.specs.Plain.{openPlainCall}
 use Rattle.iset.specs.Find.{openFindAllCall}
 use Rattle.iset.specs.Ticket.{openReadCall}
 use Rattle.iset.specs.Image.{openWriteImageCall}
 use Rattle.iset.specs.declared.Map.{Map}
-use Rattle.iset_c.specs.Replies.{Exit, answerExit, effectExit, outputExit, removeReply, insertReply, readReply, writeReply, startReply, stepReply, drainReply, tallyReply}
+use Rattle.iset_c.specs.Replies.{Exit, answerExit, effectExit, rangedEffectExit, outputExit, removeReply, insertReply, unloadReply, readReply, writeReply, startReply, stepReply, drainReply, tallyReply}
 use Rattle.iset.specs.declared.ticket.Ticket.{Ticket}
 
 abbrev pub openRemoveExit : (places : List ℕ) (map : Map) (words colours : List ℕ) (slot : ℕ) → Exit
@@ -25,6 +27,10 @@ openRemoveExit A m W C slot = effectExit removeReply A W C (openRemoveCall m W C
 abbrev pub openInsertExit : (places : List ℕ) (map : Map) (words colours : List ℕ) (entry : Entry)
     → Exit
 openInsertExit A m W C e = effectExit insertReply A W C (openInsertCall m W C e)
+
+abbrev pub openUnloadExit : (known : Bool) (places : List ℕ) (map : Map) (words colours : List ℕ)
+    (rule : ℕ) (range : Span) → Exit
+openUnloadExit b A m W C rule range = rangedEffectExit unloadReply b A W C (openUnloadCall m W C rule range)
 
 abbrev pub openReadExit : (places : List ℕ) (map : Map) (words colours : List ℕ) (ticket : Ticket)
     → Exit

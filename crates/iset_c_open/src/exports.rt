@@ -13,14 +13,15 @@ use crate::save::open_write_image_in;
 use crate::scan::open_plain_exact_in;
 use crate::scan::open_plain_in;
 use crate::ticket::open_read_in;
+use crate::unload::open_unload_in;
 ghost use mathlib.Core.Path.{_≡_};
 ghost use mathlib.Core.Bool.{true};
 ghost use mathlib.Core.List.{[], _∷_};
 ghost use Rattle.iset.specs.Insert.{entryOf};
 ghost use Rattle.iset.specs.Maps.{mapAt, mapOf};
 ghost use Rattle.iset_c.specs.Replies.{cursorOf, exit, ticketAt};
-ghost use Rattle.iset_c.specs.Ranges.{exactOf, intervalOf, kinds, rangeOf};
-ghost use Rattle.iset_c_open.specs.Replies.{openDrainExit, openFindAllExit, openInsertExit, openPlainExit, openReadExit, openRemoveExit, openStartExit, openStepExit, openWriteImageExit};
+ghost use Rattle.iset_c.specs.Ranges.{exactOf, intervalOf, kinds, rangeOf, spanOf};
+ghost use Rattle.iset_c_open.specs.Replies.{openDrainExit, openFindAllExit, openInsertExit, openPlainExit, openReadExit, openRemoveExit, openStartExit, openStepExit, openUnloadExit, openWriteImageExit};
 
 #[no_mangle]
 pub extern "C" fn iset_open_remove(
@@ -63,6 +64,37 @@ pub extern "C" fn iset_open_insert(
         start,
         end,
         value,
+        answer,
+    )
+}
+
+#[no_mangle]
+pub extern "C" fn iset_open_unload(
+    count: u64,
+    root: u64,
+    version: u32,
+    nodes: &mut [u64],
+    colours: &mut [u8],
+    lo_kind: u64,
+    lo: u64,
+    hi_kind: u64,
+    hi: u64,
+    answer: &mut [u64],
+) -> u64
+    ensures { λ r. ⌜ exit r (now (answer .exit)) (now (nodes .exit) ∷ now (colours .exit) ∷ [])
+        ≡ openUnloadExit (kinds «lo_kind» «hi_kind») (now (answer .entry)) (mapAt count root version) (now (nodes .entry)) (now (colours .entry)) 1 (spanOf «lo_kind» lo «hi_kind» hi) ⌝ }
+{
+    open_unload_in(
+        count,
+        root,
+        version,
+        nodes,
+        false,
+        colours,
+        lo_kind,
+        lo,
+        hi_kind,
+        hi,
         answer,
     )
 }

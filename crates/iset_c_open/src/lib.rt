@@ -11,6 +11,7 @@ pub mod lookup;
 pub mod save;
 pub mod scan;
 pub mod ticket;
+pub mod unload;
 
 use iset::Map;
 use iset::insert::Insertion;

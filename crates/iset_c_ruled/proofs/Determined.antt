@@ -5,7 +5,7 @@ use contract.Lifetimes.{Lfts}
 use borrow.Fn.Kinds as K
 use denote.Triple.Clauses.{AtExit}
 use denote.Ref.{now}
-use Rattle.iset_c.proofs.Exits.{same-answer, same-output}
+use Rattle.iset_c.proofs.Exits.{same-answer, same-effect, same-output}
 use Rattle.iset_c_ruled.proofs.exports.iset_step_ruled.Reads as step-reads
 use Rattle.iset_c_ruled.proofs.exports.iset_step_ruled.Kinds as step-kinds
 use Rattle.iset_c_ruled.proofs.exports.iset_drain_ruled.Reads as drain-reads
@@ -14,6 +14,8 @@ use Rattle.iset_c_ruled.proofs.exports.iset_plain_ruled.Reads as plain-
 use Rattle.iset_c_ruled.proofs.exports.iset_plain_ruled.Kinds as plain-kinds
 use Rattle.iset_c_ruled.proofs.exports.iset_find_all_ruled.Reads as find-all-reads
 use Rattle.iset_c_ruled.proofs.exports.iset_find_all_ruled.Kinds as find-all-kinds
+use Rattle.iset_c_ruled.proofs.exports.iset_unload_ruled.Reads as unload-reads
+use Rattle.iset_c_ruled.proofs.exports.iset_unload_ruled.Kinds as unload-kinds
 use Rattle.iset_c_ruled.proofs.exports.iset_open_step_ruled.Reads as open-step-reads
 use Rattle.iset_c_ruled.proofs.exports.iset_open_step_ruled.Kinds as open-step-kinds
 use Rattle.iset_c_ruled.proofs.exports.iset_open_drain_ruled.Reads as open-drain-reads
@@ -22,6 +24,8 @@ use Rattle.iset_c_ruled.proofs.exports.iset_open_plain_ruled.Reads as o
 use Rattle.iset_c_ruled.proofs.exports.iset_open_plain_ruled.Kinds as open-plain-kinds
 use Rattle.iset_c_ruled.proofs.exports.iset_open_find_all_ruled.Reads as open-find-all-reads
 use Rattle.iset_c_ruled.proofs.exports.iset_open_find_all_ruled.Kinds as open-find-all-kinds
+use Rattle.iset_c_ruled.proofs.exports.iset_open_unload_ruled.Reads as open-unload-reads
+use Rattle.iset_c_ruled.proofs.exports.iset_open_unload_ruled.Kinds as open-unload-kinds
 
 -- the exits are a product by parameter: the slice of parameter k is at `.1`, k times, then `.0`
 
@@ -60,6 +64,16 @@ pub find-all-determined :
     × (now (s .1 .1 .1 .1 .1 .1 .1 .1 .1 .0) ≡ now (s′ .1 .1 .1 .1 .1 .1 .1 .1 .1 .0))
 find-all-determined κs a r r′ s s′ p q = same-output p q
 
+pub unload-determined :
+    (κs : Lfts 3) (a : K.Dens κs unload-kinds.ps) (r r′ : K.resT unload-kinds.r κs .Denot)
+    (s s′ : AtExit (K.endedOf 3 unload-kinds.ps unload-kinds.r) κs)
+    → unload-reads.Post κs a r s → unload-reads.Post κs a r′ s′
+    → (r ≡ r′)
+    × (now (s .1 .1 .1 .1 .1 .1 .1 .1 .1 .1 .0) ≡ now (s′ .1 .1 .1 .1 .1 .1 .1 .1 .1 .1 .0))
+    × (now (s .1 .1 .1 .0) ≡ now (s′ .1 .1 .1 .0))
+    × (now (s .1 .1 .1 .1 .0) ≡ now (s′ .1 .1 .1 .1 .0))
+unload-determined κs a r r′ s s′ p q = same-effect p q
+
 pub open-step-determined :
     (κs : Lfts 3) (a : K.Dens κs open-step-kinds.ps) (r r′ : K.resT open-step-kinds.r κs .Denot)
     (s s′ : AtExit (K.endedOf 3 open-step-kinds.ps open-step-kinds.r) κs)
@@ -94,3 +108,13 @@ pub open-find-all-determined :
     × (now (s .1 .1 .1 .1 .1 .1 .1 .1 .1 .1 .0) ≡ now (s′ .1 .1 .1 .1 .1 .1 .1 .1 .1 .1 .0))
     × (now (s .1 .1 .1 .1 .1 .1 .1 .1 .1 .0) ≡ now (s′ .1 .1 .1 .1 .1 .1 .1 .1 .1 .0))
 open-find-all-determined κs a r r′ s s′ p q = same-output p q
+
+pub open-unload-determined :
+    (κs : Lfts 3) (a : K.Dens κs open-unload-kinds.ps) (r r′ : K.resT open-unload-kinds.r κs .Denot)
+    (s s′ : AtExit (K.endedOf 3 open-unload-kinds.ps open-unload-kinds.r) κs)
+    → open-unload-reads.Post κs a r s → open-unload-reads.Post κs a r′ s′
+    → (r ≡ r′)
+    × (now (s .1 .1 .1 .1 .1 .1 .1 .1 .1 .1 .0) ≡ now (s′ .1 .1 .1 .1 .1 .1 .1 .1 .1 .1 .0))
+    × (now (s .1 .1 .1 .0) ≡ now (s′ .1 .1 .1 .0))
+    × (now (s .1 .1 .1 .1 .0) ≡ now (s′ .1 .1 .1 .1 .0))
+open-unload-determined κs a r r′ s s′ p q = same-effect p q

@@ -1,9 +1,8 @@
 -- The query that an export makes.
-use mathlib.Core.Path.{_≡_}
+use mathlib.Core.Path.{_≡_, ap}
 use Prim.Native.Nat.{ℕ}
-use Rattle.words.specs.declared.interval.Bound.{Bound}
-use Rattle.iter.specs.declared.rules.Query.{Query}
+use Rattle.words.specs.declared.interval.Span.{Span}
 use Rattle.iter.specs.declared.rules.Query.the-variants.{Ruled}
 
-pub ruled-made : (k : ℕ) (l h lo hi : Bound) → l ≡ lo → h ≡ hi → _≡_ {A = Query} (Ruled k (record { lo = l; hi = h })) (Ruled k (record { lo = lo; hi = hi }))
-ruled-made k l h lo hi p q = rw (p, q)
+pub ruled-made : (k : ℕ) (made range : Span) → made ≡ range → Ruled k made ≡ Ruled k range
+ruled-made k made range p = ap (Ruled k) p

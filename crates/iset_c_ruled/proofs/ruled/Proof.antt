@@ -8,5 +8,4 @@ ruled-spec =
     tie.close
     (tie.spec
     (λ c κs. search needs)
-    (λ c κs. search needs)
     (λ c. search ruled-made))

@@ -8,5 +8,4 @@ range-spec =
     tie.close
     (tie.spec
     (λ c κs. search needs)
-    (λ c κs. search needs)
     (λ c. search range-made))

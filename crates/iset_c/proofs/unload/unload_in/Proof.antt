@@ -1,0 +1,19 @@
+use Rattle.iset_c.proofs.Laws.{short-exit, bounded-unload, unbounded-exit}
+use Rattle.iset_c.specs.Replies.{unloadExit}
+use borrow.Author.Needs.{needs}
+use Rattle.iset_c.proofs.unload.unload_in.Statement.{statement}
+use Rattle.iset_c.proofs.unload.unload_in.Tie as tie
+
+pub unload-in-spec : {M : Type 1} → statement M
+unload-in-spec =
+    tie.close
+    (tie.spec
+    (λ c. search short-exit)
+    (λ c κs. search needs)
+    (λ c κs. search needs)
+    (λ c κs. search needs)
+    (λ c. search needs)
+    (λ c. search needs)
+    (λ c. search needs)
+    (λ c. search (bounded-unload unloadExit))
+    (λ c. search unbounded-exit))
