@@ -119,6 +119,12 @@ class Drive:
         numbers.end()
         return self.on_store(model.insert, *entry)
 
+    def do_unload(self, numbers):
+        query = numbers.query()
+        numbers.end()
+        fits(query[0] != "e")
+        return self.on_store(model.unload, query)
+
     def do_checkd(self, numbers):
         numbers.end()
         return self.on_store(model.check_disjoint)

@@ -1,7 +1,7 @@
 #!/usr/bin/env python3
 """What the calls return and leave, from the words of document 01, of document 02 for insertion,
-tickets, images, the plain lookup, disjoint maps, the second rule of ranges and nodes of six words,
-and of docs/RULES.md for the fast lookup, in plain lists and recursion. It takes nothing from the
+tickets, images, the plain lookup, disjoint maps, the second rule of ranges, nodes of six words and
+unloading, and of docs/RULES.md for the fast lookup, in plain lists and recursion. It takes nothing from the
 code of the crate iset or of this project. tests/drive.py prints what it returns."""
 import struct
 
@@ -610,6 +610,22 @@ def find_all(s, q, room):
     hits = [slot for slot in nodes if hit(s, q, slot)]
     output = (hits + [777777] * room)[:room]
     return " ".join(map(str, (no, len(hits), len(nodes), room) + tuple(output)))
+
+
+# Unloading a range, by document 02, item 13
+
+def unload(s, q):
+    """All entries are gone through in tree order, and the first that intersects is removed, until none does."""
+    no = refuse_store(s) or refuse_query(q)
+    gone = 0
+    while no == 0:
+        hits = [slot for slot in in_order(s, s.root) if hit(s, q, slot)]
+        if not hits:
+            break
+        remove(s, hits[0])
+        gone += 1
+    s.reach = 0
+    return "%d %d %d %d" % (no, s.count, s.root, gone)
 
 
 # An address asked of an image, by document 02, item 7.

@@ -5,9 +5,9 @@ and then every request before these lines once more, with its store packed (test
 crates/drive/stdin ends with these lines."""
 import random
 
-import drive
 import model
 import packed
+from asking import DRIVE, ask, comment, show
 from image_lines import entries
 from stores import A, B, built
 
@@ -17,18 +17,6 @@ BEGIN = "# nodes of six words: what is no such setting, and one that changes not
 LONG = "# as many entries as an image at its limit holds, and the last bits of its bytes"
 TOP = 2**64 - 1
 EMPTY = 2**48 - 1
-DRIVE = drive.Drive()
-
-
-def ask(*texts):
-    """Prints the lines. Returns the model's answer to the last one."""
-    for text in texts:
-        print(text)
-        try:
-            answer = DRIVE.line(text)
-        except drive.What:
-            answer = "what"
-    return answer
 
 
 def six(s, spare=(), slots=0, link=EMPTY):
@@ -48,14 +36,6 @@ def linked(s, slot, word):
 
 def link(s, slot):
     return s.words[6 * slot + 5]
-
-
-def show(s):
-    ask(" ".join(map(str, ["store", s.count, s.root, len(s.words), *s.words, len(s.colours), *s.colours])))
-
-
-def comment(text):
-    print(text if text.startswith("#") else "# " + text)
 
 
 def settings():
@@ -117,7 +97,7 @@ def tops_below():
     data = model.image_of(built(A))
     ask(*("remove 0", "remove 9", "insert 1 2 3", "insert 2 1 3", "fresh o 2 0 2 0", "fresh e 10 20", "fresh e 20 10", "step o 2 0 2 0 2 1 0", "step r 2 1 5 2 0 2 1 0",
           "step e 10 20 0 1 0", "drain o 0 20 1 25 2 1 0 5 5", "drain r 3 2 0 2 0 2 1 0 5 5", "plain o 2 0 2 0 5", "find o 2 0 2 0 5", "find r 2 2 0 2 0 5", "ticket 3",
-          "read 3 0", "read 3 1", "write 225", "checkd", "point 10", "insertd 70 80 3", "removed 0"))
+          "read 3 0", "read 3 1", "write 225", "checkd", "point 10", "insertd 70 80 3", "removed 0", "unload o 0 20 1 25", "unload r 3 2 0 2 0"))
     assert ask("build 15 " + " ".join(map(str, A))).split(" @ ")[1].count("23 ") == 1
     ask("build 6 1 2 3 2 3 4", "commit", "check", "insert 5 6 7", "commit", "insert 7 8 9", "commit", "check")
     show(linked(six(built(A), slots=1), 3, link(a, 3) + 2**63))
@@ -150,9 +130,10 @@ def tops_above():
     comment("all bits of all words from the count up: every request leaves them but for the slots that it fills")
     s = six(built(A), [TOP] * 5, 3, TOP)
     show(s)
-    ask("check", "remove 0", "remove 4", "drain o 2 0 2 0 2 1 0 5 5", "plain r 1 2 0 2 0 5", "find r 2 1 20 2 0 5", "read 4 0", "write 225", "build 6 1 2 3 2 3 4", "commit", "check")
+    ask("check", "remove 0", "remove 4", "drain o 2 0 2 0 2 1 0 5 5", "plain r 1 2 0 2 0 5", "find r 2 1 20 2 0 5", "read 4 0", "write 225", "unload o 2 0 2 0",
+        "build 6 1 2 3 2 3 4", "commit", "check")
     show(s)
-    for text in "insert 50 55 6", "remove 2", "insert 0 1 7", "insert 90 91 8", "insert 10 20 9", "insert 11 12 10", "remove 0":
+    for text in "insert 50 55 6", "remove 2", "insert 0 1 7", "insert 90 91 8", "insert 10 20 9", "insert 11 12 10", "remove 0", "unload o 0 0 1 12", "unload r 2 1 40 2 0":
         ask(text, "last", "commit", "check")
         assert all(link(DRIVE.store, slot) in (TOP, EMPTY) for slot in range(DRIVE.store.count, 8)) and DRIVE.store.words[48:] == [TOP] * 5
 

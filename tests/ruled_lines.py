@@ -2,7 +2,7 @@
 """Lines for `drive` about lookups by the rule of a number: every pair of bounds at numbers that
 entries end at and beside, by rule 2, and by rule 1 beside a query without a rule; numbers that are
 no rule, and each pair of refusals; a cursor of one rule that the other carries on. crates/drive/stdin
-has these lines before those of tests/narrow_lines.py."""
+has these lines before those of tests/unload_lines.py."""
 import model
 from image_lines import lines
 from lookups import TOP, U, drains, overlap, start, steps

@@ -29,8 +29,11 @@ pub enum Call {
 // order of the `call_at` beside it. crates/drive/stdin makes every one of these requests, so a name
 // in a wrong place shows in its answer.
 fn store_call(name: &[u8]) -> Call {
-    let k = given::which(name, b"check;build ;remove ;insert ;read ;");
-    if k < 5 {
+    let k = given::which(
+        name,
+        b"check;build ;remove ;insert ;read ;unload o ;unload r ;",
+    );
+    if k < 7 {
         return Call::Map(map::Call::Store(store::call_at(k)));
     }
     let k = given::which(name, b"checkd;point ;insertd ;removed ;");

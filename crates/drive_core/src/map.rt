@@ -11,6 +11,7 @@ mod read;
 mod remove;
 mod reply;
 pub mod store;
+mod unload;
 mod write;
 
 use crate::answer;

@@ -48,10 +48,26 @@ pub(crate) fn fits(kind: Kind, numbers: &[u64]) -> bool {
 }
 
 // The range whose bounds begin at place k.
-fn range(numbers: &[u64], k: usize) -> Span {
+fn range_at(numbers: &[u64], k: usize) -> Span {
     Span {
         lo: Bound::of_kind(arena::word(numbers, k, 0), arena::word(numbers, k, 1)),
         hi: Bound::of_kind(arena::word(numbers, k, 2), arena::word(numbers, k, 3)),
+    }
+}
+
+// The range of a query that is not exact.
+pub(crate) fn range(kind: Kind, numbers: &[u64]) -> Span {
+    match kind {
+        Kind::Ruled => range_at(numbers, 1),
+        _ => range_at(numbers, 0),
+    }
+}
+
+// The number of its rule, 1 if the query names none.
+pub(crate) fn rule(kind: Kind, numbers: &[u64]) -> u64 {
+    match kind {
+        Kind::Ruled => given::number(numbers, 0),
+        _ => 1,
     }
 }
 
@@ -64,8 +80,8 @@ pub(crate) fn interval(numbers: &[u64]) -> Interval {
 
 pub(crate) fn query(kind: Kind, numbers: &[u64]) -> Query {
     match kind {
-        Kind::Overlap => Query::Overlap(range(numbers, 0)),
-        Kind::Ruled => Query::Ruled(given::number(numbers, 0), range(numbers, 1)),
+        Kind::Overlap => Query::Overlap(range(kind, numbers)),
+        Kind::Ruled => Query::Ruled(rule(kind, numbers), range(kind, numbers)),
         Kind::Exact => Query::Exact(interval(numbers)),
     }
 }

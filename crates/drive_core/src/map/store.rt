@@ -1,11 +1,13 @@
-// The requests that check, build, remove, insert and read.
+// The requests that check, build, remove, insert, read and unload.
 use crate::given;
+use crate::lookups::query::Kind;
 use crate::map::build;
 use crate::map::check;
 use crate::map::insert;
 use crate::map::read;
 use crate::map::remove;
 use crate::map::reply::Reply;
+use crate::map::unload;
 use iset::Map;
 
 pub enum Call {
@@ -14,6 +16,7 @@ pub enum Call {
     Remove,
     Insert,
     Read,
+    Unload(Kind),
 }
 
 // The calls in the order of their names (crate::call).
@@ -23,7 +26,9 @@ pub(crate) fn call_at(place: usize) -> Call {
         1 => Call::Build,
         2 => Call::Remove,
         3 => Call::Insert,
-        _ => Call::Read,
+        4 => Call::Read,
+        5 => Call::Unload(Kind::Overlap),
+        _ => Call::Unload(Kind::Ruled),
     }
 }
 
@@ -34,6 +39,7 @@ pub(crate) fn fits(call: Call, numbers: &[u64]) -> bool {
         Call::Remove => numbers.len() == 1,
         Call::Insert => numbers.len() == 3,
         Call::Read => read::fits(numbers),
+        Call::Unload(kind) => unload::fits(kind, numbers),
     }
 }
 
@@ -51,5 +57,6 @@ pub(crate) fn done(
         Call::Remove => remove::remove(m, given::number(numbers, 0), nodes, narrow, colours),
         Call::Insert => insert::insert(m, numbers, nodes, narrow, colours),
         Call::Read => read::read(m, numbers, nodes, narrow, colours),
+        Call::Unload(kind) => unload::unload(m, kind, numbers, nodes, narrow, colours),
     }
 }

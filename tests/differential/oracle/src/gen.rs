@@ -44,7 +44,7 @@ pub fn wanted(kind: &str) -> bool {
 
 /// Whether any wanted request needs a store.
 pub fn on_stores() -> bool {
-    ["check", "remove", "insert", "lookup", "exact"].iter().any(|kind| wanted(kind))
+    ["check", "remove", "insert", "unload", "lookup", "exact"].iter().any(|kind| wanted(kind))
 }
 
 /// Where addresses are taken from.
@@ -386,6 +386,25 @@ impl<'a> Gen<'a> {
         self.damage(keys);
     }
 
+    fn unload(&mut self, keys: Keys) {
+        let query = self.overlap(keys);
+        self.say(&format!("unload {}", query.text()));
+    }
+
+    /// Ranges of the present store, each unloaded from the whole of it; then two one after the other, and one from a damaged store.
+    pub fn unloadings(&mut self, keys: Keys) {
+        for _ in 0..3 {
+            self.unload(keys);
+        }
+        let mut carried = vec![];
+        for _ in 0..2 {
+            self.unload(keys);
+            self.settle(&mut carried, keys);
+        }
+        self.damage(keys);
+        self.unload(keys);
+    }
+
     /// Builds into slices of any content, sometimes refused. The last good one becomes the store.
     pub fn build(&mut self, n: u64, keys: Keys) {
         let mut ranges: Vec<_> = (0..n).map(|_| self.range(keys)).collect();
@@ -586,6 +605,10 @@ impl<'a> Gen<'a> {
                 self.say(&whole);
             }
             self.insertions(n, keys);
+        }
+        if wanted("unload") {
+            self.say(&whole);
+            self.unloadings(keys);
         }
     }
 }

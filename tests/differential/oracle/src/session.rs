@@ -220,6 +220,7 @@ impl Session {
             "build" => self.build(&t.list()),
             "remove" => self.remove(t.num()),
             "insert" => self.insert(t.num(), t.num(), t.num()),
+            "unload" => self.unload(t.query()),
             "step" => self.step(t.query(), t.cursor()),
             "drain" => self.drain(t.query(), t.cursor(), t.num(), t.num()),
             "fresh" => return Some(self.fresh(t.query())),
@@ -344,6 +345,28 @@ impl Session {
             left.words[8 * slot as usize + 2] = if slot == count { value } else { self.store.link(slot, 2) };
         }
         format!("0 {} {root} {count}", left.count)
+    }
+
+    /// The crate has no such call: its own removals of the first hit, one after the other, until there is none.
+    fn unload(&mut self, query: Query) -> String {
+        let no = match self.store_refusal() {
+            0 => query.refusal(),
+            no => no,
+        };
+        let whole = self.store.clone();
+        let mut gone = 0;
+        while no == 0 {
+            let fresh = Cursor { slot: self.store.root, levels: 1, bits: 0 };
+            let (slot, ..) = self.walk(&self.map(), query, fresh);
+            if slot == U {
+                break;
+            }
+            self.remove(slot);
+            self.store = self.left_store.clone();
+            gone += 1;
+        }
+        self.store = whole;
+        format!("{no} {} {} {gone}", self.left_store.count, self.left_store.root)
     }
 
     /// Where a fresh cursor of this query stands.

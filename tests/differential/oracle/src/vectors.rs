@@ -6,6 +6,7 @@ use iset::probe;
 
 const STORE_A: &str = "15 10 20 1 10 30 2 25 40 3 40 50 4 45 60 5";
 const STORE_B: &str = "9 5 9 1 5 9 2 5 9 3";
+const EXAMPLES: [&str; 6] = ["0 20 1 25", "0 60 1 70", "1 20 0 25", "2 0 2 0", "1 7 0 7", "0 7 0 7"];
 
 fn examples(gen: &mut Gen) {
     gen.say("# the examples of document 01: store A");
@@ -16,7 +17,7 @@ fn examples(gen: &mut Gen) {
     for slot in ["0", "1", "2", "3", "4", "5", "4294967295"] {
         gen.say(&format!("remove {slot}"));
     }
-    for query in ["0 20 1 25", "0 60 1 70", "1 20 0 25", "2 0 2 0", "1 7 0 7", "0 7 0 7"] {
+    for query in EXAMPLES {
         gen.say(&format!("drain o {query} 2 1 0 0 64"));
         gen.say(&format!("step o {query} 2 1 0"));
     }
@@ -112,5 +113,17 @@ pub fn run(seed: u64) {
         let store = gen.store(n, keys);
         gen.say(&store.line());
         gen.insertions(6, keys);
+    }
+    gen.say("# unloadings: store A, then others");
+    gen.say(&format!("store 0 4294967295 40{} 1 0", " 7".repeat(40)));
+    gen.say(&format!("build {STORE_A}"));
+    gen.say("commit");
+    for query in EXAMPLES {
+        gen.say(&format!("unload o {query}"));
+    }
+    for (n, keys) in [(6, Keys::Small), (9, Keys::Edges), (16, Keys::Medium), (24, Keys::Small)] {
+        let store = gen.store(n, keys);
+        gen.say(&store.line());
+        gen.unloadings(keys);
     }
 }

@@ -1,11 +1,11 @@
 use lib.ListN.{length-take}
 use native.Mathlib.Omega.{arith}
 use borrow.Author.Needs.{needs}
-use Rattle.test_limits.proofs.build_list.Statement.{statement}
-use Rattle.test_limits.proofs.build_list.Tie as tie
+use Rattle.test_limits.proofs.built.Statement.{statement}
+use Rattle.test_limits.proofs.built.Tie as tie
 
-pub build-list-spec : {M : Type 1} → statement M
-build-list-spec =
+pub built-spec : {M : Type 1} → statement M
+built-spec =
     tie.close
     (tie.spec
     (λ c κs. search needs)
