@@ -27,11 +27,16 @@ use Rattle.iter.specs.Forms.{onSide, formed, heldForm, formOf}
 use Rattle.iter.specs.Overlap.{meets, shouldGo}
 use Rattle.iter.specs.Exact.{equals, toward, shouldGoExact, find}
 use Rattle.iter.specs.Queries.{rules}
+use Rattle.first_rule.specs.Way.{wayEnd}
+use Rattle.first_rule.specs.First.{past, firstPast, firstMet, firstIn}
+use Rattle.unload_rule.specs.Sweep.{sweep}
+use Rattle.unload_rule.specs.Unload.{unloadRule}
 use Rattle.plain_rule.specs.Tour.{ascend, nextOf, firstOf, tour, entries, plain}
 use Rattle.iset.specs.Check.{countNumber, checkRule}
 use Rattle.iset.specs.Build.{buildNumber, buildCall}
 use Rattle.iset.specs.Remove.{removeNumber, removeCall, openRemoveNumber}
 use Rattle.iset.specs.Insert.{fullNumber, openInsertNumber, roomThenCheck, insertNumber, insertCall}
+use Rattle.iset.specs.Unload.{unloadCall}
 use Rattle.iset.specs.Lookup.{startNumber, stepNumber, drainNumber, startCall, stepCall, drainCall, openStartNumber, openStepNumber, openDrainNumber}
 use Rattle.iset.specs.Plain.{openPlainNumber, plainNumber, plainCall}
 use Rattle.iset.specs.Find.{findAllCall}
@@ -99,6 +104,10 @@ entering-nodes : Unit {0}
 unfolding shouldEnter fastRules startAt entering fastNodes fastHits findAllCall
 entering-nodes = record {}
 
+sweeping : Unit {0}
+unfolding wayEnd past firstPast firstMet firstIn sweep unloadRule unloadCall
+sweeping = record {}
+
 ticketing : Unit {0}
 unfolding age ticketNumber openReadNumber readNumber readCall
 ticketing = record {}
@@ -117,5 +126,5 @@ telling = record {}
 
 -- one `refl` a row, in the table's order
 pub examples : Each table
-unfolding reading checking building repairing naming removing inserting reaching walking looking touring entering-nodes ticketing saving changing telling
-examples = (refl, (refl, (refl, (refl, (refl, (refl, (refl, (refl, (refl, (refl, (refl, (refl, (refl, (refl, (refl, (refl, (refl, (refl, (refl, (refl, (refl, (refl, (refl, (refl, (refl, (refl, (refl, (refl, (refl, (refl, (refl, (refl, (refl, (refl, (refl, (refl, (refl, (refl, (refl, (refl, (refl, (refl, (refl, (refl, (refl, (refl, (refl, (refl, (refl, (refl, (refl, (refl, (refl, (refl, (refl, (refl, (refl, (refl, (refl, (refl, (refl, (refl, (refl, (refl, (refl, (refl, record {}))))))))))))))))))))))))))))))))))))))))))))))))))))))))))))))))))
+unfolding reading checking building repairing naming removing inserting reaching walking looking touring entering-nodes sweeping ticketing saving changing telling
+examples = (refl, (refl, (refl, (refl, (refl, (refl, (refl, (refl, (refl, (refl, (refl, (refl, (refl, (refl, (refl, (refl, (refl, (refl, (refl, (refl, (refl, (refl, (refl, (refl, (refl, (refl, (refl, (refl, (refl, (refl, (refl, (refl, (refl, (refl, (refl, (refl, (refl, (refl, (refl, (refl, (refl, (refl, (refl, (refl, (refl, (refl, (refl, (refl, (refl, (refl, (refl, (refl, (refl, (refl, (refl, (refl, (refl, (refl, (refl, (refl, (refl, (refl, (refl, (refl, (refl, (refl, (refl, (refl, (refl, (refl, (refl, (refl, record {}))))))))))))))))))))))))))))))))))))))))))))))))))))))))))))))))))))))))

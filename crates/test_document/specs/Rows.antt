@@ -26,6 +26,7 @@ use Rattle.iset.specs.Effects.{Effect, Output}
 use Rattle.iset.specs.Build.{BuildAnswer, buildCall}
 use Rattle.iset.specs.Remove.{RemoveAnswer, removeCall}
 use Rattle.iset.specs.Insert.{InsertAnswer, insertCall}
+use Rattle.iset.specs.Unload.{UnloadAnswer, unloadCall}
 use Rattle.iset.specs.Lookup.{StartAnswer, StepAnswer, DrainAnswer, startCall, stepCall, drainCall}
 use Rattle.iset.specs.Tallies.{TallyAnswer}
 use Rattle.iset.specs.Plain.{plainCall}
@@ -70,12 +71,13 @@ pub data Step : Type 0 where
 -- the root's right link, `slot` for the eight words of a slot, `sixes` for the eight-word form of
 -- words that have six a slot. A lookup runs from its fresh cursor to the end, `ruled` by the rule
 -- of a number; a step is its first step; a drain is one call, from a cursor, with a limit and an
--- output. `write` writes the image into so many places, `reload` reads what was written in the
+-- output. `unload` is by the rule of a number too. `write` writes the image into so many places, `reload` reads what was written in the
 -- place of a map, into words and colours.
 pub data Call : Type 0 where
   build : (words bytes : ℕ) (triples : List ℕ) → Call
   remove : (store : State) (slot : ℕ) → Call
   insert : (store : State) (entry : Entry) → Call
+  unload : (store : State) (rule : ℕ) (lo hi : Bound) → Call
   rootRight : (store : State) → Call
   slot : (store : State) (slot : ℕ) → Call
   sixes : (words : List ℕ) → Call
@@ -109,8 +111,8 @@ pub record Limits : Type 0 where
   pub t : ℕ
   pub bound : ℕ
 
--- What is told. Of a build, a removal and an insertion: the answer, and what it leaves, of a
--- removal the colour bytes. Of an overlap lookup: what is found, t and the bound; of its first
+-- What is told. Of a build, a removal, an insertion and an unloading: the answer, and what it
+-- leaves, of a removal and an unloading the colour bytes. Of an overlap lookup: what is found, t and the bound; of its first
 -- step: the whole answer; of a drain, a plain lookup and a fast one: the answer and the output. Of
 -- an exact lookup: the answer of `fresh_exact`, and what is found from its cursor on. Of a reading
 -- through a ticket, and of writing an image: the whole answer. Of reading an image: the answer, and
@@ -119,6 +121,7 @@ pub data Told : Type 0 where
   built : (answer : BuildAnswer) (left : Left) → Told
   removed : (answer : RemoveAnswer) (colours : List ℕ) → Told
   inserted : (answer : InsertAnswer) (left : Left) → Told
+  unloaded : (answer : UnloadAnswer) (colours : List ℕ) → Told
   link : (link : ℕ) → Told
   holds : (words : List ℕ) → Told
   found : (found : Found) (limits : Limits) → Told
@@ -174,6 +177,9 @@ tell (remove t s) =
     let r : Effect RemoveAnswer = removeCall (t .map) (t .words) (t .colours) s in
     removed (r .answer) (r .colours)
 tell (insert t e) = inserted (insertCall (t .map) (t .words) (t .colours) e .answer) (leftIn (t plus e))
+tell (unload t k lo hi) =
+    let r : Effect UnloadAnswer = unloadCall (t .map) (t .words) (t .colours) k (span lo hi) in
+    unloaded (r .answer) (r .colours)
 tell (rootRight t) = link (kid (t .words) false (t .map .root))
 tell (slot t k) = holds (take (wordsOf 1) (drop (wordsOf k) (t .words)))
 tell (sixes W) = holds (asEight true W)

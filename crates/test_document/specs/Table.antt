@@ -21,7 +21,7 @@ use Rattle.iset.specs.Maps.{mapAt}
 use Rattle.iset.specs.Ticket.{ticketOf}
 use Rattle.iset.specs.Sequence.{State}
 use Rattle.test_document.specs.Stores.{buildIn, _at_, _minus_, _plus_}
-use Rattle.test_document.specs.Rows.{Row, _gives_, _to_, moved, colours, _entering_, hit, end, refused, build, remove, insert, rootRight, slot, sixes, overlap, ruled, step, drain, exact, plain, read, findAll, write, reload, span, built, removed, inserted, link, holds, found, stepped, drained, started, looked, given, saved, loaded}
+use Rattle.test_document.specs.Rows.{Row, _gives_, _to_, moved, colours, _entering_, hit, end, refused, build, remove, insert, unload, rootRight, slot, sixes, overlap, ruled, step, drain, exact, plain, read, findAll, write, reload, span, built, removed, inserted, unloaded, link, holds, found, stepped, drained, started, looked, given, saved, loaded}
 
 -- the entry [3,6) alone
 unfoldable pub lone : State
@@ -295,4 +295,15 @@ table =
     -- and a removal there: the emptied slot's three links in one word
     remove storeA₆ 4 gives removed (record { no = 0; value = 5; map = mapAt 4 2 2; pairs = moved []; reach = 2 }) (colours 1) ∷
     slot (storeA₆ minus 4) 4 gives holds (asEight true (0 ∷ 0 ∷ 0 ∷ 0 ∷ 0 ∷ 281474976710655 ∷ [])) ∷
+    -- document 02, item 13: "Remove the first intersecting entry in tree order, over and over, until
+    -- none is left; answer how many went." One goes, as by remove 1; two go; none does, though
+    -- [45,60) touches the range
+    unload storeA 1 (Included 20) (Excluded 25) gives unloaded (record { no = 0; gone = 1; map = mapAt 4 2 2 }) (colours 8) ∷
+    unload storeA 1 (Excluded 20) (Included 25) gives unloaded (record { no = 0; gone = 2; map = mapAt 3 2 3 }) (colours 8) ∷
+    unload storeA 1 (Included 60) (Excluded 70) gives unloaded (record { no = 0; gone = 0; map = mapAt 5 2 1 }) (colours 9) ∷
+    -- "The version rises by the number removed", past its top too
+    unload (storeA at 4294967294) 1 Unbounded Unbounded gives unloaded (record { no = 0; gone = 5; map = mapAt 0 U 3 }) (colours 0) ∷
+    -- by rule 2 [3,6) stays; and 3 is no rule
+    unload lone 2 (Excluded 5) Unbounded gives unloaded (record { no = 0; gone = 0; map = mapAt 1 0 1 }) (colours 0) ∷
+    unload lone 3 Unbounded Unbounded gives unloaded (record { no = refusalNumber BadRange; gone = 0; map = mapAt 1 0 1 }) (colours 0) ∷
     []

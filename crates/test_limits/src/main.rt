@@ -3,11 +3,16 @@
 // words, then the refusal's number. If there is no refusal, the count, the root and the number of
 // the check afterwards follow. Then each chain prints one line: how many nodes it has, the number of
 // node words, and the number of the check. In a chain each node is the right child of the one
-// before. Each build and each chain is in as many words as it takes, and then in one word less.
+// before. Each build and each chain is in as many words as it takes, and then in one word less. Then
+// a map of as many entries as there can be prints one line: how many are gone after all of them were
+// unloaded, then 0, the count, the root and the number of the check afterwards.
 use iset::Map;
 use iset::build::Built;
+use iset::unload::Unloading;
 use lines::output;
+use words::interval::Bound;
 use words::interval::Interval;
+use words::interval::Span;
 use words::interval::smaller;
 use words::ix::U;
 use words::node::Entry;
@@ -84,9 +89,13 @@ fn show_built(a: Built, nodes: &[u64], narrow: bool, colours: &[u8]) {
 }
 
 // Builds the map of the first k numbers of the list.
-fn build_list(k: usize, list: &[u64], nodes: &mut [u64], narrow: bool, colours: &mut [u8]) {
+fn built(k: usize, list: &[u64], nodes: &mut [u64], narrow: bool, colours: &mut [u8]) -> Built {
     let n = least(k, list.len());
-    let a = Map::new().build_in(nodes, narrow, colours, &list[..n]);
+    Map::new().build_in(nodes, narrow, colours, &list[..n])
+}
+
+fn build_list(k: usize, list: &[u64], nodes: &mut [u64], narrow: bool, colours: &mut [u8]) {
+    let a = built(k, list, nodes, narrow, colours);
     show_built(a, nodes, narrow, colours);
     output::send(b"\n");
 }
@@ -215,6 +224,41 @@ fn chains(nodes: &mut [u64], narrow: bool, colours: &[u8])
     chain_both(65536, nodes, narrow, colours);
 }
 
+fn show_unloaded(a: Unloading, nodes: &[u64], narrow: bool, colours: &[u8]) {
+    match a {
+        Unloading::Refused(why) => number(why.number()),
+        Unloading::Done(left) => {
+            number(left.gone);
+            show_map(left.map, nodes, narrow, colours);
+        }
+    }
+}
+
+// Unloads every entry.
+fn unload_all(m: Map, nodes: &mut [u64], narrow: bool, colours: &mut [u8]) {
+    let all = Span {
+        lo: Bound::Unbounded,
+        hi: Bound::Unbounded,
+    };
+    let a = m.unload_in(nodes, narrow, colours, 1, all);
+    show_unloaded(a, nodes, narrow, colours);
+}
+
+fn unload_built(a: Built, nodes: &mut [u64], narrow: bool, colours: &mut [u8]) {
+    match a {
+        Built::Refused(why) => number(why.number()),
+        Built::Done(m) => unload_all(m, nodes, narrow, colours),
+    }
+}
+
+// Builds a map of as many entries as there can be, and unloads it.
+fn unload(list: &mut [u64], nodes: &mut [u64], narrow: bool, colours: &mut [u8]) {
+    put_triples(list, 65535);
+    let a = built(196605, list, nodes, narrow, colours);
+    unload_built(a, nodes, narrow, colours);
+    output::send(b"\n");
+}
+
 fn main() {
     let mut list = list_space();
     let mut nodes = words_space();
@@ -222,7 +266,9 @@ fn main() {
     let black = bytes_space();
     builds(&mut list, &mut nodes, false, &mut colours);
     chains(&mut nodes, false, &black);
+    unload(&mut list, &mut nodes, false, &mut colours);
     builds(&mut list, &mut nodes, true, &mut colours);
     chains(&mut nodes, true, &black);
+    unload(&mut list, &mut nodes, true, &mut colours);
     output::close(b"test_limits");
 }
