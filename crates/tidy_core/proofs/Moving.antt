@@ -16,11 +16,6 @@ use Rattle.tidy_rule.specs.Tidy.{tagged, tag, swapNodes, swapColours, Both, set
 
 -- an exchange
 module _ (W X : List ℕ) (e : Entry) (h : Interval) (left right up : ℕ) where
-  pub copied-is : (i j : ℕ) → e ≡ entry W i → h ≡ hull W i → left ≡ kid W true i → right ≡ kid W false i → up ≡ par W i
-      → X ≡ putNode W j e h left right up → X ≡ copied W i j
-  unfolding copied
-  copied-is i j a b c d f q = rw (← a, ← b, ← c, ← d, ← f) q
-
   pub swapped-is : (Y : List ℕ) (i j : ℕ) → e ≡ entry W i → h ≡ hull W i → left ≡ kid W true i → right ≡ kid W false i → up ≡ par W i
       → X ≡ copied W j i → Y ≡ putNode X j e h left right up → Y ≡ swapNodes W i j
   unfolding swapNodes copied

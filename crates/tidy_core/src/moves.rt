@@ -6,6 +6,7 @@ use crate::tags::tag_of;
 use crate::tags::untag_all;
 use bitvec::bit_at;
 use bitvec::put_bit;
+use tree_rm::remove::copy_node;
 use words::node::child_of;
 use words::node::entry_of;
 use words::node::hull_at;
@@ -18,22 +19,8 @@ ghost use lib.Dec.{eqb};
 ghost use Rattle.words.specs.Ix.{gone};
 ghost use Rattle.words.specs.Layouts.{asEight, HoldsIn, HasIn};
 ghost use Rattle.words.specs.Nodes.{HoldsBits, HasBit};
-ghost use Rattle.tree_rm_rule.specs.Remove.{copied};
 ghost use Rattle.tidy_rule.specs.Plan.{fits, renamed};
 ghost use Rattle.tidy_rule.specs.Tidy.{tag, swapNodes, swapColours, settle, tidied};
-
-// Copies all words of slot `from` to slot `to`.
-fn copy_node(nodes: &mut [u64], narrow: bool, from: u64, to: u64)
-    requires { ⌜ HasIn narrow (now nodes) from × HasIn narrow (now nodes) to ⌝ }
-    ensures { λ _. ⌜ asEight narrow (now (nodes .exit)) ≡ copied (asEight narrow (now (nodes .entry))) from to ⌝ }
-{
-    let e = entry_of(nodes, narrow, from);
-    let h = hull_at(nodes, narrow, from);
-    let left = child_of(nodes, narrow, from, true);
-    let right = child_of(nodes, narrow, from, false);
-    let up = parent_of(nodes, narrow, from);
-    put_node(nodes, narrow, to, e, h, left, right, up);
-}
 
 // The nodes of slots i and j change places, all their words.
 fn swap_nodes(nodes: &mut [u64], narrow: bool, i: u64, j: u64)

@@ -42,7 +42,7 @@ fn swap_nodes(nodes: &mut [u64], narrow: bool, i: u64, j: u64)
 }
 
 // Copies all words of slot `from` to slot `to`.
-fn copy_node(nodes: &mut [u64], narrow: bool, from: u64, to: u64)
+pub fn copy_node(nodes: &mut [u64], narrow: bool, from: u64, to: u64)
     requires { ⌜ HasIn narrow (now nodes) from × HasIn narrow (now nodes) to ⌝ }
     ensures { λ _. ⌜ asEight narrow (now (nodes .exit)) ≡ copied (asEight narrow (now (nodes .entry))) from to ⌝ }
 {
