@@ -1,0 +1,4 @@
+pub mod Pages
+pub mod Arms
+pub mod Meaning
+pub mod Determined
