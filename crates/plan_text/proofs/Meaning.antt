@@ -201,6 +201,37 @@ flaw-stays (b ∷ c) t e = ap (λ (u : Stage). foldl stepped u c) (step-stays t 
     step-stays : (t : Stage) (b : ℕ) → isNothing (t .shelf .flaw) ≡ false → stepped t b ≡ t
     step-stays t b e = rw e refl
 
+flaw-last : (t : Stage) (d : List ℕ) → isNothing (t .shelf .flaw) ≡ false → lastOf (fed t d) .shelf .flaw ≡ t .shelf .flaw
+unfolding lastOf stepped
+flaw-last t d e = rw (flaw-stays d t e) (go (newRule (t .line)))
+  where
+    go : (b : Bool) → cond b t (stepped t 10) .shelf .flaw ≡ t .shelf .flaw
+    go true = refl
+    go false = rw e refl
+
+-- a line that is taken stands in the plan, and stays there
+placed-at : (k s v : ℕ) (P L : List ℕ) → isNothing (placed k s v P L .flaw) ≡ true → (v < length P) × (getD (placed k s v P L .plan) s 0 ≡ v)
+unfolding placed
+placed-at k s v P L = go (isNothing (flawOf k s v P L)) refl
+  where
+    go : (b : Bool) → isNothing (flawOf k s v P L) ≡ b → isNothing (cond b (written k s v P L) (shelf (flawOf k s v P L) P L) .flaw) ≡ true
+        → (v < length P) × (getD (cond b (written k s v P L) (shelf (flawOf k s v P L) P L) .plan) s 0 ≡ v)
+    go true e z = let t : Taken s v P L = taken k s v P L e in (t .new, getD-set-same P s v 0 (t .old))
+    go false e z = let y : _≡_ {A = ℕ} 0 1 = cc in absurd (omega arith)
+
+lined-at : (t : Stage) (s v : ℕ) → endRule (t .line) ≡ Move s v → isNothing (t .shelf .flaw) ≡ true → isNothing (stepped t 10 .shelf .flaw) ≡ true
+    → (v < length (t .shelf .plan)) × (getD (stepped t 10 .shelf .plan) s 0 ≡ v)
+unfolding stepped said
+lined-at t s v q e z =
+    let y : isNothing (placed (nextLine (t .number)) s v (t .shelf .plan) (t .shelf .lines) .flaw) ≡ true = rw (e, q) at z in
+    rw (e, q) (placed-at (nextLine (t .number)) s v (t .shelf .plan) (t .shelf .lines) y)
+
+stays : (s v : ℕ) → (v ≡ U → ⊥) → (k x y : ℕ) (P L : List ℕ) → 0 < k → Taken x y P L → getD P s 0 ≡ v → getD (set P x y) s 0 ≡ v
+stays s v h k x y P L pos t e =
+    hit-cases s x
+    (λ q. let z : getD P s 0 ≡ U = rw q (t .unnamed) in absurd (h (sym e ∙ z)))
+    (λ q. getD-set-other P x s y 0 (hit-zero s x q) ∙ e)
+
 -- what an operator's text comes to, read into a plan of n slots that no line has named
 abbrev pub readPlan : ℕ → List ℕ → Shelf
 readPlan n c = finished (fed (stage begun (replicate n U) (replicate n 0)) c)
@@ -209,13 +240,41 @@ module _ (n : ℕ) (few : n ≤ 65535) (c : List ℕ) (e : readPlan n c .flaw �
   abbrev last : Shelf
   last = lastOf (fed (stage begun (replicate n U) (replicate n 0)) c) .shelf
 
+  takes-good : (k s v : ℕ) (P L : List ℕ) → 0 < k → Taken s v P L → Good n P L → Good n (set P s v) (set L v k)
+  takes-good k s v P L pos t y =
+      good-next n few P L y k s v pos (omega (arith, t .old, y .long)) (omega (arith, t .new, y .long)) (t .unnamed) (t .ungiven)
+
+  good-fed : (d : List ℕ) → Good n (fed (stage begun (replicate n U) (replicate n 0)) d .shelf .plan) (fed (stage begun (replicate n U) (replicate n 0)) d .shelf .lines)
+  good-fed d = fed-keeps (Good n) takes-good d (stage begun (replicate n U) (replicate n 0)) (good-first n few)
+
   -- an accepted plan is one that a renumbering accepts
   pub accepted-fits : fits n (readPlan n c .plan) ≡ true
   accepted-fits =
       let w : Whole last = whole last e in
-      let g : Good n (last .plan) (last .lines) =
-      last-keeps (Good n) (λ k s v P L pos t y. good-next n few P L y k s v pos (omega (arith, t .old, y .long)) (omega (arith, t .new, y .long)) (t .unnamed) (t .ungiven))
-      (fed (stage begun (replicate n U) (replicate n 0)) c)
-      (fed-keeps (Good n) (λ k s v P L pos t y. good-next n few P L y k s v pos (omega (arith, t .old, y .long)) (omega (arith, t .new, y .long)) (t .unnamed) (t .ungiven))
-      c (stage begun (replicate n U) (replicate n 0)) (good-first n few)) in
+      let g : Good n (last .plan) (last .lines) = last-keeps (Good n) takes-good (fed (stage begun (replicate n U) (replicate n 0)) c) (good-fed c) in
       rw (w .plan) (is-fits n (last .plan) (fits-one n (last .plan) (g .long) (λ s h. g .low s h (w .none s (omega (arith, g .long)))) (g .once)))
+
+  flawless : (t : Stage) (d : List ℕ) → fed (stage begun (replicate n U) (replicate n 0)) c ≡ fed t d → isNothing (t .shelf .flaw) ≡ true
+  flawless t d q = go (isNothing (t .shelf .flaw)) refl
+    where
+      go : (b : Bool) → isNothing (t .shelf .flaw) ≡ b → isNothing (t .shelf .flaw) ≡ true
+      go true f = f
+      go false f =
+          let x : last .flaw ≡ t .shelf .flaw = ap (λ (u : Stage). lastOf u .shelf .flaw) q ∙ flaw-last t d f in
+          let y : isNothing (t .shelf .flaw) ≡ true = rw (← x, whole last e .right) refl in
+          y
+
+  -- and what a line of the text says stands in the plan
+  pub accepted-says : (a b : List ℕ) (s v : ℕ) → c ≡ a ++ (10 ∷ b) → endRule (fed (stage begun (replicate n U) (replicate n 0)) a .line) ≡ Move s v
+      → getD (readPlan n c .plan) s 0 ≡ v
+  unfolding fed
+  accepted-says a b s v q m =
+      let t : Stage = fed (stage begun (replicate n U) (replicate n 0)) a in
+      let f : fed (stage begun (replicate n U) (replicate n 0)) c ≡ fed t (10 ∷ b) = rw q (pieces (stage begun (replicate n U) (replicate n 0)) a (10 ∷ b)) in
+      let g : Good n (t .shelf .plan) (t .shelf .lines) = good-fed a in
+      let y : (v < length (t .shelf .plan)) × (getD (stepped t 10 .shelf .plan) s 0 ≡ v) =
+      lined-at t s v m (flawless t (10 ∷ b) f) (flawless (stepped t 10) b f) in
+      let z : (v ≡ U → ⊥) = λ x. omega (arith, y .0, g .long) in
+      let k : getD (fed (stepped t 10) b .shelf .plan) s 0 ≡ v = fed-keeps (λ P L. getD P s 0 ≡ v) (stays s v z) b (stepped t 10) (y .1) in
+      let l : getD (lastOf (fed (stepped t 10) b) .shelf .plan) s 0 ≡ v = last-keeps (λ P L. getD P s 0 ≡ v) (stays s v z) (fed (stepped t 10) b) k in
+      ap (λ (P : List ℕ). getD P s 0) (whole last e .plan) ∙ ap (λ (u : Stage). getD (lastOf u .shelf .plan) s 0) f ∙ l

@@ -1,5 +1,6 @@
 -- A line of a plan byte by byte: two decimal numbers of 64 bits, with one space between them.
--- Letters: b byte, d digit, v value, w longer value, g before (what the line has so far), s old slot
+-- Letters: d digit, v value, w longer value, g before (what the line has so far), s old slot,
+--   b byte
 use mathlib.Core.Bool.{Bool, true, false, cond}
 use Prim.Native.Nat.{ℕ}
 use lib.Dec.{eqb}

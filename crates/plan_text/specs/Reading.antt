@@ -1,8 +1,8 @@
 -- The lines of a plan, in any order, into a plan. Its length is the count of slots. A place that no
--- line has named holds U. The lines' list has, at the place of each new slot, the number of the line
--- that gave it away, from 1 on, and 0 if none did.
--- Letters: n line (its number), s old slot, v new slot, P plan, L lines, f flaw, i place, b byte,
---   t stage, h shelf, o said (what a line says), c text
+-- line has named holds U. The lines' list has, at the place of each new slot, the number of the
+-- line that gave it away, from 1 on, and 0 if none did.
+-- Letters: s old slot or state, L lines, i place, t stage, h shelf, c text, v new slot, P plan,
+--   n line (its number), b byte, f flaw
 use mathlib.Core.Bool.{Bool, true, false, cond}
 use mathlib.Core.List.{List, [], _∷_, foldl}
 use Prim.Native.Nat.{ℕ, _+_}

@@ -1,6 +1,6 @@
 -- A plan as text, and what is wrong with one in words.
--- Letters: s old slot, v new slot, P plan, n line (its number), c count, b before (the line before),
---   w which (old or new), f flaw
+-- Letters: c count, b before (the line that came first), w which (old or new), s old slot or slot,
+--   v new slot, P plan, n line (its number), f flaw
 use mathlib.Core.List.{List, [], _∷_, _++_}
 use Prim.Native.Nat.{ℕ, _+_}
 use Rattle.lines.specs.Output.{number, next}
