@@ -157,18 +157,22 @@ ODD = [
 COMMAND = {}
 
 
-def runs(name, text, pieces=0):
-    """What a program writes for these bytes, given whole or in pieces; and what it says besides."""
+def command(name):
+    """How a program is started: by the kit's emulator, on a machine that is not x86-64."""
     if not COMMAND:
         kit = pathlib.Path(subprocess.run(['rt', 'doc'], capture_output=True, text=True, check=True).stdout.strip()).parent.parent
         tools = kit / 'on' / platform.machine() / 'toolchain'
         emulator = tools / 'bin/qemu-x86_64'
         COMMAND[''] = ([str(emulator)] if emulator.exists() else []) + [str(tools / 'lib/ld-linux-x86-64.so.2'), '--library-path', str(tools / 'lib')]
-    command = COMMAND[''] + [str(TOP / 'target/bin' / name)]
+    return COMMAND[''] + [str(TOP / 'target/bin' / name)]
+
+
+def runs(name, text, pieces=0):
+    """What a program writes for these bytes, given whole or in pieces; and what it says besides."""
     if not pieces:
-        run = subprocess.run(command, input=text, capture_output=True)
+        run = subprocess.run(command(name), input=text, capture_output=True)
         return run.stdout, run.stderr
-    with subprocess.Popen(command, stdin=subprocess.PIPE, stdout=subprocess.PIPE, stderr=subprocess.PIPE, bufsize=0) as run:
+    with subprocess.Popen(command(name), stdin=subprocess.PIPE, stdout=subprocess.PIPE, stderr=subprocess.PIPE, bufsize=0) as run:
         for i in range(0, len(text), pieces):
             run.stdin.write(text[i:i + pieces])
         return run.communicate()

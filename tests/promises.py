@@ -18,7 +18,7 @@ import sys
 TOP = pathlib.Path(__file__).resolve().parent.parent
 
 # Here every public function is a public call.
-CALLS = {'iset', 'disjoint', 'image_host', 'iset_c', 'iset_c_open', 'iset_c_disjoint', 'iset_c_image', 'iset_c_ruled', 'iset_c_narrow', 'slotlist_core', 'image_text', 'lines'}
+CALLS = {'iset', 'disjoint', 'image_host', 'iset_c', 'iset_c_open', 'iset_c_disjoint', 'iset_c_image', 'iset_c_ruled', 'iset_c_narrow', 'slotlist_core', 'image_text', 'plan_text', 'lines'}
 # But these modules hold what one crate of exports takes from the other: inner functions.
 INNER = {('iset_c', 'answer'), ('iset_c', 'call'), ('iset_c', 'range'), ('iset_c_open', 'call'), ('iset_c_disjoint', 'answer')}
 # And a function NAME_in of these crates does the work of two exports: iset_NAME, with nodes of eight

@@ -165,6 +165,12 @@ MEANINGS = {
     'image_text/Reading': """
         s:State state; s:[ℕ] text; t stage; i place of a word in the text; o name; k slot;
         j place of the word among the slot's; b byte""",
+    'plan_text': 's old slot; v new slot; P plan; n line (its number); b byte; f flaw',
+    'plan_text/Line': """
+        d digit; v value; w longer value; g before (what the line has so far)""",
+    'plan_text/Reading': """
+        s:State state; L lines; i place; t stage; h shelf; c text; c:ℕ number of a slot or line""",
+    'plan_text/Text': 'c count; b before (the line that came first); w which (old or new)',
     'iset': """
         S:[ℕ] triples; s slot; e entry; x interval; q:Query query; q:Span range; q range; c cursor;
         k number of a refusal; y refusal; a answer; g answer of the code; t tree; p test of a slot;
