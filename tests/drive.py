@@ -125,6 +125,16 @@ class Drive:
         fits(query[0] != "e")
         return self.on_store(model.unload, query)
 
+    def do_propose(self, numbers):
+        room = numbers.one(MOST_ROOM + 1)
+        numbers.end()
+        return self.on_store(model.propose, room)
+
+    def do_renumber(self, numbers):
+        plan = numbers.list(MOST_LIST)
+        numbers.end()
+        return self.on_store(model.renumber, plan)
+
     def do_checkd(self, numbers):
         numbers.end()
         return self.on_store(model.check_disjoint)

@@ -1,7 +1,7 @@
 #!/usr/bin/env python3
 """What the calls return and leave, from the words of document 01, of document 02 for insertion,
-tickets, images, the plain lookup, disjoint maps, the second rule of ranges, nodes of six words and
-unloading, and of docs/RULES.md for the fast lookup, in plain lists and recursion. It takes nothing from the
+tickets, images, the plain lookup, disjoint maps, the second rule of ranges, nodes of six words,
+unloading and tidy numbering, and of docs/RULES.md for the fast lookup, in plain lists and recursion. It takes nothing from the
 code of the crate iset or of this project. tests/drive.py prints what it returns."""
 import struct
 
@@ -21,7 +21,7 @@ class Store:
         return Store(self.count, self.root, list(self.words), list(self.colours), self.version)
 
     def raise_version(self):
-        """One accepted build, removal, insertion or reading of an image. Every node below the count has top bits 0 then."""
+        """One accepted build, removal, insertion, reading of an image or renumbering. Every node below the count has top bits 0 then."""
         self.version = (self.version + 1) % 2**32
         self.tops[:self.count] = [0] * len(self.tops[:self.count])
 
@@ -626,6 +626,31 @@ def unload(s, q):
         gone += 1
     s.reach = 0
     return "%d %d %d %d" % (no, s.count, s.root, gone)
+
+
+# Tidy numbering, by document 02, item 14. A plan has, at the place of each old slot, its new one.
+
+def propose(s, room):
+    """The place of each slot in tree order."""
+    no = refuse_store(s) or (9 if room < s.count else 0)
+    out = [777777] * room
+    for place, slot in enumerate([] if no else in_order(s, s.root)):
+        out[slot] = place
+    return " ".join(map(str, [no, room] + out))
+
+
+def renumber(s, plan):
+    """Each node is written to its new slot from a copy of the store."""
+    no = refuse_store(s) or (0 if sorted(plan) == list(range(s.count)) else 15)
+    if no == 0:
+        old, new = s.copy(), dict(enumerate(plan)) | {U: U}
+        for slot in range(s.count):
+            node = old.words[8 * slot:8 * slot + 8]
+            s.words[8 * new[slot]:8 * new[slot] + 8] = node[:LEFT] + [new[link] for link in node[LEFT:]]
+            s.paint(new[slot], old.red(slot))
+        s.root = new[s.root]
+        s.raise_version()
+    return "%d %d %d" % (no, s.count, s.root)
 
 
 # An address asked of an image, by document 02, item 7.

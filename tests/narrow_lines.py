@@ -97,7 +97,8 @@ def tops_below():
     data = model.image_of(built(A))
     ask(*("remove 0", "remove 9", "insert 1 2 3", "insert 2 1 3", "fresh o 2 0 2 0", "fresh e 10 20", "fresh e 20 10", "step o 2 0 2 0 2 1 0", "step r 2 1 5 2 0 2 1 0",
           "step e 10 20 0 1 0", "drain o 0 20 1 25 2 1 0 5 5", "drain r 3 2 0 2 0 2 1 0 5 5", "plain o 2 0 2 0 5", "find o 2 0 2 0 5", "find r 2 2 0 2 0 5", "ticket 3",
-          "read 3 0", "read 3 1", "write 225", "checkd", "point 10", "insertd 70 80 3", "removed 0", "unload o 0 20 1 25", "unload r 3 2 0 2 0"))
+          "read 3 0", "read 3 1", "write 225", "checkd", "point 10", "insertd 70 80 3", "removed 0", "unload o 0 20 1 25", "unload r 3 2 0 2 0",
+          "propose 5", "propose 4", "renumber 5 0 1 2 3 4", "renumber 0"))
     assert ask("build 15 " + " ".join(map(str, A))).split(" @ ")[1].count("23 ") == 1
     ask("build 6 1 2 3 2 3 4", "commit", "check", "insert 5 6 7", "commit", "insert 7 8 9", "commit", "check")
     show(linked(six(built(A), slots=1), 3, link(a, 3) + 2**63))
@@ -131,9 +132,10 @@ def tops_above():
     s = six(built(A), [TOP] * 5, 3, TOP)
     show(s)
     ask("check", "remove 0", "remove 4", "drain o 2 0 2 0 2 1 0 5 5", "plain r 1 2 0 2 0 5", "find r 2 1 20 2 0 5", "read 4 0", "write 225", "unload o 2 0 2 0",
-        "build 6 1 2 3 2 3 4", "commit", "check")
+        "propose 5", "renumber 5 4 3 2 1 0", "build 6 1 2 3 2 3 4", "commit", "check")
     show(s)
-    for text in "insert 50 55 6", "remove 2", "insert 0 1 7", "insert 90 91 8", "insert 10 20 9", "insert 11 12 10", "remove 0", "unload o 0 0 1 12", "unload r 2 1 40 2 0":
+    for text in "insert 50 55 6", "remove 2", "insert 0 1 7", "insert 90 91 8", "insert 10 20 9", "insert 11 12 10", "remove 0", "renumber 7 6 3 1 0 2 4 5", \
+            "unload o 0 0 1 12", "unload r 2 1 40 2 0":
         ask(text, "last", "commit", "check")
         assert all(link(DRIVE.store, slot) in (TOP, EMPTY) for slot in range(DRIVE.store.count, 8)) and DRIVE.store.words[48:] == [TOP] * 5
 

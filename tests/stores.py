@@ -3,7 +3,8 @@
 break one clause each, and lists. They are one part of crates/drive/stdin. After it come the lines
 of tests/lookups.py, tests/insert_lines.py, tests/reach_lines.py, tests/plain_lines.py,
 tests/find_lines.py, tests/ticket_lines.py, tests/image_lines.py, tests/host_lines.py,
-tests/disjoint_lines.py, tests/ruled_lines.py, tests/unload_lines.py and tests/narrow_lines.py."""
+tests/disjoint_lines.py, tests/ruled_lines.py, tests/unload_lines.py, tests/tidy_lines.py and
+tests/narrow_lines.py."""
 import model
 
 U = model.U

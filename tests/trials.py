@@ -7,9 +7,14 @@ with 1 if an answer differs.
 - 200 stores of up to 60 entries: two ranges are unloaded in both orders, and the same entries are
   left in the same tree order.
 - 40 such stores: a range is unloaded, and is held against removals of its first hit, one after the
-  other."""
+  other.
+- Every red-black tree of up to 5 nodes, of up to 6 if the variable ALL is set: it is renumbered in
+  every way.
+- 40 stores of up to 60 entries after 100 removals and insertions: each is renumbered by chance and
+  then to tree order, and drains before and after find the same entries."""
 import contextlib
 import io
+import itertools
 import os
 import random
 import shlex
@@ -18,7 +23,9 @@ import sys
 
 import asking
 import packed
+import tidy_lines
 import unload_lines
+from reach_lines import tree
 
 
 def unloads(rng):
@@ -28,6 +35,33 @@ def unloads(rng):
     for _ in range(40):
         s, wide = unload_lines.by_chance(rng, 60)
         unload_lines.by_removals(s, unload_lines.two_ranges(rng, wide)[0])
+
+
+def shapes(nodes, blacks, red):
+    """The trees of so many nodes with so many black ones on each way down, as reach_lines.tree takes them. A root may be red."""
+    if nodes == 0:
+        return [None] if blacks == 0 else []
+    found = []
+    for colour in "br" if red else "b":
+        for left in range(nodes):
+            sides = [shapes(n, blacks - (colour == "b"), colour == "b") for n in (left, nodes - 1 - left)]
+            found += [(a, colour, b) for a, b in itertools.product(*sides)]
+    return found
+
+
+def permutations(most):
+    for nodes in range(1, most + 1):
+        for blacks in range(1, nodes + 1):
+            for shape in shapes(nodes, blacks, False):
+                asking.show(tree(shape))
+                for plan in itertools.permutations(range(nodes)):
+                    asking.ask("renumber %d %s" % (nodes, " ".join(map(str, plan))))
+
+
+def renumberings(rng):
+    permutations(6 if os.environ.get("ALL") else 5)
+    for _ in range(40):
+        tidy_lines.rearranged(*tidy_lines.scattered(rng, 60))
 
 
 def answered(requests):
@@ -53,6 +87,7 @@ def main():
     lines = io.StringIO()
     with contextlib.redirect_stdout(lines):
         unloads(rng)
+        renumberings(rng)
     requests, expected = lines.getvalue().split("\n")[:-1], asking.ANSWERS
     six = packed.run_of(requests, expected)
     compare([], requests, expected)

@@ -2,7 +2,7 @@
 """Lines for `drive` about unloading a range: document 01's ranges, ranges with every entry, with no
 hit and with one, equal entries, entries that touch the range, both rules, versions near their top,
 every refusal, two ranges in both orders, and each unloading beside the removals that it is made of.
-crates/drive/stdin has these lines before those of tests/narrow_lines.py."""
+crates/drive/stdin has these lines before those of tests/tidy_lines.py."""
 import random
 
 import model

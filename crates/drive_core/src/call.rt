@@ -31,9 +31,9 @@ pub enum Call {
 fn store_call(name: &[u8]) -> Call {
     let k = given::which(
         name,
-        b"check;build ;remove ;insert ;read ;unload o ;unload r ;",
+        b"check;build ;remove ;insert ;read ;unload o ;unload r ;renumber ;",
     );
-    if k < 7 {
+    if k < 8 {
         return Call::Map(map::Call::Store(store::call_at(k)));
     }
     let k = given::which(name, b"checkd;point ;insertd ;removed ;");
@@ -60,7 +60,10 @@ fn lookup_call(name: &[u8]) -> Call {
     if k < 5 {
         return Call::Lookup(lookups::call_at(k), Kind::Exact);
     }
-    store_call(name)
+    match given::which(name, b"propose ;") {
+        0 => Call::Lookup(lookups::Call::Propose, Kind::Every),
+        _ => store_call(name),
+    }
 }
 
 fn byte_call(name: &[u8]) -> Call {

@@ -1,6 +1,8 @@
-// The requests that look up. They change nothing, so they are made on the store itself.
+// The requests that look up, and `propose`. They change nothing, so they are made on the store
+// itself.
 mod drain;
 mod fresh;
+mod propose;
 pub mod query;
 mod reply;
 mod scan;
@@ -26,9 +28,10 @@ pub enum Call {
     Drain,
     Plain,
     FindAll,
+    Propose,
 }
 
-// The calls in the order of their names (crate::call).
+// The calls that have a query, in the order of their names (crate::call).
 pub(crate) fn call_at(place: usize) -> Call {
     match place {
         0 => Call::Fresh,
@@ -47,8 +50,7 @@ fn count_of(call: Call) -> usize
         Call::Fresh => 0,
         Call::Step => 3,
         Call::Drain => 5,
-        Call::Plain => 1,
-        Call::FindAll => 1,
+        _ => 1,
     }
 }
 
@@ -60,26 +62,26 @@ fn answer_size(call: Call) -> usize {
         Call::Drain => 5,
         Call::Plain => 2,
         Call::FindAll => 2,
+        Call::Propose => 0,
     }
 }
 
-// Whether it writes hits to an output.
+// Whether it writes to an output.
 fn has_output(call: Call) -> bool {
     match call {
-        Call::Drain => true,
-        Call::Plain => true,
-        Call::FindAll => true,
-        _ => false,
+        Call::Fresh => false,
+        Call::Step => false,
+        _ => true,
     }
 }
 
 // The places of the output, at most 4,096: the last number.
 fn places(call: Call, kind: Kind, numbers: &[u64]) -> u64 {
     match call {
+        Call::Fresh => 0,
+        Call::Step => 0,
         Call::Drain => query::after(kind, numbers, 4),
-        Call::Plain => query::after(kind, numbers, 0),
-        Call::FindAll => query::after(kind, numbers, 0),
-        _ => 0,
+        _ => query::after(kind, numbers, 0),
     }
 }
 
@@ -106,6 +108,7 @@ fn done(
         Call::Drain => drain::drain(m, kind, numbers, nodes, narrow, colours, hits),
         Call::Plain => scan::plain(m, kind, numbers, nodes, narrow, colours, hits),
         Call::FindAll => scan::find_all(m, kind, numbers, nodes, narrow, colours, hits),
+        Call::Propose => propose::propose(m, nodes, narrow, colours, hits),
     }
 }
 
@@ -179,7 +182,7 @@ fn into(
     }
 }
 
-// The output. Each place holds a number that shows whether a lookup left it unchanged.
+// The output. Each place holds a number that shows whether the call left it unchanged.
 fn hits_space() -> [u64; 4096]
     ensures { λ r. ⌜ 4096 ≡ length r ⌝ }
 {

@@ -9,6 +9,7 @@ mod load;
 mod point;
 mod read;
 mod remove;
+mod renumber;
 mod reply;
 pub mod store;
 mod unload;

@@ -5,9 +5,14 @@
 // node words, and the number of the check. In a chain each node is the right child of the one
 // before. Each build and each chain is in as many words as it takes, and then in one word less. Then
 // a map of as many entries as there can be prints one line: how many are gone after all of them were
-// unloaded, then 0, the count, the root and the number of the check afterwards.
+// unloaded, then 0, the count, the root and the number of the check afterwards. Then such a map is
+// renumbered, first by reversal and then, built again, by a shift, and each time back to tree order by
+// the planner's proposal. That prints one line: of either renumbering 0, the count, the root and the
+// number of the check, and the number of the proposal after it; then how many slots the second
+// proposal leaves where they are, and the version.
 use iset::Map;
 use iset::build::Built;
+use iset::tidy::Renumbering;
 use iset::unload::Unloading;
 use lines::output;
 use words::interval::Bound;
@@ -259,6 +264,116 @@ fn unload(list: &mut [u64], nodes: &mut [u64], narrow: bool, colours: &mut [u8])
     output::send(b"\n");
 }
 
+// The slot of slot k in a plan for n slots. By a shift that is the next one, and slot 0 for the last;
+// else it is the one that is as far from the other end.
+fn new_slot(n: u64, k: u64, shift: bool) -> u64
+    requires { ⌜ k < n ⌝ }
+{
+    if n - k < 2 {
+        0
+    } else if shift {
+        k + 1
+    } else {
+        n - k - 1
+    }
+}
+
+fn put_slot(plan: &mut [u64], k: usize, shift: bool) {
+    if k < plan.len() {
+        plan[k] = new_slot(plan.len() as u64, k as u64, shift);
+    }
+}
+
+fn put_plan(plan: &mut [u64], n: usize, shift: bool) {
+    let mut k = 0;
+    while k < n {
+        put_slot(plan, k, shift);
+        k += 1;
+    }
+}
+
+// 1 if the plan leaves slot k where it is, else 0.
+fn stays(plan: &[u64], k: usize) -> u64
+    ensures { λ r. ⌜ r ≤ 1 ⌝ }
+{
+    if k < plan.len() {
+        if plan[k] == k as u64 {
+            return 1;
+        }
+    }
+    0
+}
+
+// How many of n slots it leaves where they are.
+fn at_home(plan: &[u64], n: usize) -> u64 {
+    let mut found: u64 = 0;
+    let mut k = 0;
+    while k < n {
+        found += stays(plan, k);
+        k += 1;
+    }
+    found
+}
+
+// The map after a renumbering, or as it was if that is refused.
+fn renumbered(m: Map, nodes: &mut [u64], narrow: bool, colours: &mut [u8], plan: &[u64]) -> Map {
+    match m.renumber_in(nodes, narrow, colours, plan) {
+        Renumbering::Done(new) => new,
+        Renumbering::Refused(_) => m,
+    }
+}
+
+// Renumbers by a plan, which the next proposal then replaces.
+fn move_all(m: Map, nodes: &mut [u64], narrow: bool, colours: &mut [u8], plan: &mut [u64]) -> Map {
+    let new = renumbered(m, nodes, narrow, colours, plan);
+    show_map(new, nodes, narrow, colours);
+    number(new.propose_in(nodes, narrow, colours, plan).number());
+    new
+}
+
+fn tidy(m: Map, nodes: &mut [u64], narrow: bool, colours: &mut [u8], plan: &mut [u64]) {
+    let moved = move_all(m, nodes, narrow, colours, plan);
+    let tidied = move_all(moved, nodes, narrow, colours, plan);
+    number(at_home(plan, plan.len()));
+    number(tidied.version as u64);
+}
+
+fn tidy_built(a: Built, nodes: &mut [u64], narrow: bool, colours: &mut [u8], plan: &mut [u64]) {
+    match a {
+        Built::Refused(why) => number(why.number()),
+        Built::Done(m) => tidy(m, nodes, narrow, colours, plan),
+    }
+}
+
+// Renumbers a map that was built, by a plan for as many slots as the list has places.
+fn tidy_by(
+    a: Built,
+    plan: &mut [u64],
+    shift: bool,
+    nodes: &mut [u64],
+    narrow: bool,
+    colours: &mut [u8],
+) {
+    put_plan(plan, plan.len(), shift);
+    tidy_built(a, nodes, narrow, colours, plan);
+    output::send(b"\n");
+}
+
+// Builds a map of as many entries as there can be, and renumbers it. The plan stands where the list
+// stood.
+fn renumber(list: &mut [u64], shift: bool, nodes: &mut [u64], narrow: bool, colours: &mut [u8]) {
+    put_triples(list, 65535);
+    let a = built(196605, list, nodes, narrow, colours);
+    let n = least(65535, list.len());
+    tidy_by(a, &mut list[..n], shift, nodes, narrow, colours);
+}
+
+fn changes(list: &mut [u64], nodes: &mut [u64], narrow: bool, colours: &mut [u8]) {
+    unload(list, nodes, narrow, colours);
+    renumber(list, false, nodes, narrow, colours);
+    renumber(list, true, nodes, narrow, colours);
+}
+
 fn main() {
     let mut list = list_space();
     let mut nodes = words_space();
@@ -266,9 +381,9 @@ fn main() {
     let black = bytes_space();
     builds(&mut list, &mut nodes, false, &mut colours);
     chains(&mut nodes, false, &black);
-    unload(&mut list, &mut nodes, false, &mut colours);
+    changes(&mut list, &mut nodes, false, &mut colours);
     builds(&mut list, &mut nodes, true, &mut colours);
     chains(&mut nodes, true, &black);
-    unload(&mut list, &mut nodes, true, &mut colours);
+    changes(&mut list, &mut nodes, true, &mut colours);
     output::close(b"test_limits");
 }

@@ -8,11 +8,12 @@ use words::interval::Interval;
 use words::interval::Span;
 ghost use Prim.Native.Nat.{_≤_};
 
-// `o BOUND BOUND`, `r RULE BOUND BOUND` or `e START END`
+// `o BOUND BOUND`, `r RULE BOUND BOUND` or `e START END`; or every entry, which takes no numbers.
 pub enum Kind {
     Overlap,
     Ruled,
     Exact,
+    Every,
 }
 
 // How many numbers the query has.
@@ -23,6 +24,7 @@ pub(crate) fn size(kind: Kind) -> usize
         Kind::Overlap => 4,
         Kind::Ruled => 5,
         Kind::Exact => 2,
+        Kind::Every => 0,
     }
 }
 
@@ -43,7 +45,7 @@ pub(crate) fn fits(kind: Kind, numbers: &[u64]) -> bool {
     match kind {
         Kind::Overlap => are_bounds(numbers, 0),
         Kind::Ruled => are_bounds(numbers, 1),
-        Kind::Exact => true,
+        _ => true,
     }
 }
 
@@ -58,8 +60,12 @@ fn range_at(numbers: &[u64], k: usize) -> Span {
 // The range of a query that is not exact.
 pub(crate) fn range(kind: Kind, numbers: &[u64]) -> Span {
     match kind {
+        Kind::Overlap => range_at(numbers, 0),
         Kind::Ruled => range_at(numbers, 1),
-        _ => range_at(numbers, 0),
+        _ => Span {
+            lo: Bound::Unbounded,
+            hi: Bound::Unbounded,
+        },
     }
 }
 
@@ -80,9 +86,9 @@ pub(crate) fn interval(numbers: &[u64]) -> Interval {
 
 pub(crate) fn query(kind: Kind, numbers: &[u64]) -> Query {
     match kind {
-        Kind::Overlap => Query::Overlap(range(kind, numbers)),
         Kind::Ruled => Query::Ruled(rule(kind, numbers), range(kind, numbers)),
         Kind::Exact => Query::Exact(interval(numbers)),
+        _ => Query::Overlap(range(kind, numbers)),
     }
 }
 

@@ -1,16 +1,8 @@
 // `build LIST`: builds a map into the slices of the store.
-use crate::given;
 use crate::map::reply::Reply;
 use iset::Map;
 use iset::build::Built;
 use words::ix::U;
-use words::numbers::least;
-
-// Whether the first number says how many follow, at most 12,288.
-pub(crate) fn fits(numbers: &[u64]) -> bool {
-    let n = given::size(numbers, 0);
-    (n <= 12288) & (numbers.len() == n + 1)
-}
 
 // A reply that prints the first n of the count, the root and the version. A refused build shows the
 // map of no entries, with the version of the map that it was to replace.
@@ -30,16 +22,10 @@ pub(crate) fn reply_of(a: Built, m: Map, n: usize) -> Reply {
 
 pub(crate) fn build(
     m: Map,
-    numbers: &[u64],
+    list: &[u64],
     nodes: &mut [u64],
     narrow: bool,
     colours: &mut [u8],
 ) -> Reply {
-    let from = least(1, numbers.len());
-    let n = least(given::size(numbers, 0), numbers.len() - from);
-    reply_of(
-        m.build_in(nodes, narrow, colours, &numbers[from..from + n]),
-        m,
-        2,
-    )
+    reply_of(m.build_in(nodes, narrow, colours, list), m, 2)
 }
