@@ -1,9 +1,10 @@
 -- The table, by computing each rule.
 use mathlib.Core.Path.{refl}
 use Rattle.words.specs.Ix.{onLink}
-use Rattle.words.specs.Layouts.{widened, fieldIn, unpack, asEight}
+use Rattle.words.specs.Layouts.{widened, narrowed, fieldIn, unpack, asEight}
 use Rattle.words.specs.Nodes.{word, put, putEntry, putHull, swap, joined, hullOf, altered, fix, putNode}
 use Rattle.bitvec.specs.Bits.{bit, put as putBit, bitAt, setBit}
+use Rattle.tree.specs.Tree.{hit}
 use Rattle.audit.specs.Survey.{pass, wholeOf}
 use Rattle.builder.specs.Input.{startOf, endOf, valueOf, every, properAt, inOrder, allProper, sorted as sortedList}
 use Rattle.builder.specs.Build.{spanHull, spanWords, painted, log, levels, buildWords, buildColours, buildRoot}
@@ -31,17 +32,20 @@ use Rattle.first_rule.specs.Way.{wayEnd}
 use Rattle.first_rule.specs.First.{past, firstPast, firstMet, firstIn}
 use Rattle.unload_rule.specs.Sweep.{sweep}
 use Rattle.unload_rule.specs.Unload.{unloadRule}
+use Rattle.tidy_rule.specs.Plan.{eachOnce, fits, renamed, numbered, proposed}
+use Rattle.tidy_rule.specs.Tidy.{renameKid, tagNode, tagged, tag, swapNodes, swapColours, settle, untagNode, untagged, tidied}
 use Rattle.plain_rule.specs.Tour.{ascend, nextOf, firstOf, tour, entries, plain}
 use Rattle.iset.specs.Check.{countNumber, checkRule}
 use Rattle.iset.specs.Build.{buildNumber, buildCall}
 use Rattle.iset.specs.Remove.{removeNumber, removeCall, openRemoveNumber}
 use Rattle.iset.specs.Insert.{fullNumber, openInsertNumber, roomThenCheck, insertNumber, insertCall}
 use Rattle.iset.specs.Unload.{unloadCall}
+use Rattle.iset.specs.Tidy.{openProposeNumber, proposeNumber, proposeCall, openRenumberNumber, renumberNumber, renumberCall}
 use Rattle.iset.specs.Lookup.{startNumber, stepNumber, drainNumber, startCall, stepCall, drainCall, openStartNumber, openStepNumber, openDrainNumber}
 use Rattle.iset.specs.Plain.{openPlainNumber, plainNumber, plainCall}
 use Rattle.iset.specs.Find.{findAllCall}
 use Rattle.fast_rule.specs.Fast.{shouldEnter, fastRules, startAt, entering, fastNodes, fastHits}
-use Rattle.test_document.specs.Stores.{buildIn, _at_, _minus_, _plus_, treeAt, treeOf, touched, boundOf}
+use Rattle.test_document.specs.Stores.{buildIn, _at_, _minus_, _plus_, _by_, treeAt, treeOf, touched, boundOf}
 use Rattle.iset.specs.Ticket.{age, ticketNumber, openReadNumber, readNumber, readCall}
 use Rattle.bitvec.specs.Calls.{bytesFor}
 use Rattle.little.specs.Numbers.{number, digits}
@@ -57,7 +61,7 @@ use Rattle.tree_edit.specs.Rounds.{loop}
 -- What the rows compute with, layer by layer: to unfold one of these names is to unfold all that
 -- its line names.
 reading : Unit {0}
-unfolding onLink widened fieldIn unpack asEight word put putEntry putHull swap joined hullOf fix putNode bit putBit bitAt setBit
+unfolding onLink widened narrowed fieldIn unpack asEight word put putEntry putHull swap joined hullOf fix putNode bit putBit bitAt setBit
 reading = record {}
 
 checking : Unit {0}
@@ -108,6 +112,10 @@ sweeping : Unit {0}
 unfolding wayEnd past firstPast firstMet firstIn sweep unloadRule unloadCall
 sweeping = record {}
 
+tidying : Unit {0}
+unfolding hit eachOnce fits renamed numbered proposed renameKid tagNode tagged tag swapNodes swapColours settle untagNode untagged tidied openProposeNumber proposeNumber proposeCall openRenumberNumber renumberNumber renumberCall
+tidying = record {}
+
 ticketing : Unit {0}
 unfolding age ticketNumber openReadNumber readNumber readCall
 ticketing = record {}
@@ -121,10 +129,10 @@ unfolding buildNumber buildCall openRemoveNumber removeNumber removeCall fullNum
 changing = record {}
 
 telling : Unit {0}
-unfolding buildIn _at_ _minus_ _plus_ treeAt treeOf touched boundOf outcome stepsFrom foundFrom leftIn tell lone storeA storeA₆ storeA′ storeB storeC
+unfolding buildIn _at_ _minus_ _plus_ _by_ treeAt treeOf touched boundOf outcome stepsFrom foundFrom leftIn tell lone storeA storeA₆ storeA′ storeB storeC
 telling = record {}
 
 -- one `refl` a row, in the table's order
 pub examples : Each table
-unfolding reading checking building repairing naming removing inserting reaching walking looking touring entering-nodes sweeping ticketing saving changing telling
-examples = (refl, (refl, (refl, (refl, (refl, (refl, (refl, (refl, (refl, (refl, (refl, (refl, (refl, (refl, (refl, (refl, (refl, (refl, (refl, (refl, (refl, (refl, (refl, (refl, (refl, (refl, (refl, (refl, (refl, (refl, (refl, (refl, (refl, (refl, (refl, (refl, (refl, (refl, (refl, (refl, (refl, (refl, (refl, (refl, (refl, (refl, (refl, (refl, (refl, (refl, (refl, (refl, (refl, (refl, (refl, (refl, (refl, (refl, (refl, (refl, (refl, (refl, (refl, (refl, (refl, (refl, (refl, (refl, (refl, (refl, (refl, (refl, record {}))))))))))))))))))))))))))))))))))))))))))))))))))))))))))))))))))))))))
+unfolding reading checking building repairing naming removing inserting reaching walking looking touring entering-nodes sweeping tidying ticketing saving changing telling
+examples = (refl, (refl, (refl, (refl, (refl, (refl, (refl, (refl, (refl, (refl, (refl, (refl, (refl, (refl, (refl, (refl, (refl, (refl, (refl, (refl, (refl, (refl, (refl, (refl, (refl, (refl, (refl, (refl, (refl, (refl, (refl, (refl, (refl, (refl, (refl, (refl, (refl, (refl, (refl, (refl, (refl, (refl, (refl, (refl, (refl, (refl, (refl, (refl, (refl, (refl, (refl, (refl, (refl, (refl, (refl, (refl, (refl, (refl, (refl, (refl, (refl, (refl, (refl, (refl, (refl, (refl, (refl, (refl, (refl, (refl, (refl, (refl, (refl, (refl, (refl, (refl, (refl, record {})))))))))))))))))))))))))))))))))))))))))))))))))))))))))))))))))))))))))))))

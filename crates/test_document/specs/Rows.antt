@@ -27,6 +27,7 @@ use Rattle.iset.specs.Build.{BuildAnswer, buildCall}
 use Rattle.iset.specs.Remove.{RemoveAnswer, removeCall}
 use Rattle.iset.specs.Insert.{InsertAnswer, insertCall}
 use Rattle.iset.specs.Unload.{UnloadAnswer, unloadCall}
+use Rattle.iset.specs.Tidy.{RenumberAnswer, proposeCall, renumberCall}
 use Rattle.iset.specs.Lookup.{StartAnswer, StepAnswer, DrainAnswer, startCall, stepCall, drainCall}
 use Rattle.iset.specs.Tallies.{TallyAnswer}
 use Rattle.iset.specs.Plain.{plainCall}
@@ -71,13 +72,16 @@ pub data Step : Type 0 where
 -- the root's right link, `slot` for the eight words of a slot, `sixes` for the eight-word form of
 -- words that have six a slot. A lookup runs from its fresh cursor to the end, `ruled` by the rule
 -- of a number; a step is its first step; a drain is one call, from a cursor, with a limit and an
--- output. `unload` is by the rule of a number too. `write` writes the image into so many places, `reload` reads what was written in the
--- place of a map, into words and colours.
+-- output. `unload` is by the rule of a number too, `renumber` by a plan. `write` writes the image
+-- into so many places, `reload` reads what was written in the place of a map, into words and
+-- colours.
 pub data Call : Type 0 where
   build : (words bytes : ℕ) (triples : List ℕ) → Call
   remove : (store : State) (slot : ℕ) → Call
   insert : (store : State) (entry : Entry) → Call
   unload : (store : State) (rule : ℕ) (lo hi : Bound) → Call
+  propose : (store : State) (out : List ℕ) → Call
+  renumber : (store : State) (plan : List ℕ) → Call
   rootRight : (store : State) → Call
   slot : (store : State) (slot : ℕ) → Call
   sixes : (words : List ℕ) → Call
@@ -111,17 +115,19 @@ pub record Limits : Type 0 where
   pub t : ℕ
   pub bound : ℕ
 
--- What is told. Of a build, a removal, an insertion and an unloading: the answer, and what it
--- leaves, of a removal and an unloading the colour bytes. Of an overlap lookup: what is found, t and the bound; of its first
--- step: the whole answer; of a drain, a plain lookup and a fast one: the answer and the output. Of
--- an exact lookup: the answer of `fresh_exact`, and what is found from its cursor on. Of a reading
--- through a ticket, and of writing an image: the whole answer. Of reading an image: the answer, and
--- what it leaves.
+-- What is told. Of a build, a removal, an insertion, an unloading and a renumbering: the answer,
+-- and what it leaves, of a removal and an unloading the colour bytes. Of a proposal: its number and
+-- the output. Of an overlap lookup: what is found, t and the bound; of its first step: the whole
+-- answer; of a drain, a plain lookup and a fast one: the answer and the output. Of an exact lookup:
+-- the answer of `fresh_exact`, and what is found from its cursor on. Of a reading through a ticket,
+-- and of writing an image: the whole answer. Of reading an image: the answer, and what it leaves.
 pub data Told : Type 0 where
   built : (answer : BuildAnswer) (left : Left) → Told
   removed : (answer : RemoveAnswer) (colours : List ℕ) → Told
   inserted : (answer : InsertAnswer) (left : Left) → Told
   unloaded : (answer : UnloadAnswer) (colours : List ℕ) → Told
+  proposed : (number : ℕ) (output : List ℕ) → Told
+  renumbered : (answer : RenumberAnswer) (words colours : List ℕ) → Told
   link : (link : ℕ) → Told
   holds : (words : List ℕ) → Told
   found : (found : Found) (limits : Limits) → Told
@@ -180,6 +186,12 @@ tell (insert t e) = inserted (insertCall (t .map) (t .words) (t .colours) e .ans
 tell (unload t k lo hi) =
     let r : Effect UnloadAnswer = unloadCall (t .map) (t .words) (t .colours) k (span lo hi) in
     unloaded (r .answer) (r .colours)
+tell (propose t out) =
+    let d : Output ℕ = proposeCall (t .map) (t .words) (t .colours) out in
+    proposed (d .answer) (d .output)
+tell (renumber t plan) =
+    let r : Effect RenumberAnswer = renumberCall (t .map) (t .words) (t .colours) plan in
+    renumbered (r .answer) (r .words) (r .colours)
 tell (rootRight t) = link (kid (t .words) false (t .map .root))
 tell (slot t k) = holds (take (wordsOf 1) (drop (wordsOf k) (t .words)))
 tell (sixes W) = holds (asEight true W)

@@ -1,7 +1,7 @@
--- How a build, a removal and an insertion leave a map with what is lent with it, and the tree that
--- its links make.
+-- How a build, a removal, an insertion and a renumbering leave a map with what is lent with it, and
+-- the tree that its links make.
 -- Letters: W words, t store, s slot, e entry, S triples, k link, q range, h height, r right
---   subtree, v version, l left subtree
+--   subtree, v version, l left subtree, P plan
 use mathlib.Core.Bool.{true, false, cond}
 use mathlib.Core.List.{List}
 use Prim.Native.Nat.{ℕ, zero, suc, _+_, _-_, _*_, _/_}
@@ -14,7 +14,7 @@ use Rattle.words.specs.declared.node.Entry.{Entry}
 use Rattle.tree.specs.Tree.{Tree, leaf, node, height}
 use Rattle.iter_laws.specs.Entered.{touching}
 use Rattle.iset.specs.Maps.{mapAt, emptyMap}
-use Rattle.iset.specs.Sequence.{State, build, remove, insert, answered}
+use Rattle.iset.specs.Sequence.{State, build, remove, insert, renumber, answered}
 
 -- the store that is built from the list S in so many words and bytes, all of them 0 before
 unfoldable pub buildIn : (words bytes : ℕ) (triples : List ℕ) → State
@@ -34,6 +34,11 @@ _minus_ t s = answered t (remove s)
 infixl 75 _plus_
 unfoldable pub _plus_ : (store : State) (entry : Entry) → State
 _plus_ t e = answered t (insert e)
+
+-- the store after it is renumbered by the plan P
+infixl 75 _by_
+unfoldable pub _by_ : (store : State) (plan : List ℕ) → State
+_by_ t P = answered t (renumber P)
 
 -- the tree at the link k, down to so many levels
 unfoldable pub treeAt : (words : List ℕ) (levels link : ℕ) → Tree

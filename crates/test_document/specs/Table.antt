@@ -12,7 +12,7 @@ use Rattle.words.specs.Refusals.{refusalNumber}
 use Rattle.words.specs.declared.interval.Bound.the-variants.{Included, Excluded, Unbounded}
 use Rattle.words.specs.declared.interval.Interval.{Interval}
 use Rattle.words.specs.declared.node.Entry.{Entry}
-use Rattle.words.specs.declared.refusal.Refusal.the-variants.{NoSuch, BadRange, BadInterval, ShortOutput, Stale}
+use Rattle.words.specs.declared.refusal.Refusal.the-variants.{NoSuch, BadRange, BadInterval, ShortOutput, Stale, BadPlan}
 use Rattle.tree.specs.Tree.{Tree, leaf, node}
 use Rattle.iter.specs.Cursors.{fresh, ended}
 use Rattle.iter.specs.declared.Cursor.{Cursor}
@@ -20,8 +20,8 @@ use Rattle.iter.specs.declared.rules.Query.the-variants.{Overlap, Exact}
 use Rattle.iset.specs.Maps.{mapAt}
 use Rattle.iset.specs.Ticket.{ticketOf}
 use Rattle.iset.specs.Sequence.{State}
-use Rattle.test_document.specs.Stores.{buildIn, _at_, _minus_, _plus_}
-use Rattle.test_document.specs.Rows.{Row, _gives_, _to_, moved, colours, _entering_, hit, end, refused, build, remove, insert, unload, rootRight, slot, sixes, overlap, ruled, step, drain, exact, plain, read, findAll, write, reload, span, built, removed, inserted, unloaded, link, holds, found, stepped, drained, started, looked, given, saved, loaded}
+use Rattle.test_document.specs.Stores.{buildIn, _at_, _minus_, _plus_, _by_}
+use Rattle.test_document.specs.Rows.{Row, _gives_, _to_, moved, colours, _entering_, hit, end, refused, build, remove, insert, unload, propose, renumber, rootRight, slot, sixes, overlap, ruled, step, drain, exact, plain, read, findAll, write, reload, span, built, removed, inserted, unloaded, proposed, renumbered, link, holds, found, stepped, drained, started, looked, given, saved, loaded}
 
 -- the entry [3,6) alone
 unfoldable pub lone : State
@@ -52,6 +52,15 @@ sixA =
 -- that store, its words in their eight-word form
 unfoldable pub storeA₆ : State
 storeA₆ = record { map = storeA .map; words = asEight true sixA; colours = storeA .colours }
+
+-- Store A after the removal of slot 1, its slots numbered in tree order: slot by slot
+abbrev pub tidyA : List ℕ
+tidyA =
+    10 ∷ 20 ∷ 1 ∷ 10 ∷ 20 ∷ U ∷ U ∷ 1 ∷
+    25 ∷ 40 ∷ 3 ∷ 10 ∷ 60 ∷ 0 ∷ 3 ∷ U ∷
+    40 ∷ 50 ∷ 4 ∷ 40 ∷ 50 ∷ U ∷ U ∷ 3 ∷
+    45 ∷ 60 ∷ 5 ∷ 40 ∷ 60 ∷ 2 ∷ U ∷ 1 ∷
+    0 ∷ 0 ∷ 0 ∷ 0 ∷ 0 ∷ U ∷ U ∷ U ∷ []
 
 -- "Store B, three times [5,9) with values 1, 2, 3", in 24 words and a byte
 abbrev pub listB : List ℕ
@@ -295,9 +304,9 @@ table =
     -- and a removal there: the emptied slot's three links in one word
     remove storeA₆ 4 gives removed (record { no = 0; value = 5; map = mapAt 4 2 2; pairs = moved []; reach = 2 }) (colours 1) ∷
     slot (storeA₆ minus 4) 4 gives holds (asEight true (0 ∷ 0 ∷ 0 ∷ 0 ∷ 0 ∷ 281474976710655 ∷ [])) ∷
-    -- document 02, item 13: "Remove the first intersecting entry in tree order, over and over, until
-    -- none is left; answer how many went." One goes, as by remove 1; two go; none does, though
-    -- [45,60) touches the range
+    -- document 02, item 13: "Remove the first intersecting entry in tree order, over and over,
+    -- until none is left; answer how many went." One goes, as by remove 1; two go; none does,
+    -- though [45,60) touches the range
     unload storeA 1 (Included 20) (Excluded 25) gives unloaded (record { no = 0; gone = 1; map = mapAt 4 2 2 }) (colours 8) ∷
     unload storeA 1 (Excluded 20) (Included 25) gives unloaded (record { no = 0; gone = 2; map = mapAt 3 2 3 }) (colours 8) ∷
     unload storeA 1 (Included 60) (Excluded 70) gives unloaded (record { no = 0; gone = 0; map = mapAt 5 2 1 }) (colours 9) ∷
@@ -306,4 +315,15 @@ table =
     -- by rule 2 [3,6) stays; and 3 is no rule
     unload lone 2 (Excluded 5) Unbounded gives unloaded (record { no = 0; gone = 0; map = mapAt 1 0 1 }) (colours 0) ∷
     unload lone 3 Unbounded Unbounded gives unloaded (record { no = refusalNumber BadRange; gone = 0; map = mapAt 1 0 1 }) (colours 0) ∷
+    -- document 02, item 14: "a new slot for each old one: its place in tree order"; a place past
+    -- the count stays
+    propose (storeA minus 1) (7 ∷ 7 ∷ 7 ∷ 7 ∷ 7 ∷ []) gives proposed 0 (3 ∷ 0 ∷ 1 ∷ 2 ∷ 7 ∷ []) ∷
+    -- "every node moves with its colour and links, tree order and shape staying. The version rises
+    -- by one"
+    renumber (storeA minus 1) (3 ∷ 0 ∷ 1 ∷ 2 ∷ []) gives renumbered (record { no = 0; map = mapAt 4 1 3 }) tidyA (colours 4) ∷
+    -- "Proposing again on a tidied map proposes no move"
+    propose (storeA minus 1 by (3 ∷ 0 ∷ 1 ∷ 2 ∷ [])) (7 ∷ 7 ∷ 7 ∷ 7 ∷ []) gives proposed 0 (0 ∷ 1 ∷ 2 ∷ 3 ∷ []) ∷
+    -- "15 BadPlan .. for any other proposal": slot 3 twice; and "9 (short output)"
+    renumber storeA (0 ∷ 1 ∷ 2 ∷ 3 ∷ 3 ∷ []) gives renumbered (record { no = refusalNumber BadPlan; map = mapAt 5 2 1 }) (storeA .words) (colours 9) ∷
+    propose storeA (7 ∷ 7 ∷ 7 ∷ 7 ∷ []) gives proposed (refusalNumber ShortOutput) (7 ∷ 7 ∷ 7 ∷ 7 ∷ []) ∷
     []
