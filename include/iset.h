@@ -32,13 +32,14 @@
  * says. An array that a call writes overlaps no other argument, and nothing else uses it during the
  * call. An array of length 0 may have any pointer, NULL included.
  *
- * A slot stays valid until the next removal. The removal lists the entries that moved: update the
- * slots you kept with iset_slot_after, or look them up again. An insertion moves no entry: every
- * slot stays valid. A cursor that is used after a removal or an insertion is tested against the new
- * store.
+ * A slot stays valid until the next removal or unloading. The removal lists the entries that moved:
+ * update the slots you kept with iset_slot_after, or look them up again. An unloading lists none:
+ * look them up again. An insertion moves no entry: every slot stays valid. A cursor that is used
+ * after a change is tested against the new store.
  *
  * The version goes up by one at each build, removal, insertion and reading of an image that is not
- * refused; after 4294967295 comes 0. A slot together with the version that the map has then is a ticket.
+ * refused, and at an unloading by the number of entries that went; after 4294967295 comes 0. A slot
+ * together with the version that the map has then is a ticket.
  * iset_read reads the entry of a ticket's slot, and refuses the ticket as stale if the map has
  * changed since: at least once and fewer than 4,294,967,296 times. After exactly that many changes
  * the ticket can pass. This holds if each change is made to the newest map, and none to an older
@@ -90,7 +91,7 @@ enum iset_refusal {
     ISET_BROKEN = 2,          /* the store does not pass the check */
     ISET_NO_SUCH = 3,         /* the slot is not below the count */
     ISET_BAD_RANGE = 4,       /* neither bound is Unbounded, and lo > hi, or lo == hi unless both
-                                 are Included; of a lookup by a rule, see iset_ruled.h too */
+                                 are Included; of a call by a rule, see iset_ruled.h too */
     ISET_BAD_INTERVAL = 5,    /* a given interval has start >= end */
     ISET_NOT_SORTED = 6,      /* the list to build is not sorted by start, then end */
     ISET_BAD_CURSOR = 7,      /* no lookup of this query in this store has this cursor */
@@ -116,6 +117,7 @@ enum iset_answer {
     ISET_BUILD_ANSWER = 3,
     ISET_REMOVE_ANSWER = 11,
     ISET_INSERT_ANSWER = 5,
+    ISET_UNLOAD_ANSWER = 4,
     ISET_READ_ANSWER = 3,
     ISET_WRITE_IMAGE_ANSWER = 1,
     ISET_READ_IMAGE_ANSWER = 3,
@@ -148,6 +150,12 @@ enum iset_insert_place {
     ISET_INSERTED_SLOT = 2,
     ISET_INSERTED_REACH = 3,
     ISET_INSERTED_VERSION = 4
+};
+enum iset_unload_place {
+    ISET_UNLOADED_COUNT = 0,
+    ISET_UNLOADED_ROOT = 1,
+    ISET_UNLOADED_VERSION = 2,
+    ISET_UNLOADED_GONE = 3
 };
 enum iset_read_place { ISET_READ_START = 0, ISET_READ_END = 1, ISET_READ_VALUE = 2 };
 enum iset_fresh_place { ISET_FRESH_SLOT = 0, ISET_FRESH_LEVELS = 1, ISET_FRESH_BITS = 2 };
@@ -236,6 +244,17 @@ uint64_t iset_slot_after(const uint64_t *answer, uint64_t removed, uint64_t kept
 uint64_t iset_insert(uint64_t count, uint64_t root, uint32_t version, uint64_t *nodes,
     size_t nodes_len, uint8_t *colours, size_t colours_len, uint64_t start, uint64_t end,
     uint64_t value, uint64_t *answer, size_t answer_len);
+
+/* Unloads a range: removes the first entry that intersects it, in the order of the entries, over and
+ * over, until none is left. What intersects a range is said at iset_step. The other entries keep
+ * their order, and may change slot. The slots from the new count up to the old one are empty, as a
+ * removal leaves them. The version goes up by as many as went: if none did, nothing has changed, and
+ * tickets can still be read. The check is made once, at the beginning.
+ * Answer: count, root, version, how many entries went.
+ * Refusals: SHORT_ANSWER, BAD_BOUND, NO_ROOM, BROKEN, BAD_RANGE. */
+uint64_t iset_unload(uint64_t count, uint64_t root, uint32_t version, uint64_t *nodes,
+    size_t nodes_len, uint8_t *colours, size_t colours_len, uint64_t lo_kind, uint64_t lo,
+    uint64_t hi_kind, uint64_t hi, uint64_t *answer, size_t answer_len);
 
 /* Reads the entry of a slot through a ticket: the slot, and the version that the map had when the
  * ticket was taken.

@@ -40,8 +40,8 @@ typedef struct iset_ticket {
     uint32_t version;
 } iset_ticket;
 
-/* The two lent arrays. Only builds, removals, insertions and readings of an
- * image write them. */
+/* The two lent arrays. Only builds, removals, insertions, unloadings and readings of an image write
+ * them. */
 typedef struct iset_memory {
     uint64_t *nodes;
     size_t nodes_len;
@@ -200,6 +200,8 @@ static inline iset_ticket iset_map_ticket(iset_map map, uint64_t slot) {
         (map).version }
 #define ISET_NOT_INSERTED_(map) \
     { (map).count, (map).root, ISET_U, 0, (map).version }
+#define ISET_NOT_UNLOADED_(map) \
+    { (map).count, (map).root, (map).version, 0 }
 #define ISET_ENDED_ \
     { ISET_U, 0, 0 }
 #define ISET_NO_STEP_ \
@@ -300,6 +302,18 @@ static inline uint64_t iset_map_insert(iset_map *map, iset_memory memory, iset_e
     *map = iset_map_(
         answer[ISET_INSERTED_COUNT], answer[ISET_INSERTED_ROOT], answer[ISET_INSERTED_VERSION]);
     *inserted = iset_inserted_(answer);
+    return no;
+}
+
+/* Removes the entries that intersect a range, and sets how many went: see iset_unload. */
+static inline uint64_t iset_map_unload(iset_map *map, iset_memory memory, iset_range range,
+    uint64_t *gone) {
+    uint64_t answer[ISET_UNLOAD_ANSWER] = ISET_NOT_UNLOADED_(*map);
+    uint64_t no = iset_unload(ISET_DATED_(*map, memory), ISET_RANGE_(range), answer,
+        ISET_UNLOAD_ANSWER);
+    *map = iset_map_(
+        answer[ISET_UNLOADED_COUNT], answer[ISET_UNLOADED_ROOT], answer[ISET_UNLOADED_VERSION]);
+    *gone = answer[ISET_UNLOADED_GONE];
     return no;
 }
 
@@ -451,6 +465,17 @@ static inline uint64_t iset_map_open_insert(iset_map *map, iset_memory memory, i
     *map = iset_map_(
         answer[ISET_INSERTED_COUNT], answer[ISET_INSERTED_ROOT], answer[ISET_INSERTED_VERSION]);
     *inserted = iset_inserted_(answer);
+    return no;
+}
+
+static inline uint64_t iset_map_open_unload(iset_map *map, iset_memory memory, iset_range range,
+    uint64_t *gone) {
+    uint64_t answer[ISET_UNLOAD_ANSWER] = ISET_NOT_UNLOADED_(*map);
+    uint64_t no = iset_open_unload(ISET_DATED_(*map, memory), ISET_RANGE_(range), answer,
+        ISET_UNLOAD_ANSWER);
+    *map = iset_map_(
+        answer[ISET_UNLOADED_COUNT], answer[ISET_UNLOADED_ROOT], answer[ISET_UNLOADED_VERSION]);
+    *gone = answer[ISET_UNLOADED_GONE];
     return no;
 }
 
@@ -634,6 +659,7 @@ static inline uint64_t iset_map_open_disjoint_remove(iset_map *map, iset_memory 
 #undef ISET_CURSOR_
 #undef ISET_NOT_REMOVED_
 #undef ISET_NOT_INSERTED_
+#undef ISET_NOT_UNLOADED_
 #undef ISET_ENDED_
 #undef ISET_NO_STEP_
 #undef ISET_NO_HITS_

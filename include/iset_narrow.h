@@ -14,7 +14,8 @@
  * and cursors in arguments and answers are the numbers that they are there, and ISET_U is no slot.
  * BROKEN is also returned if the top 16 bits of a link word below the count are not 0. In the slots
  * from the count up they may be anything, and stay until the slot is written. After a removal the
- * slot that is the new count is empty: its link word is ISET_NARROW_NO_LINKS, its other words 0.
+ * slot that is the new count is empty: its link word is ISET_NARROW_NO_LINKS, its other words 0. So
+ * are the slots that an unloading empties.
  *
  * An image is the same of both layouts: a map that is saved from one loads into the other, and the
  * calls of iset_image.h read it. iset_fresh and iset_slot_after see no nodes, so they serve both
@@ -97,6 +98,13 @@ uint64_t iset_narrow_remove(uint64_t count, uint64_t root, uint32_t version, uin
 uint64_t iset_narrow_insert(uint64_t count, uint64_t root, uint32_t version, uint64_t *nodes,
     size_t nodes_len, uint8_t *colours, size_t colours_len, uint64_t start, uint64_t end,
     uint64_t value, uint64_t *answer, size_t answer_len);
+
+/* As iset_unload.
+ * Answer: count, root, version, how many entries went.
+ * Refusals: SHORT_ANSWER, BAD_BOUND, NO_ROOM, BROKEN, BAD_RANGE. */
+uint64_t iset_narrow_unload(uint64_t count, uint64_t root, uint32_t version, uint64_t *nodes,
+    size_t nodes_len, uint8_t *colours, size_t colours_len, uint64_t lo_kind, uint64_t lo,
+    uint64_t hi_kind, uint64_t hi, uint64_t *answer, size_t answer_len);
 
 /* As iset_read.
  * Answer: start, end, value.
@@ -205,6 +213,12 @@ uint64_t iset_narrow_open_insert(uint64_t count, uint64_t root, uint32_t version
     size_t nodes_len, uint8_t *colours, size_t colours_len, uint64_t start, uint64_t end,
     uint64_t value, uint64_t *answer, size_t answer_len);
 
+/* As iset_open_unload.
+ * Refusals: SHORT_ANSWER, BAD_BOUND, NO_ROOM, BAD_RANGE. */
+uint64_t iset_narrow_open_unload(uint64_t count, uint64_t root, uint32_t version, uint64_t *nodes,
+    size_t nodes_len, uint8_t *colours, size_t colours_len, uint64_t lo_kind, uint64_t lo,
+    uint64_t hi_kind, uint64_t hi, uint64_t *answer, size_t answer_len);
+
 /* As iset_open_read.
  * Refusals: SHORT_ANSWER, NO_ROOM, STALE, NO_SUCH. */
 uint64_t iset_narrow_open_read(uint64_t count, uint64_t root, uint32_t version,
@@ -277,7 +291,7 @@ uint64_t iset_narrow_open_find_all_exact(uint64_t count, uint64_t root, const ui
     size_t nodes_len, const uint8_t *colours, size_t colours_len, uint64_t start, uint64_t end,
     uint64_t *out, size_t out_len, uint64_t *answer, size_t answer_len);
 
-/* The calls of iset_ruled.h: lookups for a range by the rule of a number. */
+/* The calls of iset_ruled.h: lookups for a range by the rule of a number, and unloadings. */
 
 /* As iset_step_ruled. */
 uint64_t iset_narrow_step_ruled(uint64_t count, uint64_t root, const uint64_t *nodes,
@@ -303,6 +317,12 @@ uint64_t iset_narrow_find_all_ruled(uint64_t count, uint64_t root, const uint64_
     uint64_t lo, uint64_t hi_kind, uint64_t hi, uint64_t *out, size_t out_len, uint64_t *answer,
     size_t answer_len);
 
+/* As iset_unload_ruled. */
+uint64_t iset_narrow_unload_ruled(uint64_t count, uint64_t root, uint32_t version,
+    uint64_t *nodes, size_t nodes_len, uint8_t *colours, size_t colours_len, uint64_t rule,
+    uint64_t lo_kind, uint64_t lo, uint64_t hi_kind, uint64_t hi, uint64_t *answer,
+    size_t answer_len);
+
 /* As iset_open_step_ruled. */
 uint64_t iset_narrow_open_step_ruled(uint64_t count, uint64_t root, const uint64_t *nodes,
     size_t nodes_len, const uint8_t *colours, size_t colours_len, uint64_t rule, uint64_t lo_kind,
@@ -325,6 +345,12 @@ uint64_t iset_narrow_open_plain_ruled(uint64_t count, uint64_t root, const uint6
 uint64_t iset_narrow_open_find_all_ruled(uint64_t count, uint64_t root, const uint64_t *nodes,
     size_t nodes_len, const uint8_t *colours, size_t colours_len, uint64_t rule, uint64_t lo_kind,
     uint64_t lo, uint64_t hi_kind, uint64_t hi, uint64_t *out, size_t out_len, uint64_t *answer,
+    size_t answer_len);
+
+/* As iset_open_unload_ruled. */
+uint64_t iset_narrow_open_unload_ruled(uint64_t count, uint64_t root, uint32_t version,
+    uint64_t *nodes, size_t nodes_len, uint8_t *colours, size_t colours_len, uint64_t rule,
+    uint64_t lo_kind, uint64_t lo, uint64_t hi_kind, uint64_t hi, uint64_t *answer,
     size_t answer_len);
 
 /* The calls of iset_disjoint.h: maps in which no two ranges overlap. */

@@ -1,4 +1,5 @@
-/* Lookups for a range by the rule of a number. There are two rules of what intersects a range:
+/* Lookups for a range by the rule of a number, and the unloading of a range. There are two rules of
+ * what intersects a range:
  *
  *   ISET_RULE_ANY     1   an entry intersects if it ends after lo, whether lo is Included or
  *                         Excluded, and hi admits its start. The calls without a rule go by it.
@@ -50,6 +51,10 @@ uint64_t iset_find_all_ruled(uint64_t count, uint64_t root, const uint64_t *node
     uint64_t lo, uint64_t hi_kind, uint64_t hi, uint64_t *out, size_t out_len,
     uint64_t *answer, size_t answer_len);
 
+uint64_t iset_unload_ruled(uint64_t count, uint64_t root, uint32_t version, uint64_t *nodes,
+    size_t nodes_len, uint8_t *colours, size_t colours_len, uint64_t rule, uint64_t lo_kind,
+    uint64_t lo, uint64_t hi_kind, uint64_t hi, uint64_t *answer, size_t answer_len);
+
 uint64_t iset_open_step_ruled(uint64_t count, uint64_t root, const uint64_t *nodes,
     size_t nodes_len, const uint8_t *colours, size_t colours_len, uint64_t rule, uint64_t lo_kind,
     uint64_t lo, uint64_t hi_kind, uint64_t hi, uint64_t slot, uint64_t levels, uint64_t bits,
@@ -69,6 +74,10 @@ uint64_t iset_open_find_all_ruled(uint64_t count, uint64_t root, const uint64_t 
     size_t nodes_len, const uint8_t *colours, size_t colours_len, uint64_t rule, uint64_t lo_kind,
     uint64_t lo, uint64_t hi_kind, uint64_t hi, uint64_t *out, size_t out_len,
     uint64_t *answer, size_t answer_len);
+
+uint64_t iset_open_unload_ruled(uint64_t count, uint64_t root, uint32_t version, uint64_t *nodes,
+    size_t nodes_len, uint8_t *colours, size_t colours_len, uint64_t rule, uint64_t lo_kind,
+    uint64_t lo, uint64_t hi_kind, uint64_t hi, uint64_t *answer, size_t answer_len);
 
 #ifdef __cplusplus
 }

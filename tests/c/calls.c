@@ -126,6 +126,29 @@ static void insert(const char *name, uint64_t start, uint64_t end, uint64_t valu
     insert_in(name, start, end, value, ISET_INSERT_ANSWER);
 }
 
+// The slots that an unloading emptied have links that lead nowhere, and 0 in their other words.
+static void unload_in(const char *name, uint64_t lo_kind, uint64_t lo, uint64_t hi_kind, uint64_t hi, size_t room) {
+    static const uint64_t none[8] = {0, 0, 0, 0, 0, ISET_U, ISET_U, ISET_U};
+    begin(room);
+    uint64_t no = iset_unload(now.count, now.root, now.version, now.nodes, now.words, now.colours, now.bytes, lo_kind, lo, hi_kind, hi, now.answer, room);
+    line(name, no, ISET_UNLOAD_ANSWER, 0, 1);
+    if (no == 0) {
+        now.count = now.answer[0];
+        now.root = now.answer[1];
+        now.version = (uint32_t)now.answer[2];
+        if (before.count - now.count != now.answer[3]) printf(" ANOTHER NUMBER WENT");
+        if (now.answer[3] == 0 && (differ(now.nodes, before.nodes, 0, WORDS) || now.colours[0] != before.colours[0])) printf(" STORE CHANGED");
+        for (size_t i = now.count; i < before.count; i++)
+            if (differ(now.nodes + 8 * i, none, 0, 8)) printf(" SLOT NOT EMPTIED");
+        printf(" colours %d", now.colours[0]);
+    }
+    printf("\n");
+}
+
+static void unload(const char *name, uint64_t lo_kind, uint64_t lo, uint64_t hi_kind, uint64_t hi) {
+    unload_in(name, lo_kind, lo, hi_kind, hi, ISET_UNLOAD_ANSWER);
+}
+
 // Reading through a ticket.
 static void read_in(const char *name, uint64_t slot, uint32_t taken, size_t room) {
     begin(room);
@@ -330,6 +353,34 @@ static void tickets(void) {
     store_a(), remove_slot("another, remove 2", 2), read_slot("its slot 0", 0, 2);
 }
 
+static void unloaded(void) {
+    store_a(), unload("A unload [20, 25)", ISET_INCLUDED, 20, ISET_EXCLUDED, 25), ordered();
+    store_a(), unload("A unload (20, 25]", ISET_EXCLUDED, 20, ISET_INCLUDED, 25), ordered();
+    store_a(), unload("A unload [45, 45]", ISET_INCLUDED, 45, ISET_INCLUDED, 45), ordered();
+    store_a(), unload("A unload [0, 11)", ISET_INCLUDED, 0, ISET_EXCLUDED, 11), ordered();
+    store_a(), unload("A unload [55, 70)", ISET_INCLUDED, 55, ISET_EXCLUDED, 70), ordered();
+    store_a(), unload("A unload all", ISET_UNBOUNDED, 0, ISET_UNBOUNDED, 0), check("check"), unload("and again", ISET_UNBOUNDED, 0, ISET_UNBOUNDED, 0);
+    insert("then insert", 10, 20, 6), ordered();
+    store_a(), unload("[60, 70), which only touches", ISET_INCLUDED, 60, ISET_EXCLUDED, 70), read_slot("a ticket of before", 2, 1);
+    unload("(7, 8]", ISET_EXCLUDED, 7, ISET_INCLUDED, 8), read_slot("a ticket of before", 2, 1);
+    unload("[25, 26)", ISET_INCLUDED, 25, ISET_EXCLUDED, 26), read_slot("a ticket of before", 2, 1), read_slot("anew", 2, 3);
+    lend(40, 1), unload("no entries", ISET_UNBOUNDED, 0, ISET_UNBOUNDED, 0);
+    lend(24, 1), build("B build", LIST_B, 9), unload("B unload [8, 8]", ISET_INCLUDED, 8, ISET_INCLUDED, 8), check("check");
+    store_a(), now.version = UINT32_MAX, unload("at the top, [20, 25)", ISET_INCLUDED, 20, ISET_EXCLUDED, 25), read_slot("round", 1, UINT32_MAX), read_slot("anew", 1, 0);
+    store_a(), now.version = UINT32_MAX - 2, unload("near the top, all", ISET_UNBOUNDED, 0, ISET_UNBOUNDED, 0);
+}
+
+static void refused_unloadings(void) {
+    store_a(), unload("3 to 1", ISET_INCLUDED, 3, ISET_INCLUDED, 1), unload("[7, 7)", ISET_INCLUDED, 7, ISET_EXCLUDED, 7);
+    unload("a lower kind 3", 3, 0, ISET_UNBOUNDED, 0), unload("an upper kind 2^64 - 1", ISET_UNBOUNDED, 0, UINT64_MAX, 0);
+    unload_in("a short answer, a kind 3", 3, 0, ISET_UNBOUNDED, 0, ISET_UNLOAD_ANSWER - 1), unload_in("no answer", ISET_UNBOUNDED, 0, ISET_UNBOUNDED, 0, 0);
+    now.root = 1, unload("root 1, 3 to 1", ISET_INCLUDED, 3, ISET_INCLUDED, 1), unload("root 1, a kind 3", 3, 0, ISET_UNBOUNDED, 0);
+    now.count = 6, unload("count 6, root 1, 3 to 1", ISET_INCLUDED, 3, ISET_INCLUDED, 1), now.count = UINT64_MAX, unload("count 2^64 - 1", ISET_UNBOUNDED, 0, ISET_UNBOUNDED, 0);
+    store_a(), now.colours[0] = 13, unload("a red root", ISET_UNBOUNDED, 0, ISET_UNBOUNDED, 0);
+    store_a(), now.words = 39, unload("39 words", ISET_UNBOUNDED, 0, ISET_UNBOUNDED, 0);
+    store_a(), ordered();
+}
+
 static void looked_up(void) {
     struct query some = range(ISET_INCLUDED, 20, ISET_EXCLUDED, 25), all = range(ISET_UNBOUNDED, 0, ISET_UNBOUNDED, 0);
     store_a();
@@ -476,6 +527,8 @@ int main(void) {
     inserted();
     refused_insertions();
     tickets();
+    unloaded();
+    refused_unloadings();
     looked_up();
     looked_up_plainly();
     found_all();

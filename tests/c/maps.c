@@ -164,6 +164,25 @@ static iset_range any_range(void) {
 #define BOUNDS(r) r.lo.kind, r.lo.at, r.hi.kind, r.hi.at
 #define PLACE(c) c.slot, c.levels, c.bits
 
+/* One address or any range, so that mostly few go. */
+static void unload(void) {
+    iset_range range = any(3) ? iset_range_at(any(100)) : any_range();
+    uint64_t none[] = {0, 0, 0, 0};
+    none[0] = MAP(RAW).count, none[1] = MAP(RAW).root, none[2] = MAP(RAW).version;
+    empty(ISET_UNLOAD_ANSWER, none);
+    replies[RAW].no = iset_unload(DATED, BOUNDS(range), ANSWER, ISET_UNLOAD_ANSWER);
+    for (int k = PUBLIC; k < COPIES; k++) {
+        uint64_t gone = 7;
+        uint64_t no = k == PUBLIC ? iset_map_unload(&MAP(k), MEMORY(k), range, &gone)
+                                  : iset_map_open_unload(&MAP(k), MEMORY(k), range, &gone);
+        uint64_t numbers[] = {MAP(k).count, MAP(k).root, MAP(k).version, gone};
+        put(&replies[k], no, ISET_UNLOAD_ANSWER, numbers);
+    }
+    equal("unload");
+    MAP(RAW).count = ANSWER[0], MAP(RAW).root = ANSWER[1];
+    MAP(RAW).version = (uint32_t)ANSWER[2];
+}
+
 static void put_step(int k, uint64_t no, const iset_stepped *s) {
     uint64_t numbers[] = {s->slot, PLACE(s->next), s->entered};
     put(&replies[k], no, ISET_STEP_ANSWER, numbers);
@@ -340,6 +359,7 @@ static void faces(void) {
     iset_stepped s;
     iset_drained d;
     iset_tally t;
+    uint64_t gone;
     start();
     for (int k = PUBLIC; k < COPIES; k++) {
         if (iset_map_build(&MAP(k), MEMORY(k), list, 3) != ISET_OK) fail("build");
@@ -360,6 +380,7 @@ static void faces(void) {
     tell(iset_map_read(MAP(1), MEMORY(1), iset_map_ticket(MAP(1), 0), &entry));
     tell(iset_map_insert(&MAP(1), MEMORY(1), entry, &inserted));
     tell(iset_map_remove(&MAP(1), MEMORY(1), 0, &removed));
+    tell(iset_map_unload(&MAP(1), MEMORY(1), all, &gone));
     printf(", opened:");
     tell(iset_map_open_step(MAP(2), MEMORY(2), all, c, &s));
     tell(iset_map_open_drain(MAP(2), MEMORY(2), all, c, 0, OUT(2), SLOTS, &d));
@@ -374,6 +395,7 @@ static void faces(void) {
     tell(iset_map_open_read(MAP(2), MEMORY(2), iset_map_ticket(MAP(2), 0), &entry));
     tell(iset_map_open_insert(&MAP(2), MEMORY(2), entry, &inserted));
     tell(iset_map_open_remove(&MAP(2), MEMORY(2), 0, &removed));
+    tell(iset_map_open_unload(&MAP(2), MEMORY(2), all, &gone));
     printf("\n");
 }
 
@@ -393,7 +415,8 @@ int main(void) {
         start();
         for (int k = 0; k < 80; k++) {
             if (any(5) < 3) insert();
-            else remove_one();
+            else if (any(5)) remove_one();
+            else unload();
             overlaps();
             exacts();
             at();

@@ -17,7 +17,7 @@
 #define GUARDS 8
 #define GUARD UINT64_C(0x6775617264)
 #define FULL ISET_MOST_ENTRIES
-#define EACH 44 // how many six-word calls there are
+#define EACH 48 // how many six-word calls there are
 
 static void fail(const char *what) {
     printf("narrow: %s\n", what);
@@ -161,19 +161,32 @@ static void insert(void) {
     change(0, 4);
 }
 
-// The slot that a removal emptied: "the old last slot gets three undefined links".
-static void empty(void) {
+// The slots that a removal or an unloading emptied: "the old last slot gets three undefined links".
+static void empty_many(uint64_t slots) {
     static const uint64_t none[6] = {0, 0, 0, 0, 0, ISET_NARROW_NO_LINKS};
     if (of_six.no != ISET_OK) return;
-    if (memcmp(SIX + count * 6, none, sizeof none)) fail("the emptied slot");
-    emptied++;
+    for (uint64_t s = count; s < count + slots; s++)
+        if (memcmp(SIX + s * 6, none, sizeof none)) fail("an emptied slot");
+    emptied += slots;
 }
+
+static void empty(void) { empty_many(1); }
 
 static void remove_one(void) {
     uint64_t slot = near_slot();
     EITHER(remove, VERSIONED, slot, TO, places(11));
     change(1, 10);
     empty();
+}
+
+// A window, mostly a small one.
+static void unload(void) {
+    uint64_t lk = any(40) == 0 ? 3 : any(9) ? any(2) : 2, hk = any(9) ? any(2) : 2, lo = any(340), hi = any(6) == 0 ? any(340) : lo + any(12);
+    uint64_t rule = any(20) ? 1 + any(2) : any(4);
+    if (any(2)) EITHER(unload, VERSIONED, lk, lo, hk, hi, TO, places(4));
+    else EITHER(unload_ruled, VERSIONED, rule, lk, lo, hk, hi, TO, places(4));
+    change(0, 2);
+    empty_many(ANSWER[3]);
 }
 
 static void build(void) {
@@ -302,7 +315,8 @@ static void damage(void) {
 static void any_call(int apart) {
     if (apart && any(30)) disjoint_calls();
     else if (any(5) < 3) insert();
-    else remove_one();
+    else if (any(5)) remove_one();
+    else unload();
 }
 
 static void damaged_calls(int apart) {

@@ -25,7 +25,7 @@ struct store {
 
 static struct store first, second, kept;
 static size_t words, bytes;
-static unsigned long calls, refusals, carried, drains, damaged;
+static unsigned long calls, refusals, carried, drains, gone, damaged;
 
 static void fail(const char *what) {
     printf("opened: %s\n", what);
@@ -175,6 +175,21 @@ static void finds_exactly(uint64_t start, uint64_t end, uint64_t places) {
     as_drained(places, iset_open_drain_exact(count, root, SECOND, start, end, c[0], c[1], c[2], 0, opened_reply.out, MOST, OPENED, 5), &found);
 }
 
+// What goes is what a lookup of the range finds before, and finds no more after.
+static void unload(void) {
+    uint64_t lk = any(30) == 0 ? 3 : any(9) ? any(2) : 2, hk = any(9) ? any(2) : 2, lo = any(600), hi = any(6) == 0 ? any(600) : lo + any(30), found = 0;
+    if (compared && iset_open_find_all(count, root, SECOND, lk, lo, hk, hi, opened_reply.out, 0, OPENED, 2) == 0) found = OPENED[0];
+    BOTH("unload", iset_unload(count, root, version, FIRST, lk, lo, hk, hi, PUBLIC, 4),
+        iset_open_unload(count, root, version, SECOND, lk, lo, hk, hi, OPENED, 4));
+    if (opened_reply.no != 0) return;
+    if (OPENED[2] != (uint32_t)(version + OPENED[3])) fail("the version after an unloading");
+    if (compared && (OPENED[3] != found || OPENED[0] + found != count)) fail("another number went");
+    count = OPENED[0], root = OPENED[1], version = (uint32_t)OPENED[2];
+    if (!compared) return;
+    gone += found;
+    if (iset_open_find_all(count, root, SECOND, lk, lo, hk, hi, opened_reply.out, 0, OPENED, 2) != 0 || OPENED[0] != 0) fail("a hit was left");
+}
+
 static void exacts(void) {
     uint64_t start = any(600), end = start + any(30), places = any(PLACES + 1), limit = any(PLACES + 1), whole = any(6) ? MOST : places, c[3];
     if (count > 0 && count <= words / 8 && any(2)) {
@@ -207,6 +222,8 @@ static void short_answers(void) {
     BOTH("short insert", iset_insert(count, root, version, FIRST, 3, slot, 1, PUBLIC, 4),
         iset_open_insert(count, root, version, SECOND, 3, slot, 1, OPENED, 4));
     BOTH("short remove", iset_remove(count, root, version, FIRST, slot, PUBLIC, 10), iset_open_remove(count, root, version, SECOND, slot, OPENED, 10));
+    BOTH("short unload", iset_unload(count, root, version, FIRST, slot, 0, 2, 0, PUBLIC, 3),
+        iset_open_unload(count, root, version, SECOND, slot, 0, 2, 0, OPENED, 3));
     BOTH("short read", iset_read(count, root, version, FIRST, slot, version, PUBLIC, 2), iset_open_read(count, root, version, SECOND, slot, version, OPENED, 2));
     BOTH("short fresh", iset_fresh_exact(count, root, FIRST, 3, slot, PUBLIC, 2), iset_open_fresh_exact(count, root, SECOND, 3, slot, OPENED, 2));
     BOTH("short step", iset_step(count, root, FIRST, slot, 0, 2, 0, root, 1, 0, PUBLIC, 4),
@@ -239,6 +256,7 @@ static void sound_round(void) {
         if (any(5) < 3) insert();
         else remove_one();
         if (k % 4 == 0) look_up();
+        if (k % 25 == 24) unload();
         if (k % 40 == 0) short_answers();
     }
     if (iset_check(count, root, SECOND) != ISET_OK) fail("the store does not pass the check at the end");
@@ -266,7 +284,8 @@ static void damaged_rounds(void) {
         damage();
         for (int j = 0; j < 6; j++) {
             if (any(2)) insert();
-            else remove_one();
+            else if (any(3)) remove_one();
+            else unload();
             look_up();
             damaged++;
         }
@@ -279,6 +298,6 @@ int main(void) {
         damaged_rounds();
     }
     printf("opened: %lu calls as the public ones, %lu of them refused; %lu slots carried over a removal; "
-        "%lu fast lookups as drains; %lu changes of damaged stores\n", calls, refusals, carried, drains, damaged);
+        "%lu fast lookups as drains; %lu entries unloaded; %lu changes of damaged stores\n", calls, refusals, carried, drains, gone, damaged);
     return 0;
 }

@@ -1,7 +1,8 @@
-// The lookups of include/iset_ruled.h in a map of one entry, [3,6): by each rule, by numbers that are
+// The calls of include/iset_ruled.h in a map of one entry, [3,6): by each rule, by numbers that are
 // no rule, and with each refusal beside the one of a rule. Each line is the name of a case, then for a
-// step, a drain, a plain and a fast lookup the number that the public call returned, that of the
-// opened one, and the hits of both. Whatever is not as it should be is printed at the line's end.
+// step, a drain, a plain and a fast lookup and an unloading the number that the public call returned,
+// that of the opened one, and the hits of both, or how many entries went. Whatever is not as it should
+// be is printed at the line's end.
 #include <inttypes.h>
 #include <stdio.h>
 #include <string.h>
@@ -9,10 +10,12 @@
 #include "iset_ruled.h"
 
 #define FILL UINT64_C(777777)
+#define KINDS 5
+#define VERSION UINT32_MAX
 #define TOP UINT64_MAX
 
 // What a call is given. The cursor is the fresh one, unless a case says otherwise.
-static uint64_t nodes[ISET_NODES_LEN(1)], count, root, slot, levels;
+static uint64_t nodes[ISET_NODES_LEN(1)], kept[ISET_NODES_LEN(1)], count, root, slot, levels;
 static uint8_t colours[1];
 static size_t places, less;
 static uint64_t rule, lo_kind, lo, hi_kind, hi;
@@ -34,21 +37,36 @@ static uint64_t call(int kind, int opened) {
     case 0: return (opened ? iset_open_step_ruled : iset_step_ruled)(LENT, RANGE, slot, levels, 0, answer, ISET_STEP_ANSWER - less);
     case 1: return (opened ? iset_open_drain_ruled : iset_drain_ruled)(LENT, RANGE, slot, levels, 0, 1, out, places, answer, ISET_DRAIN_ANSWER - less);
     case 2: return (opened ? iset_open_plain_ruled : iset_plain_ruled)(LENT, RANGE, out, places, answer, ISET_PLAIN_ANSWER - less);
-    default: return (opened ? iset_open_find_all_ruled : iset_find_all_ruled)(LENT, RANGE, out, places, answer, ISET_FIND_ALL_ANSWER - less);
+    case 3: return (opened ? iset_open_find_all_ruled : iset_find_all_ruled)(LENT, RANGE, out, places, answer, ISET_FIND_ALL_ANSWER - less);
+    default:
+        return (opened ? iset_open_unload_ruled : iset_unload_ruled)(
+            count, root, VERSION, nodes, ISET_NODES_LEN(1), colours, 1, RANGE, answer, ISET_UNLOAD_ANSWER - less);
     }
 }
 
-static uint64_t hits(int kind) { return kind == 0 ? answer[0] != ISET_U : answer[0]; }
+static uint64_t hits(int kind) { return kind == 0 ? answer[0] != ISET_U : kind == 4 ? answer[3] : answer[0]; }
+
+// After an unloading that returned `no`: the store as it was, or emptied. Then it is as it was.
+static void unloaded(uint64_t no) {
+    static const uint64_t none[8] = {0, 0, 0, 0, 0, ISET_U, ISET_U, ISET_U};
+    int gone = no == ISET_OK && answer[3] == 1;
+    if (no == ISET_OK && (answer[0] != 1 - answer[3] || answer[1] != (gone ? ISET_U : 0) || answer[2] != (uint32_t)(VERSION + answer[3])))
+        printf(" ANOTHER MAP");
+    if (memcmp(nodes, gone ? none : kept, sizeof nodes) || colours[0] != 0) printf(" ANOTHER STORE");
+    memcpy(nodes, kept, sizeof nodes);
+}
 
 static void told(const char *name) {
     printf("%s:", name);
-    for (int kind = 0; kind < 4; kind++) {
+    memcpy(kept, nodes, sizeof kept);
+    for (int kind = 0; kind < KINDS; kind++) {
         uint64_t numbers[2], found[2] = {0, 0};
         for (int opened = 0; opened < 2; opened++) {
             numbers[opened] = call(kind, opened);
+            if (kind == 4) unloaded(numbers[opened]);
             if (numbers[opened] == ISET_OK) {
                 found[opened] = hits(kind);
-                if (kind > 0 && out[0] != (found[opened] && places ? 0 : FILL)) printf(" ANOTHER OUTPUT");
+                if (kind > 0 && kind < 4 && out[0] != (found[opened] && places ? 0 : FILL)) printf(" ANOTHER OUTPUT");
             } else {
                 for (size_t i = 0; i < 5; i++)
                     if (answer[i] != FILL) printf(" ANSWER CHANGED");
