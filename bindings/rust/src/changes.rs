@@ -59,3 +59,12 @@ pub struct Inserted {
     /// How many of the hulls that the insertion worked out changed, at either end.
     pub reach: u64,
 }
+
+/// The answer of an unloading.
+#[derive(Clone, Copy, Debug, PartialEq, Eq)]
+pub struct Unloaded {
+    /// The map after the unloading. Its version is higher by [`gone`](Unloaded::gone).
+    pub map: Map,
+    /// How many entries went.
+    pub gone: u64,
+}

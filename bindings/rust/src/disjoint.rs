@@ -1,11 +1,11 @@
 //! Maps in which no two ranges overlap, though one may end where the next one starts.
-use core::ops::Range;
+use core::ops::{Range, RangeBounds};
 
 use super::calls::{OPENED, PUBLIC};
 use super::hits::refused;
 use super::lent::{Lent, LentMut};
 use super::{Inserted, Map, Removed, StoreRef};
-use crate::{Entry, NotPlaced, Refusal, Spot};
+use crate::{Entry, NotPlaced, Refusal, Rule, Spot};
 
 /// A map in which no two ranges overlap, by value. Any map may stand in it: each call takes the
 /// memory and checks all of it. All other calls are those of the [`Map`] in it. For a map that is
@@ -233,6 +233,17 @@ impl<'m> DisjointStore<'m> {
     /// [`Refusal::NoSuch`].
     pub fn remove(&mut self, slot: u64) -> Result<Removed, Refusal> {
         self.lent.take(OPENED.disjoint_remove, slot)
+    }
+
+    /// Removes every entry that intersects a range by a rule, and returns how many went: as
+    /// [`Store::unload`](super::Store::unload). What is left is disjoint too (the theorem
+    /// `unload-keeps` of crate disjoint).
+    ///
+    /// # Errors
+    ///
+    /// [`Refusal::BadRange`].
+    pub fn unload(&mut self, rule: Rule, range: impl RangeBounds<u64>) -> Result<u64, Refusal> {
+        Ok(self.lent.unload(&OPENED, rule, range)?.gone)
     }
 
     /// Gives the memory back, and returns the map in it.

@@ -172,6 +172,25 @@ pairs! {
         answer: *mut u64, answer_len: usize,
     );
 
+    /// Removes every entry that intersects a range. The answer has 4 numbers.
+    unload: iset_unload, iset_open_unload, iset_narrow_unload, iset_narrow_open_unload;
+    Unload: fn(
+        count: u64, root: u64, version: u32,
+        nodes: *mut u64, nodes_len: usize, colours: *mut u8, colours_len: usize,
+        lo_kind: u64, lo: u64, hi_kind: u64, hi: u64,
+        answer: *mut u64, answer_len: usize,
+    );
+
+    /// Removes every entry that intersects a range by a rule. The answer has 4 numbers.
+    unload_ruled: iset_unload_ruled, iset_open_unload_ruled,
+        iset_narrow_unload_ruled, iset_narrow_open_unload_ruled;
+    UnloadRuled: fn(
+        count: u64, root: u64, version: u32,
+        nodes: *mut u64, nodes_len: usize, colours: *mut u8, colours_len: usize,
+        rule: u64, lo_kind: u64, lo: u64, hi_kind: u64, hi: u64,
+        answer: *mut u64, answer_len: usize,
+    );
+
     /// Reads the entry of a slot, if the map still has version `taken`. The answer has 3 numbers.
     read: iset_read, iset_open_read, iset_narrow_read, iset_narrow_open_read;
     Read: fn(

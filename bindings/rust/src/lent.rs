@@ -1,10 +1,12 @@
 //! A map over the two slices that are lent to a call, and the calls.
-use core::ops::Bound;
+use core::ops::{Bound, RangeBounds};
 
 use super::calls::ALONE;
-use super::{Inserted, Map, Removed};
+use super::{Inserted, Map, Removed, Unloaded};
 use crate::ffi::{self, Calls};
-use crate::{Cursor, Drained, Entry, NotPlaced, Query, Refusal, Spot, Step, Tally, Ticket, U};
+use crate::{
+    Cursor, Drained, Entry, NotPlaced, Query, Refusal, Rule, Spot, Step, Tally, Ticket, U,
+};
 
 /// A map and slices that a call reads.
 #[derive(Clone, Copy, Debug)]
@@ -159,6 +161,36 @@ impl LentMut<'_> {
             map: self.map,
             slot,
             reach,
+        })
+    }
+
+    pub fn unload(
+        &mut self,
+        calls: &Calls,
+        rule: Rule,
+        range: impl RangeBounds<u64>,
+    ) -> Result<Unloaded, Refusal> {
+        let (a, lo) = numbers(range.start_bound().cloned());
+        let (b, hi) = numbers(range.end_bound().cloned());
+        let mut answer = [0; 4];
+        told(match rule {
+            Rule::Any => {
+                // SAFETY: as in `build`.
+                unsafe { call!(dated calls.unload, self, as_mut_ptr; a, lo, b, hi; answer) }
+            }
+            Rule::Whole => {
+                let rule = rule as u64;
+                // SAFETY: as in `build`.
+                unsafe {
+                    call!(dated calls.unload_ruled, self, as_mut_ptr; rule, a, lo, b, hi; answer)
+                }
+            }
+        })?;
+        let [count, root, version, gone] = answer;
+        self.map = map(count, root, version);
+        Ok(Unloaded {
+            map: self.map,
+            gone,
         })
     }
 }

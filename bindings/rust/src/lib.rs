@@ -80,7 +80,7 @@ mod calls {
 }
 
 pub use answers::{Cursor, Drained, Entry, NotPlaced, Spot, Step, Tally};
-pub use changes::{Inserted, Removed};
+pub use changes::{Inserted, Removed, Unloaded};
 pub use disjoint::{DisjointMap, DisjointStore};
 pub use hits::Hits;
 pub use map::Map;
@@ -134,9 +134,14 @@ const _: () = {
     shared::<(DisjointMap, DisjointStore<'static>, NotPlaced, Spot)>();
     shared::<Hits<'static>>();
     shared::<(Query, Entry, Refusal, Ticket)>();
-    shared::<(Removed, Inserted, Cursor, Step, Drained, Tally)>();
+    shared::<(Removed, Inserted, Unloaded, Cursor, Step, Drained, Tally)>();
     shared::<(narrow::Map, narrow::Store<'static>)>();
     shared::<(narrow::StoreRef<'static>, narrow::Entries<'static, 1>)>();
     shared::<(narrow::DisjointMap, narrow::DisjointStore<'static>)>();
-    shared::<(narrow::Hits<'static>, narrow::Removed, narrow::Inserted)>();
+    shared::<(
+        narrow::Hits<'static>,
+        narrow::Removed,
+        narrow::Inserted,
+        narrow::Unloaded,
+    )>();
 };

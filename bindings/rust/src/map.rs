@@ -1,8 +1,10 @@
 //! The map by value: its calls take the memory, and each checks all of it.
+use core::ops::RangeBounds;
+
 use super::calls::PUBLIC;
 use super::lent::{Lent, LentMut};
-use super::{Hits, Inserted, Removed, StoreRef};
-use crate::{Cursor, Drained, Entry, Query, Refusal, Step, Tally, Ticket, U};
+use super::{Hits, Inserted, Removed, StoreRef, Unloaded};
+use crate::{Cursor, Drained, Entry, Query, Refusal, Rule, Step, Tally, Ticket, U};
 
 /// A map: how many entries it has, in slots 0 to count - 1, the slot of its root, and its version.
 #[derive(Clone, Copy, Debug, PartialEq, Eq)]
@@ -12,7 +14,7 @@ pub struct Map {
     /// The slot of the root, [`U`] if there are no entries.
     pub root: u64,
     /// How often it was changed, modulo 2^32: each build, removal, insertion and reading of an image
-    /// that is not refused counts.
+    /// that is not refused counts, and an unloading counts once for each entry that went.
     pub version: u32,
 }
 
@@ -182,6 +184,36 @@ impl Map {
     ) -> Result<Inserted, Refusal> {
         let mut lent = self.over_mut(nodes, colours);
         lent.insert(&PUBLIC, [start, end, value])
+    }
+
+    /// Removes every entry that intersects a range by a rule, always the first one in order. The
+    /// others keep their order, and may change slot. If none went, nothing has changed.
+    ///
+    #[cfg_attr(iset_linked, doc = "```")]
+    #[cfg_attr(not(iset_linked), doc = "```no_run")]
+    #[doc = using!("{Map, Refusal, Rule, NODE_WORDS}")]
+    ///
+    /// # fn main() -> Result<(), Refusal> {
+    /// let (mut nodes, mut colours) = ([0; 3 * NODE_WORDS], [0; 1]);
+    /// let list = [10, 20, 1, 10, 30, 2, 25, 40, 3];
+    /// let map = Map::new().build(&mut nodes, &mut colours, &list)?;
+    /// let unloaded = map.unload(&mut nodes, &mut colours, Rule::Any, 20..30)?;
+    /// assert_eq!((unloaded.gone, unloaded.map.count, unloaded.map.version), (2, 1, 3));
+    /// # Ok(())
+    /// # }
+    /// ```
+    ///
+    /// # Errors
+    ///
+    /// [`Refusal::NoRoom`], [`Refusal::Broken`], [`Refusal::BadRange`].
+    pub fn unload(
+        self,
+        nodes: &mut [u64],
+        colours: &mut [u8],
+        rule: Rule,
+        range: impl RangeBounds<u64>,
+    ) -> Result<Unloaded, Refusal> {
+        self.over_mut(nodes, colours).unload(&PUBLIC, rule, range)
     }
 
     /// Where an overlap lookup begins. The map is tested when the cursor is used.

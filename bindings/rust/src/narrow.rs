@@ -75,7 +75,7 @@ pub use crate::{
     image, image_len, Cursor, Drained, Entry, NotPlaced, Query, Refusal, Rule, Spot, Step, Tally,
     Ticket, MOST_ENTRIES, U,
 };
-pub use changes::{Inserted, Removed};
+pub use changes::{Inserted, Removed, Unloaded};
 pub use disjoint::{DisjointMap, DisjointStore};
 pub use hits::Hits;
 pub use map::Map;

@@ -5,7 +5,7 @@ use core::ops::{Range, RangeBounds};
 use super::calls::OPENED;
 use super::lent::{Lent, LentMut};
 use super::{Hits, Map, Removed, NODE_WORDS};
-use crate::{Entry, Query, Refusal, Tally, Ticket};
+use crate::{Entry, Query, Refusal, Rule, Tally, Ticket};
 
 /// How many hits an iterator fetches at a time. A call that continues tests its cursor, one link a
 /// level, and an exact one searches for its beginning again: that costs if few are fetched.
@@ -416,6 +416,35 @@ impl<'m> Store<'m> {
     /// [`Refusal::NoSuch`].
     pub fn remove(&mut self, slot: u64) -> Result<Removed, Refusal> {
         self.lent.remove(&OPENED, slot)
+    }
+
+    /// Removes every entry that intersects a range by a rule, always the first one in order, and
+    /// returns how many went. The others keep their order, and may change slot. Tickets of before
+    /// are stale, unless none went.
+    ///
+    #[cfg_attr(iset_linked, doc = "```")]
+    #[cfg_attr(not(iset_linked), doc = "```no_run")]
+    #[doc = using!("{Refusal, Rule, Store, NODE_WORDS}")]
+    ///
+    /// # fn main() -> Result<(), Refusal> {
+    /// let (mut nodes, mut colours) = ([0; 3 * NODE_WORDS], [0; 1]);
+    /// let list = [[10, 20, 1], [10, 30, 2], [25, 40, 3]];
+    /// let mut store = Store::build(&mut nodes, &mut colours, &list)?;
+    /// let ticket = store.ticket(0);
+    /// assert_eq!(store.unload(Rule::Any, 40..)?, 0);
+    /// assert_eq!(store.read_ticket(ticket)?.value, 1);
+    /// assert_eq!(store.unload(Rule::Any, 20..30)?, 2);
+    /// assert_eq!(store.read_ticket(ticket), Err(Refusal::Stale));
+    /// assert!(store.entries().map(|entry| entry.value).eq([1]));
+    /// # Ok(())
+    /// # }
+    /// ```
+    ///
+    /// # Errors
+    ///
+    /// [`Refusal::BadRange`].
+    pub fn unload(&mut self, rule: Rule, range: impl RangeBounds<u64>) -> Result<u64, Refusal> {
+        Ok(self.lent.unload(&OPENED, rule, range)?.gone)
     }
 
     /// Gives the memory back, and returns the map in it.

@@ -1,7 +1,7 @@
 //! `DisjointMap` and `DisjointStore` beside a plain list of ranges. They need the archives: without
 //! ISET_LIB_DIR there is nothing here to run.
 #![cfg(iset_linked)]
-use iset_proved::{DisjointMap, DisjointStore, Map, NotPlaced, Query, Refusal, U};
+use iset_proved::{DisjointMap, DisjointStore, Map, NotPlaced, Query, Refusal, Rule, U};
 
 struct Chance(u64);
 
@@ -61,6 +61,24 @@ fn remove(store: &mut DisjointStore, list: &mut Vec<(u64, u64)>, chance: &mut Ch
     *list = after;
 }
 
+/// The ranges with an address in a window go, and the others are left.
+fn unload(store: &mut DisjointStore, list: &mut Vec<(u64, u64)>, chance: &mut Chance) {
+    let start = chance.below(300);
+    let end = start + 1 + chance.below(12);
+    let mut left = list.clone();
+    left.retain(|range| end <= range.0 || range.1 <= start);
+    let gone = store.unload(Rule::Whole, start..end);
+    assert_eq!(gone, Ok((list.len() - left.len()) as u64));
+    *list = (0..left.len() as u64)
+        .map(|slot| store.get(slot).unwrap().range)
+        .map(|range| (range.start, range.end))
+        .collect();
+    let mut found = list.clone();
+    left.sort();
+    found.sort();
+    assert_eq!(left, found);
+}
+
 #[test]
 fn by_chance() {
     let mut chance = Chance(88172645463325252);
@@ -69,8 +87,9 @@ fn by_chance() {
         let mut store = DisjointStore::new(&mut nodes, &mut colours);
         let mut list = Vec::new();
         for _ in 0..150 {
-            match chance.below(3) {
-                0 => remove(&mut store, &mut list, &mut chance),
+            match chance.below(30) {
+                0..=8 => remove(&mut store, &mut list, &mut chance),
+                9 => unload(&mut store, &mut list, &mut chance),
                 _ => insert(&mut store, &mut list, &mut chance),
             }
             assert_eq!(store.len(), list.len());

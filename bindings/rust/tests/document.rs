@@ -3,7 +3,7 @@
 #![cfg(iset_linked)]
 use core::ops::Bound;
 
-use iset_proved::{Cursor, Entry, Map, Query, Refusal, Step, Tally, Ticket, U};
+use iset_proved::{Cursor, Entry, Map, Query, Refusal, Rule, Step, Tally, Ticket, Unloaded, U};
 
 const LIST_A: [u64; 15] = [10, 20, 1, 10, 30, 2, 25, 40, 3, 40, 50, 4, 45, 60, 5];
 const NONE: (u64, u64) = (U, U);
@@ -229,6 +229,71 @@ fn versions() {
     let ticket = one.map.ticket(0);
     assert_eq!(read(&one, ticket), Ok([45, 60, 5]));
     assert_eq!(read(&other, ticket), Ok([10, 20, 1]));
+}
+
+/// A ticket of before can be read after an unloading of nothing, and is stale after one of an entry.
+#[test]
+fn unloaded() {
+    let mut a = Store::of(&LIST_A);
+    let (ticket, whole) = (a.map.ticket(2), (Bound::Excluded(39), Bound::Excluded(45)));
+    let none = a.map.unload(&mut a.nodes, &mut a.colours, Rule::Any, 60..);
+    assert_eq!(
+        none,
+        Ok(Unloaded {
+            map: a.map,
+            gone: 0
+        })
+    );
+    assert_eq!(read(&a, ticket), Ok([25, 40, 3]));
+    // [25, 40) has no address above 39: rule 2 keeps it
+    let one = a
+        .map
+        .unload(&mut a.nodes, &mut a.colours, Rule::Whole, whole);
+    a.map = one.unwrap().map;
+    assert_eq!((one.unwrap().gone, a.map.count, a.map.version), (1, 4, 2));
+    assert_eq!(read(&a, ticket), Err(Refusal::Stale));
+    assert_eq!(a.map.check(&a.nodes, &a.colours), Ok(()));
+    let one = a.map.unload(&mut a.nodes, &mut a.colours, Rule::Any, whole);
+    a.map = one.unwrap().map;
+    let values: Vec<u64> = a.all(Query::overlap(..), 2).unwrap();
+    let values = values.iter().map(|&slot| a.nodes[slot as usize * 8 + 2]);
+    assert!(values.eq([1, 2, 5]));
+    a.map.version = u32::MAX - 1;
+    let rest = a.map.unload(&mut a.nodes, &mut a.colours, Rule::Any, ..);
+    assert_eq!(
+        rest,
+        Ok(Unloaded {
+            map: map(0, U, 1),
+            gone: 3
+        })
+    );
+    assert!(a
+        .nodes
+        .chunks(8)
+        .all(|node| *node == [0, 0, 0, 0, 0, U, U, U]));
+}
+
+/// The refusals in their order, and nothing changes.
+#[test]
+fn refused_unloadings() {
+    let mut a = Store::of(&LIST_A);
+    let (nodes, colours) = (a.nodes, a.colours);
+    let top = (Bound::Excluded(u64::MAX), Bound::Unbounded);
+    let falling = (Bound::Included(3), Bound::Included(1));
+    let mut refused = |map: Map, rule, range: (Bound<u64>, Bound<u64>)| {
+        let why = map.unload(&mut a.nodes, &mut a.colours, rule, range).err();
+        assert_eq!((a.nodes, a.colours), (nodes, colours));
+        why
+    };
+    for rule in [Rule::Any, Rule::Whole] {
+        assert_eq!(refused(a.map, rule, falling), Some(Refusal::BadRange));
+        let broken = map(5, 1, 1);
+        assert_eq!(refused(broken, rule, falling), Some(Refusal::Broken));
+        let above = map(6, 1, 1);
+        assert_eq!(refused(above, rule, falling), Some(Refusal::NoRoom));
+    }
+    assert_eq!(refused(a.map, Rule::Whole, top), Some(Refusal::BadRange));
+    assert_eq!(refused(a.map, Rule::Any, top), None);
 }
 
 #[test]

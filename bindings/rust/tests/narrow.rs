@@ -7,7 +7,7 @@ use core::ops::Bound;
 use iset_proved::narrow::{self, capacity};
 use iset_proved::{
     image, image_len, Cursor, DisjointMap, DisjointStore, Entry, Inserted, Map, NotPlaced, Query,
-    Refusal, Removed, Rule, Step, Store, StoreRef, U,
+    Refusal, Removed, Rule, Step, Store, StoreRef, Unloaded, U,
 };
 
 const SLOTS: usize = 24;
@@ -32,6 +32,16 @@ impl Chance {
     fn bound(&mut self) -> Bound<u64> {
         let a = self.below(70);
         [Bound::Included(a), Bound::Excluded(a), Bound::Unbounded][self.below(3) as usize]
+    }
+
+    /// A window to unload, mostly a small one, and a rule.
+    fn window(&mut self) -> (Rule, (Bound<u64>, Bound<u64>)) {
+        let (start, end) = self.interval();
+        let range = match self.below(6) {
+            0 => (self.bound(), self.bound()),
+            _ => (Bound::Excluded(start), Bound::Included(end)),
+        };
+        ([Rule::Any, Rule::Whole][self.below(2) as usize], range)
     }
 
     fn query(&mut self) -> Query {
@@ -129,6 +139,13 @@ fn inserted(answer: narrow::Inserted) -> Inserted {
     }
 }
 
+fn unloaded(answer: narrow::Unloaded) -> Unloaded {
+    Unloaded {
+        map: wide(answer.map),
+        gone: answer.gone,
+    }
+}
+
 /// A map in both layouts, each with its memory.
 #[derive(Clone, Debug)]
 struct Both {
@@ -190,6 +207,15 @@ impl Both {
             let after = eight.map(|answer| answer.slot_after(kept));
             assert_eq!(six.map(|answer| answer.slot_after(kept)), after);
         }
+        self.six = six.map_or(self.six, |answer| answer.map);
+        self.eight = eight.map_or(self.eight, |answer| answer.map);
+        self.same();
+    }
+
+    fn unload(&mut self, rule: Rule, range: (Bound<u64>, Bound<u64>)) {
+        let six = (self.six).unload(&mut self.narrow, &mut self.bits, rule, range);
+        let eight = (self.eight).unload(&mut self.nodes, &mut self.colours, rule, range);
+        assert_eq!(six.map(unloaded), eight);
         self.six = six.map_or(self.six, |answer| answer.map);
         self.eight = eight.map_or(self.eight, |answer| answer.map);
         self.same();
@@ -329,7 +355,11 @@ impl Both {
     fn change(&mut self, chance: &mut Chance) {
         let slot = chance.below(self.eight.count + 1);
         let (start, end) = chance.interval();
-        match chance.below(12) {
+        match chance.below(13) {
+            12 => {
+                let (rule, range) = chance.window();
+                self.unload(rule, range);
+            }
             0 => {
                 let list = chance.list().concat();
                 let cut = list.len() - (chance.below(9) == 0 && !list.is_empty()) as usize;
@@ -506,7 +536,11 @@ fn stores() {
         for _ in 0..8 {
             let (slot, value) = (chance.below(SLOTS as u64), chance.below(u64::MAX));
             let (start, end) = chance.interval();
-            match chance.below(9) {
+            match chance.below(10) {
+                9 => {
+                    let (rule, range) = chance.window();
+                    assert_eq!(six.unload(rule, range), eight.unload(rule, range));
+                }
                 0 => {
                     let list = chance.list();
                     assert_eq!(six.rebuild(&list), eight.rebuild(&list));
@@ -548,6 +582,9 @@ fn disjoint_stores() {
             let slot = chance.below(eight.len() as u64 + 2);
             if chance.below(4) == 0 {
                 assert_eq!(six.remove(slot).map(removed), eight.remove(slot));
+            } else if chance.below(12) == 0 {
+                let (rule, range) = chance.window();
+                assert_eq!(six.unload(rule, range), eight.unload(rule, range));
             } else {
                 let placed = six.insert(start..end, value);
                 assert_eq!(placed, eight.insert(start..end, value));

@@ -145,6 +145,28 @@ fn by_rules(store: &Store, plain: &Plain, chance: &mut Chance) {
     same_slots(store, Query::whole(range), found, places);
 }
 
+/// Unloads a window, mostly a small one: those that a lookup finds go, and the others keep their
+/// order.
+fn unload(store: &mut Store, plain: &mut Plain, chance: &mut Chance) {
+    let rule = [Rule::Any, Rule::Whole][chance.below(2) as usize];
+    let a = chance.below(320);
+    let (lo, hi) = match chance.below(8) {
+        0 => (bound(chance), bound(chance)),
+        _ => (Bound::Excluded(a), Bound::Excluded(a + chance.below(9))),
+    };
+    let mut out = [U; SLOTS];
+    let found = store.plain(Query::Ruled(rule, lo, hi), &mut out);
+    let gone = store.unload(rule, (lo, hi));
+    assert_eq!(gone, found.map(|found| found.hits));
+    let Ok(gone) = gone else { return };
+    plain.0.retain(|e| !out[..gone as usize].contains(&e.3));
+    assert_eq!(store.len(), plain.0.len());
+    for (old, entry) in plain.0.iter_mut().zip(store.entries()) {
+        assert_eq!((old.0..old.1, old.2), (entry.range, entry.value));
+        old.3 = entry.slot;
+    }
+}
+
 #[test]
 fn as_a_plain_list() {
     let mut chance = Chance(88172645463325252);
@@ -157,6 +179,9 @@ fn as_a_plain_list() {
             remove(&mut store, &mut plain, &mut chance);
         } else {
             insert(&mut store, &mut plain, &mut chance);
+        }
+        if k % 20 == 19 {
+            unload(&mut store, &mut plain, &mut chance);
         }
         assert_eq!(
             (store.len(), store.is_empty()),
@@ -206,16 +231,17 @@ fn opened_and_built() {
     assert_eq!(store.get(1), Some(second));
 }
 
-/// A ticket holds until the next change: a removal, an insertion or a build.
+/// A ticket holds until the next change: a removal, an insertion, an unloading of an entry or a build.
 #[test]
 fn tickets() {
     let (mut nodes, mut colours) = ([0; 32], [0; 1]);
     let list = [[5, 9, 1], [6, 9, 2], [7, 9, 3]];
     let mut store = Store::build(&mut nodes, &mut colours, &list).unwrap();
     type Change = fn(&mut Store) -> Result<u64, Refusal>;
-    let changes: [Change; 3] = [
+    let changes: [Change; 4] = [
         |store| store.insert(8..9, 4),
         |store| store.remove(0).map(|removed| removed.value),
+        |store| store.unload(Rule::Any, 6..7),
         |store| store.rebuild(&[[1, 2, 7], [3, 4, 8]]).map(|()| 0),
     ];
     for change in changes {
@@ -228,12 +254,14 @@ fn tickets() {
             store.rebuild(&[[5, 9, 1], [4, 9, 2]]),
             Err(Refusal::NotSorted)
         );
+        assert_eq!(store.unload(Rule::Any, 9..), Ok(0));
+        assert_eq!(store.unload(Rule::Whole, 9..9), Err(Refusal::BadRange));
         assert!(store.read_ticket(ticket).is_ok());
         change(&mut store).unwrap();
         assert_eq!(store.read_ticket(ticket), Err(Refusal::Stale));
         assert_eq!(store.read_ticket(store.ticket(9)), Err(Refusal::NoSuch));
     }
-    assert_eq!((store.len(), store.close().version), (2, 4));
+    assert_eq!((store.len(), store.close().version), (2, 5));
 }
 
 #[test]
