@@ -32,14 +32,15 @@
  * says. An array that a call writes overlaps no other argument, and nothing else uses it during the
  * call. An array of length 0 may have any pointer, NULL included.
  *
- * A slot stays valid until the next removal or unloading. The removal lists the entries that moved:
- * update the slots you kept with iset_slot_after, or look them up again. An unloading lists none:
- * look them up again. An insertion moves no entry: every slot stays valid. A cursor that is used
- * after a change is tested against the new store.
+ * A slot stays valid until the next removal, unloading or renumbering. The removal lists the entries
+ * that moved: update the slots you kept with iset_slot_after, or look them up again. An unloading
+ * lists none: look them up again. The plan of a renumbering has the new slot of each. An insertion
+ * moves no entry: every slot stays valid. A cursor that is used after a change is tested against the
+ * new store.
  *
- * The version goes up by one at each build, removal, insertion and reading of an image that is not
- * refused, and at an unloading by the number of entries that went; after 4294967295 comes 0. A slot
- * together with the version that the map has then is a ticket.
+ * The version goes up by one at each build, removal, insertion, renumbering and reading of an image
+ * that is not refused, and at an unloading by the number of entries that went; after 4294967295
+ * comes 0. A slot together with the version that the map has then is a ticket.
  * iset_read reads the entry of a ticket's slot, and refuses the ticket as stale if the map has
  * changed since: at least once and fewer than 4,294,967,296 times. After exactly that many changes
  * the ticket can pass. This holds if each change is made to the newest map, and none to an older
@@ -66,6 +67,9 @@
 /* How many words and how many bytes the arrays need for n entries. */
 #define ISET_NODES_LEN(n) ((size_t)(n) * ISET_NODE_WORDS)
 #define ISET_COLOURS_LEN(n) (((size_t)(n) + 7) / 8)
+
+/* How much stack iset_renumber and its other forms take at most, in bytes. */
+#define ISET_RENUMBER_STACK 24576
 
 /* How many bytes the image of a map of n entries has. */
 #define ISET_IMAGE_LEN(n) (44 + (size_t)(n) * 36 + ISET_COLOURS_LEN(n))
@@ -97,13 +101,13 @@ enum iset_refusal {
     ISET_BAD_CURSOR = 7,      /* no lookup of this query in this store has this cursor */
     ISET_BAD_LIST = 8,        /* the list's length is not a multiple of 3 */
     ISET_SHORT_OUTPUT = 9,    /* the drain's limit is above the output's length, or the output of a
-                                 plain lookup or of an image is too short */
+                                 plain lookup, of a plan or of an image is too short */
     ISET_BAD_BIT = 10,        /* of bit vectors and stacks; none of these calls returns it */
     ISET_STALE = 11,          /* the map has changed since the ticket was taken */
     ISET_BAD_IMAGE = 12,      /* the bytes have not the layout or the length of an image */
     ISET_OVERLAP = 13,        /* a stored entry intersects the new one (iset_disjoint.h) */
     ISET_NOT_DISJOINT = 14,   /* two entries intersect (iset_disjoint.h) */
-    ISET_BAD_PLAN = 15,       /* none of these calls returns it yet */
+    ISET_BAD_PLAN = 15,       /* the plan does not name each slot below the count once */
     /* Later refusals of the map are numbered from 16. These two belong to the calls from C: */
     ISET_SHORT_ANSWER = 101,  /* `answer` has fewer places than the answer has numbers */
     ISET_BAD_BOUND = 102      /* a bound's kind is not 0, 1 or 2 */
@@ -118,6 +122,7 @@ enum iset_answer {
     ISET_REMOVE_ANSWER = 11,
     ISET_INSERT_ANSWER = 5,
     ISET_UNLOAD_ANSWER = 4,
+    ISET_RENUMBER_ANSWER = 3,
     ISET_READ_ANSWER = 3,
     ISET_WRITE_IMAGE_ANSWER = 1,
     ISET_READ_IMAGE_ANSWER = 3,
@@ -156,6 +161,11 @@ enum iset_unload_place {
     ISET_UNLOADED_ROOT = 1,
     ISET_UNLOADED_VERSION = 2,
     ISET_UNLOADED_GONE = 3
+};
+enum iset_renumber_place {
+    ISET_RENUMBERED_COUNT = 0,
+    ISET_RENUMBERED_ROOT = 1,
+    ISET_RENUMBERED_VERSION = 2
 };
 enum iset_read_place { ISET_READ_START = 0, ISET_READ_END = 1, ISET_READ_VALUE = 2 };
 enum iset_fresh_place { ISET_FRESH_SLOT = 0, ISET_FRESH_LEVELS = 1, ISET_FRESH_BITS = 2 };
@@ -255,6 +265,27 @@ uint64_t iset_insert(uint64_t count, uint64_t root, uint32_t version, uint64_t *
 uint64_t iset_unload(uint64_t count, uint64_t root, uint32_t version, uint64_t *nodes,
     size_t nodes_len, uint8_t *colours, size_t colours_len, uint64_t lo_kind, uint64_t lo,
     uint64_t hi_kind, uint64_t hi, uint64_t *answer, size_t answer_len);
+
+/* Proposes a plan that numbers the slots in the order of the entries: out[slot] is the place of that
+ * slot's entry in this order, counted from 0. The plan is the first `count` places of `out`; places
+ * past them are unchanged. Nothing moves. Hand the plan on to iset_renumber, with `count` for its
+ * length. If it names every slot as it is, the map is tidy.
+ * What it returns is all: there is no answer.
+ * Refusals: NO_ROOM, BROKEN, SHORT_OUTPUT if `out` has fewer places than the count. */
+uint64_t iset_propose(uint64_t count, uint64_t root, const uint64_t *nodes, size_t nodes_len,
+    const uint8_t *colours, size_t colours_len, uint64_t *out, size_t out_len);
+
+/* Renumbers the slots by a plan, that of iset_propose or any other: the entry of slot s moves to slot
+ * plan[s], with its colour and its links. The order of the entries and the shape of the tree stay.
+ * A plan has exactly `count` numbers, and each slot below the count is one of them. It is only read.
+ * Slots and colour bits from the count up are unchanged. The version goes up by one, also if nothing
+ * moves. The test of the plan takes 8 KiB of stack, and the whole call, with the check, at most
+ * ISET_RENUMBER_STACK bytes.
+ * Answer: count, root, version.
+ * Refusals: SHORT_ANSWER, NO_ROOM, BROKEN, BAD_PLAN. */
+uint64_t iset_renumber(uint64_t count, uint64_t root, uint32_t version, uint64_t *nodes,
+    size_t nodes_len, uint8_t *colours, size_t colours_len, const uint64_t *plan,
+    size_t plan_len, uint64_t *answer, size_t answer_len);
 
 /* Reads the entry of a slot through a ticket: the slot, and the version that the map had when the
  * ticket was taken.

@@ -1,7 +1,7 @@
 /* Maps in which no two ranges overlap, though one may end where the next one starts. Such a map is
  * the map of iset.h, in the same two arrays, with a rule of its own. These calls test the rule.
- * Every other call of iset.h may be used on it. iset_insert and iset_build do not keep the rule;
- * after them iset_disjoint_check tells.
+ * Every other call of iset.h may be used on it. iset_unload and iset_renumber keep the rule, in all
+ * their forms. iset_insert and iset_build do not; after them iset_disjoint_check tells.
  *
  * Arguments, answers and refusals have the form of iset.h, with one exception: iset_disjoint_insert
  * writes its answer also if it returns ISET_OVERLAP, since that refusal names a slot. After every
@@ -9,12 +9,12 @@
  *
  * The calls whose names begin with iset_open_disjoint do not check the store. They may be used if
  * three things hold. The store passed iset_disjoint_check once, or it is the map of no entries.
- * Since then nobody has written its two arrays but the calls of this header. The count and the root
- * passed in are those of the last answer, and so is the version. Then each returns, answers and
- * leaves exactly what the call does that has its name without `open_`, and the store still passes
- * the check. Its time grows with the height of the tree and not with the count. If the three things
- * do not hold, answers may be wrong. Even then every call ends, and none reads or writes outside
- * the arrays.
+ * Since then nobody has written its two arrays but the calls of this header, unloadings and
+ * renumberings. The count and the root passed in are those of the last answer, and so is the
+ * version. Then each returns, answers and leaves exactly what the call does that has its name
+ * without `open_`, and the store still passes the check. Its time grows with the height of the tree
+ * and not with the count. If the three things do not hold, answers may be wrong. Even then every
+ * call ends, and none reads or writes outside the arrays.
  *
  * Link libiset_disjoint.a beside libiset.a; `./archive` writes both:
  *

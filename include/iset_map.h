@@ -40,8 +40,8 @@ typedef struct iset_ticket {
     uint32_t version;
 } iset_ticket;
 
-/* The two lent arrays. Only builds, removals, insertions, unloadings and readings of an image write
- * them. */
+/* The two lent arrays. Only builds, removals, insertions, unloadings, renumberings and readings of an
+ * image write them. */
 typedef struct iset_memory {
     uint64_t *nodes;
     size_t nodes_len;
@@ -202,6 +202,8 @@ static inline iset_ticket iset_map_ticket(iset_map map, uint64_t slot) {
     { (map).count, (map).root, ISET_U, 0, (map).version }
 #define ISET_NOT_UNLOADED_(map) \
     { (map).count, (map).root, (map).version, 0 }
+#define ISET_NOT_RENUMBERED_(map) \
+    { (map).count, (map).root, (map).version }
 #define ISET_ENDED_ \
     { ISET_U, 0, 0 }
 #define ISET_NO_STEP_ \
@@ -314,6 +316,23 @@ static inline uint64_t iset_map_unload(iset_map *map, iset_memory memory, iset_r
     *map = iset_map_(
         answer[ISET_UNLOADED_COUNT], answer[ISET_UNLOADED_ROOT], answer[ISET_UNLOADED_VERSION]);
     *gone = answer[ISET_UNLOADED_GONE];
+    return no;
+}
+
+/* Writes a plan that numbers the slots in the order of the entries: see iset_propose. */
+static inline uint64_t iset_map_propose(iset_map map, iset_memory memory, uint64_t *out,
+    size_t out_len) {
+    return iset_propose(ISET_LENT_(map, memory), out, out_len);
+}
+
+/* Renumbers the slots by a plan, whose length is the count: see iset_renumber. */
+static inline uint64_t iset_map_renumber(iset_map *map, iset_memory memory,
+    const uint64_t *plan, size_t plan_len) {
+    uint64_t answer[ISET_RENUMBER_ANSWER] = ISET_NOT_RENUMBERED_(*map);
+    uint64_t no = iset_renumber(ISET_DATED_(*map, memory), plan, plan_len, answer,
+        ISET_RENUMBER_ANSWER);
+    *map = iset_map_(answer[ISET_RENUMBERED_COUNT], answer[ISET_RENUMBERED_ROOT],
+        answer[ISET_RENUMBERED_VERSION]);
     return no;
 }
 
@@ -476,6 +495,21 @@ static inline uint64_t iset_map_open_unload(iset_map *map, iset_memory memory, i
     *map = iset_map_(
         answer[ISET_UNLOADED_COUNT], answer[ISET_UNLOADED_ROOT], answer[ISET_UNLOADED_VERSION]);
     *gone = answer[ISET_UNLOADED_GONE];
+    return no;
+}
+
+static inline uint64_t iset_map_open_propose(iset_map map, iset_memory memory, uint64_t *out,
+    size_t out_len) {
+    return iset_open_propose(ISET_LENT_(map, memory), out, out_len);
+}
+
+static inline uint64_t iset_map_open_renumber(iset_map *map, iset_memory memory,
+    const uint64_t *plan, size_t plan_len) {
+    uint64_t answer[ISET_RENUMBER_ANSWER] = ISET_NOT_RENUMBERED_(*map);
+    uint64_t no = iset_open_renumber(ISET_DATED_(*map, memory), plan, plan_len, answer,
+        ISET_RENUMBER_ANSWER);
+    *map = iset_map_(answer[ISET_RENUMBERED_COUNT], answer[ISET_RENUMBERED_ROOT],
+        answer[ISET_RENUMBERED_VERSION]);
     return no;
 }
 
@@ -660,6 +694,7 @@ static inline uint64_t iset_map_open_disjoint_remove(iset_map *map, iset_memory 
 #undef ISET_NOT_REMOVED_
 #undef ISET_NOT_INSERTED_
 #undef ISET_NOT_UNLOADED_
+#undef ISET_NOT_RENUMBERED_
 #undef ISET_ENDED_
 #undef ISET_NO_STEP_
 #undef ISET_NO_HITS_

@@ -106,6 +106,18 @@ uint64_t iset_narrow_unload(uint64_t count, uint64_t root, uint32_t version, uin
     size_t nodes_len, uint8_t *colours, size_t colours_len, uint64_t lo_kind, uint64_t lo,
     uint64_t hi_kind, uint64_t hi, uint64_t *answer, size_t answer_len);
 
+/* As iset_propose.
+ * Refusals: NO_ROOM, BROKEN, SHORT_OUTPUT. */
+uint64_t iset_narrow_propose(uint64_t count, uint64_t root, const uint64_t *nodes,
+    size_t nodes_len, const uint8_t *colours, size_t colours_len, uint64_t *out, size_t out_len);
+
+/* As iset_renumber.
+ * Answer: count, root, version.
+ * Refusals: SHORT_ANSWER, NO_ROOM, BROKEN, BAD_PLAN. */
+uint64_t iset_narrow_renumber(uint64_t count, uint64_t root, uint32_t version, uint64_t *nodes,
+    size_t nodes_len, uint8_t *colours, size_t colours_len, const uint64_t *plan, size_t plan_len,
+    uint64_t *answer, size_t answer_len);
+
 /* As iset_read.
  * Answer: start, end, value.
  * Refusals: SHORT_ANSWER, NO_ROOM, BROKEN, STALE if `taken` is not the map's version, NO_SUCH. */
@@ -218,6 +230,17 @@ uint64_t iset_narrow_open_insert(uint64_t count, uint64_t root, uint32_t version
 uint64_t iset_narrow_open_unload(uint64_t count, uint64_t root, uint32_t version, uint64_t *nodes,
     size_t nodes_len, uint8_t *colours, size_t colours_len, uint64_t lo_kind, uint64_t lo,
     uint64_t hi_kind, uint64_t hi, uint64_t *answer, size_t answer_len);
+
+/* As iset_open_propose.
+ * Refusals: NO_ROOM, SHORT_OUTPUT. */
+uint64_t iset_narrow_open_propose(uint64_t count, uint64_t root, const uint64_t *nodes,
+    size_t nodes_len, const uint8_t *colours, size_t colours_len, uint64_t *out, size_t out_len);
+
+/* As iset_open_renumber.
+ * Refusals: SHORT_ANSWER, NO_ROOM, BAD_PLAN. */
+uint64_t iset_narrow_open_renumber(uint64_t count, uint64_t root, uint32_t version, uint64_t *nodes,
+    size_t nodes_len, uint8_t *colours, size_t colours_len, const uint64_t *plan, size_t plan_len,
+    uint64_t *answer, size_t answer_len);
 
 /* As iset_open_read.
  * Refusals: SHORT_ANSWER, NO_ROOM, STALE, NO_SUCH. */

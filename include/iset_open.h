@@ -12,7 +12,7 @@
  * The calls of iset.h check the whole store each time. These do not: the time of an insertion, a
  * removal and a step grows with the height of the tree, that of an unloading with the height for
  * each entry that goes, that of a drain and of iset_open_find_all with the nodes that they enter,
- * that of a plain lookup with the count. A step or a drain that continues from a cursor tests that
+ * that of a plain lookup, a plan and a renumbering with the count. A step or a drain that continues from a cursor tests that
  * cursor first, one link a level: to fetch many slots, ask for 64 at a time.
  *
  * Arguments, answers, refusals and their order are those of iset.h, except that these calls never
@@ -42,6 +42,16 @@ uint64_t iset_open_insert(uint64_t count, uint64_t root, uint32_t version, uint6
 uint64_t iset_open_unload(uint64_t count, uint64_t root, uint32_t version, uint64_t *nodes,
     size_t nodes_len, uint8_t *colours, size_t colours_len, uint64_t lo_kind, uint64_t lo,
     uint64_t hi_kind, uint64_t hi, uint64_t *answer, size_t answer_len);
+
+/* Refusals: NO_ROOM, SHORT_OUTPUT. */
+uint64_t iset_open_propose(uint64_t count, uint64_t root, const uint64_t *nodes, size_t nodes_len,
+    const uint8_t *colours, size_t colours_len, uint64_t *out, size_t out_len);
+
+/* It takes 8 KiB of stack, as iset_renumber does.
+ * Refusals: SHORT_ANSWER, NO_ROOM, BAD_PLAN. */
+uint64_t iset_open_renumber(uint64_t count, uint64_t root, uint32_t version, uint64_t *nodes,
+    size_t nodes_len, uint8_t *colours, size_t colours_len, const uint64_t *plan,
+    size_t plan_len, uint64_t *answer, size_t answer_len);
 
 /* Refusals: SHORT_ANSWER, NO_ROOM, STALE, NO_SUCH. */
 uint64_t iset_open_read(uint64_t count, uint64_t root, uint32_t version, const uint64_t *nodes,

@@ -149,6 +149,40 @@ static void unload(const char *name, uint64_t lo_kind, uint64_t lo, uint64_t hi_
     unload_in(name, lo_kind, lo, hi_kind, hi, ISET_UNLOAD_ANSWER);
 }
 
+// The plan goes to the output. A refused planner writes nothing.
+static void propose(const char *name) {
+    fill(now.out, PLACES);
+    begin(0);
+    uint64_t no = iset_propose(now.count, now.root, now.nodes, now.words, now.colours, now.bytes, now.out, now.places);
+    line(name, no, 0, no == 0 ? (size_t)now.count : 0, 0);
+    for (size_t i = 0; no == 0 && i < now.count; i++) printf(" %" PRIu64, now.out[i]);
+    printf("\n");
+}
+
+// A plan is the list. After it every entry is in the slot that the plan gives it, and the plan, which
+// `line` compares, is as it was.
+static void renumber_in(const char *name, const uint64_t *plan, size_t items, size_t room) {
+    memset(now.list, 0, sizeof now.list);
+    memcpy(now.list, plan, items * sizeof *plan);
+    begin(room);
+    uint64_t no = iset_renumber(now.count, now.root, now.version, now.nodes, now.words, now.colours, now.bytes, now.list, items, now.answer, room);
+    line(name, no, ISET_RENUMBER_ANSWER, 0, 1);
+    if (no == 0) {
+        now.count = now.answer[0];
+        now.root = now.answer[1];
+        now.version = (uint32_t)now.answer[2];
+        printf(" colours %d", now.colours[0]);
+        for (size_t i = 0; i < now.count; i++)
+            if (differ(now.nodes + 8 * plan[i], before.nodes + 8 * i, 0, 5)) printf(" ENTRY LOST");
+        if (differ(now.nodes, before.nodes, now.count * 8, WORDS)) printf(" NODES PAST CHANGED");
+    }
+    printf("\n");
+}
+
+static void renumber(const char *name, const uint64_t *plan, size_t items) {
+    renumber_in(name, plan, items, ISET_RENUMBER_ANSWER);
+}
+
 // Reading through a ticket.
 static void read_in(const char *name, uint64_t slot, uint32_t taken, size_t room) {
     begin(room);
@@ -381,6 +415,40 @@ static void refused_unloadings(void) {
     store_a(), ordered();
 }
 
+// Store A with its slots scattered: the entry of slot 0 was removed, and added again.
+static void scattered(void) {
+    store_a(), remove_slot("A remove 0", 0), insert("and insert it", 10, 20, 6);
+}
+
+static void tidied(void) {
+    static const uint64_t turned[5] = {4, 3, 2, 1, 0}, shifted[5] = {1, 2, 3, 4, 0}, still[5] = {0, 1, 2, 3, 4};
+    uint64_t plan[5];
+    scattered(), propose("propose"), read_slot("a ticket of before", 1, 3);
+    memcpy(plan, now.out, sizeof plan);
+    renumber("renumber", plan, 5), ordered(), read_slot("a ticket of before", 1, 3), read_slot("anew", 1, 4);
+    propose("propose again"), renumber("renumber by that", now.out, 5), ordered();
+    store_a(), renumber("A turned round", turned, 5), ordered(), propose("propose"), links("slot 2", 2);
+    store_a(), renumber("A shifted by one", shifted, 5), ordered(), propose("propose");
+    store_a(), renumber("A as it is", still, 5), ordered();
+    store_a(), now.version = UINT32_MAX, renumber("at the top", turned, 5), read_slot("round", 2, UINT32_MAX), read_slot("anew", 2, 0);
+    lend(40, 1), propose("no entries, propose"), now.places = 0, propose("no places"), renumber("no entries, renumber", plan, 0);
+    lend(24, 1), build("B build", LIST_B, 9), propose("B propose"), renumber("B renumber", shifted + 3, 0), renumber("B renumber", turned + 2, 3), ordered();
+}
+
+static void refused_plans(void) {
+    static const uint64_t good[6] = {4, 3, 2, 1, 0, 5}, twice[5] = {0, 1, 2, 2, 4}, high[5] = {0, 1, 2, 3, 5}, none[5] = {0, 1, ISET_U, 3, 4};
+    static const uint64_t far[5] = {0, (UINT64_C(1) << 32) + 1, 2, 3, 4}, top[5] = {UINT64_MAX, 1, 2, 3, 4}, same[5] = {0, 0, 0, 0, 0};
+    store_a(), renumber("a slot twice", twice, 5), renumber("a slot at the count", high, 5), renumber("U", none, 5), renumber("2^32 + 1", far, 5);
+    renumber("2^64 - 1", top, 5), renumber("all the same", same, 5), renumber("one short", good, 4), renumber("one long", good, 6), renumber("no plan", good, 0);
+    renumber_in("a short answer", good, 5, ISET_RENUMBER_ANSWER - 1), renumber_in("a short answer, a bad plan", twice, 5, 0);
+    now.places = 4, propose("4 places"), now.places = 5, propose("5 places");
+    now.root = 1, renumber("root 1, a bad plan", twice, 5), renumber("root 1", good, 5), now.places = 4, propose("root 1, 4 places");
+    now.count = 6, renumber("count 6, root 1, a bad plan", twice, 5), propose("count 6, root 1, 4 places");
+    store_a(), now.colours[0] = 13, renumber("a red root", good, 5), propose("a red root");
+    store_a(), now.words = 39, renumber("39 words", good, 5), propose("39 words");
+    store_a(), ordered();
+}
+
 static void looked_up(void) {
     struct query some = range(ISET_INCLUDED, 20, ISET_EXCLUDED, 25), all = range(ISET_UNBOUNDED, 0, ISET_UNBOUNDED, 0);
     store_a();
@@ -529,6 +597,8 @@ int main(void) {
     tickets();
     unloaded();
     refused_unloadings();
+    tidied();
+    refused_plans();
     looked_up();
     looked_up_plainly();
     found_all();

@@ -183,6 +183,32 @@ static void unload(void) {
     MAP(RAW).version = (uint32_t)ANSWER[2];
 }
 
+/* The planner's plan, or one that is too short or names a slot twice. */
+static void renumber(void) {
+    uint64_t none[] = {0, 0, 0}, plan[SLOTS + 1], many = MAP(RAW).count, places = any(5) ? SLOTS : any(10);
+    static const uint64_t nothing[] = {0};
+    empty(1, nothing);
+    replies[RAW].no = iset_propose(LENT, OUT(RAW), places);
+    put(&replies[PUBLIC], iset_map_propose(MAP(1), MEMORY(1), OUT(1), places), 1, nothing);
+    put(&replies[OPENED], iset_map_open_propose(MAP(2), MEMORY(2), OUT(2), places), 1, nothing);
+    equal("propose");
+    memcpy(plan, OUT(RAW), sizeof OUT(RAW));
+    if (many > 1 && any(4) == 0) plan[0] = plan[1];
+    if (any(6) == 0) many++, plan[many - 1] = many - 1;
+    none[0] = MAP(RAW).count, none[1] = MAP(RAW).root, none[2] = MAP(RAW).version;
+    empty(ISET_RENUMBER_ANSWER, none);
+    replies[RAW].no = iset_renumber(DATED, plan, many, ANSWER, ISET_RENUMBER_ANSWER);
+    for (int k = PUBLIC; k < COPIES; k++) {
+        uint64_t no = k == PUBLIC ? iset_map_renumber(&MAP(k), MEMORY(k), plan, many)
+                                  : iset_map_open_renumber(&MAP(k), MEMORY(k), plan, many);
+        uint64_t numbers[] = {MAP(k).count, MAP(k).root, MAP(k).version};
+        put(&replies[k], no, ISET_RENUMBER_ANSWER, numbers);
+    }
+    equal("renumber");
+    MAP(RAW).count = ANSWER[0], MAP(RAW).root = ANSWER[1];
+    MAP(RAW).version = (uint32_t)ANSWER[2];
+}
+
 static void put_step(int k, uint64_t no, const iset_stepped *s) {
     uint64_t numbers[] = {s->slot, PLACE(s->next), s->entered};
     put(&replies[k], no, ISET_STEP_ANSWER, numbers);
@@ -359,7 +385,7 @@ static void faces(void) {
     iset_stepped s;
     iset_drained d;
     iset_tally t;
-    uint64_t gone;
+    uint64_t gone, plan[] = {2, 0, 1};
     start();
     for (int k = PUBLIC; k < COPIES; k++) {
         if (iset_map_build(&MAP(k), MEMORY(k), list, 3) != ISET_OK) fail("build");
@@ -380,6 +406,8 @@ static void faces(void) {
     tell(iset_map_read(MAP(1), MEMORY(1), iset_map_ticket(MAP(1), 0), &entry));
     tell(iset_map_insert(&MAP(1), MEMORY(1), entry, &inserted));
     tell(iset_map_remove(&MAP(1), MEMORY(1), 0, &removed));
+    tell(iset_map_propose(MAP(1), MEMORY(1), OUT(1), SLOTS));
+    tell(iset_map_renumber(&MAP(1), MEMORY(1), plan, 3));
     tell(iset_map_unload(&MAP(1), MEMORY(1), all, &gone));
     printf(", opened:");
     tell(iset_map_open_step(MAP(2), MEMORY(2), all, c, &s));
@@ -395,6 +423,8 @@ static void faces(void) {
     tell(iset_map_open_read(MAP(2), MEMORY(2), iset_map_ticket(MAP(2), 0), &entry));
     tell(iset_map_open_insert(&MAP(2), MEMORY(2), entry, &inserted));
     tell(iset_map_open_remove(&MAP(2), MEMORY(2), 0, &removed));
+    tell(iset_map_open_propose(MAP(2), MEMORY(2), OUT(2), SLOTS));
+    tell(iset_map_open_renumber(&MAP(2), MEMORY(2), plan, 3));
     tell(iset_map_open_unload(&MAP(2), MEMORY(2), all, &gone));
     printf("\n");
 }
@@ -416,7 +446,8 @@ int main(void) {
         for (int k = 0; k < 80; k++) {
             if (any(5) < 3) insert();
             else if (any(5)) remove_one();
-            else unload();
+            else if (any(2)) unload();
+            else renumber();
             overlaps();
             exacts();
             at();

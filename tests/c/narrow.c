@@ -17,7 +17,7 @@
 #define GUARDS 8
 #define GUARD UINT64_C(0x6775617264)
 #define FULL ISET_MOST_ENTRIES
-#define EACH 48 // how many six-word calls there are
+#define EACH 52 // how many six-word calls there are
 
 static void fail(const char *what) {
     printf("narrow: %s\n", what);
@@ -189,6 +189,18 @@ static void unload(void) {
     empty_many(ANSWER[3]);
 }
 
+// A plan into an output of any length; a plan by chance, seldom one that is refused.
+static void renumber(void) {
+    uint64_t plan[MOST + 1], room = any(5) ? MOST : any(MOST), many = count;
+    EITHER(propose, MAP, here->out, room);
+    if (count > MOST) return;
+    for (uint64_t i = 0, j; i < count; i++) j = any(i + 1), plan[i] = plan[j], plan[j] = i;
+    if (any(6) == 0) many = any(2) ? count - (count > 0) : count + 1, plan[count] = any(count + 2);
+    if (count > 0 && any(6) == 0) plan[any(count)] = any(3) ? any(count + 1) : chance;
+    EITHER(renumber, VERSIONED, plan, many, TO, places(3));
+    change(0, 2);
+}
+
 static void build(void) {
     uint64_t list[3 * (MOST + 1)], at = 0, n = any(six_len / 6 + 2);
     for (uint64_t i = 0; i < n; i++) {
@@ -315,8 +327,9 @@ static void damage(void) {
 static void any_call(int apart) {
     if (apart && any(30)) disjoint_calls();
     else if (any(5) < 3) insert();
-    else if (any(5)) remove_one();
-    else unload();
+    else if (any(5) < 3) remove_one();
+    else if (any(2)) unload();
+    else renumber();
 }
 
 static void damaged_calls(int apart) {
@@ -539,6 +552,26 @@ static void full_changes(void) {
     if (memcmp(full_unpacked, full_six, 6 * FULL * sizeof *full_six)) fail("the packed words of the full map");
 }
 
+// The full map, renumbered by a plan of one long cycle, and by the planner's.
+static void full_plans(void) {
+    static uint64_t plan[FULL];
+    uint64_t a[3], b[3], root_of = 0;
+    for (uint64_t s = 0; s < FULL; s++)
+        if (full_six[6 * s + 5] >> 32 == 65535) root_of = s;
+    for (uint64_t s = 0; s < FULL; s++) plan[s] = (s + 1) % FULL;
+    for (int k = 0; k < 2; k++) {
+        if (iset_narrow_renumber(FULL, root_of, 0, full_six, 6 * FULL, full_colours[0], 8192, plan, FULL, a, 3) != ISET_OK ||
+            iset_renumber(FULL, root_of, 0, full_eight, 8 * FULL, full_colours[1], 8192, plan, FULL, b, 3) != ISET_OK || memcmp(a, b, sizeof a))
+            fail("a renumbering of the full map");
+        full_same("a renumbering of the full map, its words");
+        if (iset_narrow_check(a[0], a[1], full_six, 6 * FULL, full_colours[0], 8192) != ISET_OK) fail("the check of the renumbered map");
+        if (iset_narrow_propose(a[0], a[1], full_six, 6 * FULL, full_colours[0], 8192, plan, FULL) != ISET_OK) fail("a plan of the full map");
+        root_of = a[1];
+    }
+    for (uint64_t s = 0; s < FULL; s++)
+        if (plan[s] != s) fail("the tidied full map has something to move");
+}
+
 int main(void) {
     differences();
     for (int k = 0; k < 80; k++) chance_round(k % 4 == 0);
@@ -547,6 +580,7 @@ int main(void) {
     short_words();
     full_map();
     full_changes();
+    full_plans();
     if (names != EACH) printf("narrow: %d of %d calls were made\n", names, EACH), fail("a call was not made");
     printf("narrow: %d calls, %lu times as the eight-word ones; refused", names, calls);
     for (int no = 1; no < 103; no++)

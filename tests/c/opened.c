@@ -25,7 +25,7 @@ struct store {
 
 static struct store first, second, kept;
 static size_t words, bytes;
-static unsigned long calls, refusals, carried, drains, gone, damaged;
+static unsigned long calls, refusals, carried, drains, gone, moved, damaged;
 
 static void fail(const char *what) {
     printf("opened: %s\n", what);
@@ -190,6 +190,30 @@ static void unload(void) {
     if (iset_open_find_all(count, root, SECOND, lk, lo, hk, hi, opened_reply.out, 0, OPENED, 2) != 0 || OPENED[0] != 0) fail("a hit was left");
 }
 
+// The planner's proposal and a plan by chance, mostly one that is accepted. Afterwards the next plan
+// is that nothing moves, if the first was the planner's.
+static void renumber(void) {
+    static uint64_t plan[MOST + 1];
+    uint64_t room = any(6) ? MOST : any(MOST + 1), planned = 0, many = count;
+    BOTH("propose", iset_propose(count, root, FIRST, public_reply.out, room), iset_open_propose(count, root, SECOND, opened_reply.out, room));
+    unwritten(opened_reply.no != 0 ? 0 : count);
+    if (count > MOST) return;
+    if (opened_reply.no == 0 && any(2)) planned = 1, memcpy(plan, opened_reply.out, 8 * count);
+    else
+        for (uint64_t i = 0, j; i < count; i++) j = any(i + 1), plan[i] = plan[j], plan[j] = i;
+    if (any(6) == 0) planned = 0, many = any(2) ? count - (count > 0) : count + 1, plan[count] = any(count + 2);
+    if (count > 0 && any(6) == 0) planned = 0, plan[any(count)] = any(3) ? any(count + 1) : chance;
+    BOTH("renumber", iset_renumber(count, root, version, FIRST, plan, many, PUBLIC, 3), iset_open_renumber(count, root, version, SECOND, plan, many, OPENED, 3));
+    if (opened_reply.no != 0) return;
+    count = OPENED[0], root = OPENED[1], changed(OPENED[2]);
+    if (!compared) return;
+    moved++;
+    if (!planned) return;
+    BOTH("propose again", iset_propose(count, root, FIRST, public_reply.out, MOST), iset_open_propose(count, root, SECOND, opened_reply.out, MOST));
+    for (uint64_t i = 0; i < count; i++)
+        if (opened_reply.out[i] != i) fail("a tidied map has something to move");
+}
+
 static void exacts(void) {
     uint64_t start = any(600), end = start + any(30), places = any(PLACES + 1), limit = any(PLACES + 1), whole = any(6) ? MOST : places, c[3];
     if (count > 0 && count <= words / 8 && any(2)) {
@@ -224,6 +248,8 @@ static void short_answers(void) {
     BOTH("short remove", iset_remove(count, root, version, FIRST, slot, PUBLIC, 10), iset_open_remove(count, root, version, SECOND, slot, OPENED, 10));
     BOTH("short unload", iset_unload(count, root, version, FIRST, slot, 0, 2, 0, PUBLIC, 3),
         iset_open_unload(count, root, version, SECOND, slot, 0, 2, 0, OPENED, 3));
+    BOTH("short renumber", iset_renumber(count, root, version, FIRST, &slot, 1, PUBLIC, 2),
+        iset_open_renumber(count, root, version, SECOND, &slot, 1, OPENED, 2));
     BOTH("short read", iset_read(count, root, version, FIRST, slot, version, PUBLIC, 2), iset_open_read(count, root, version, SECOND, slot, version, OPENED, 2));
     BOTH("short fresh", iset_fresh_exact(count, root, FIRST, 3, slot, PUBLIC, 2), iset_open_fresh_exact(count, root, SECOND, 3, slot, OPENED, 2));
     BOTH("short step", iset_step(count, root, FIRST, slot, 0, 2, 0, root, 1, 0, PUBLIC, 4),
@@ -257,6 +283,7 @@ static void sound_round(void) {
         else remove_one();
         if (k % 4 == 0) look_up();
         if (k % 25 == 24) unload();
+        if (k % 25 == 12) renumber();
         if (k % 40 == 0) short_answers();
     }
     if (iset_check(count, root, SECOND) != ISET_OK) fail("the store does not pass the check at the end");
@@ -285,7 +312,8 @@ static void damaged_rounds(void) {
         for (int j = 0; j < 6; j++) {
             if (any(2)) insert();
             else if (any(3)) remove_one();
-            else unload();
+            else if (any(2)) unload();
+            else renumber();
             look_up();
             damaged++;
         }
@@ -298,6 +326,7 @@ int main(void) {
         damaged_rounds();
     }
     printf("opened: %lu calls as the public ones, %lu of them refused; %lu slots carried over a removal; "
-        "%lu fast lookups as drains; %lu entries unloaded; %lu changes of damaged stores\n", calls, refusals, carried, drains, gone, damaged);
+        "%lu fast lookups as drains; %lu entries unloaded; %lu renumberings; %lu changes of damaged stores\n",
+        calls, refusals, carried, drains, gone, moved, damaged);
     return 0;
 }

@@ -2,6 +2,7 @@
 // they take: on images up to the most entries, on one entry more, and on the image that the test of
 // the store follows as deep as it goes. Each line is the name of an image, then count, value and
 // refusal of an address and k. Whatever is not as it should be is printed at the line's end.
+// Then a renumbering of the most entries, and the same of a plan that is refused, on the same stack.
 #define _DEFAULT_SOURCE
 #include <inttypes.h>
 #include <signal.h>
@@ -20,7 +21,9 @@ static uint8_t colours[ISET_COLOURS_LEN(MOST)], image[ISET_IMAGE_LEN(MOST + 1)],
 static iset_entry list[MOST];
 static uint8_t stack[SIZE];
 static size_t len, taken;
-static uint64_t address, k, answers[3];
+static uint64_t address, k, answers[3], plan[MOST];
+static iset_map map;
+static int renumbers;
 
 static iset_memory memory(void) { return iset_memory_of(nodes, ISET_NODES_LEN(MOST), colours, ISET_COLOURS_LEN(MOST)); }
 
@@ -32,9 +35,13 @@ __attribute__((force_align_arg_pointer)) static void ask(int number) {
     size_t top = (size_t)((uintptr_t)&here - (uintptr_t)stack), end = top - 512, at = 0;
     (void)number;
     for (size_t i = 0; i < end; i++) lowest[i] = FILL;
-    answers[0] = iset_image_count(image, len, address);
-    answers[1] = iset_image_value(image, len, address, k);
-    answers[2] = iset_image_refusal(image, len, address, k);
+    if (renumbers) {
+        answers[0] = iset_map_renumber(&map, memory(), plan, MOST);
+    } else {
+        answers[0] = iset_image_count(image, len, address);
+        answers[1] = iset_image_value(image, len, address, k);
+        answers[2] = iset_image_refusal(image, len, address, k);
+    }
     while (at < end && lowest[at] == FILL) at++;
     taken = top - at;
 }
@@ -49,18 +56,27 @@ static void asked(const char *name, uint64_t an_address, uint64_t a_k) {
     printf("\n");
 }
 
-static void save(iset_map map) {
-    uint64_t no = iset_map_write_image(map, memory(), image, sizeof image, &len);
+// It takes the 8 KiB of its test at least.
+static void renumbered(const char *name) {
+    renumbers = 1, taken = 0;
+    raise(SIGUSR1);
+    printf("%s: %" PRIu64, name, answers[0]);
+    if (taken < 8192 || taken > ISET_RENUMBER_STACK) printf(" %zu BYTES OF STACK", taken);
+    printf("\n");
+}
+
+static void save(iset_map saved) {
+    uint64_t no = iset_map_write_image(saved, memory(), image, sizeof image, &len);
     if (no) printf("write: %" PRIu64 "\n", no);
 }
 
 // n entries from i to i + 10, for each i, so that ten hold an address.
 static iset_map build(size_t n) {
     for (size_t i = 0; i < n; i++) list[i] = (iset_entry){i, i + 10, i + 1000};
-    iset_map map = iset_map_none();
-    uint64_t no = iset_map_build(&map, memory(), list, n);
+    iset_map built = iset_map_none();
+    uint64_t no = iset_map_build(&built, memory(), list, n);
     if (no) printf("build: %" PRIu64 "\n", no);
-    return map;
+    return built;
 }
 
 static void put(size_t at, uint64_t number) {
@@ -82,15 +98,26 @@ static void chain(size_t n) {
     len = ISET_IMAGE_LEN(n);
 }
 
+// The same in node words: the check follows it as deep as it goes.
+static iset_map chained(size_t n) {
+    iset_map chain_map = {n, 0, 0};
+    for (size_t i = 0; i < n; i++) {
+        uint64_t node[ISET_NODE_WORDS] = {0, 1, 0, 0, 1, ISET_U, i + 1 < n ? i + 1 : ISET_U, i > 0 ? i - 1 : ISET_U};
+        memcpy(nodes + ISET_NODE_WORDS * i, node, sizeof node);
+    }
+    memset(colours, 0, sizeof colours);
+    return chain_map;
+}
+
 // Rising insertions make a tree that is about twice as high on one side.
 static iset_map insert(size_t n) {
-    iset_map map = iset_map_none();
+    iset_map grown = iset_map_none();
     iset_inserted inserted;
     for (size_t i = 0; i < n; i++) {
-        uint64_t no = iset_map_insert(&map, memory(), (iset_entry){i, i + 10, i + 1000}, &inserted);
+        uint64_t no = iset_map_insert(&grown, memory(), (iset_entry){i, i + 10, i + 1000}, &inserted);
         if (no) printf("insert: %" PRIu64 "\n", no);
     }
-    return map;
+    return grown;
 }
 
 int main(void) {
@@ -124,5 +151,12 @@ int main(void) {
     asked("65535 in a chain", 0, 0);
     chain(40);
     asked("40 in a chain", 0, 0);
+    map = build(MOST);
+    for (size_t i = 0; i < MOST; i++) plan[i] = MOST - 1 - i;
+    renumbered("65535 renumbered");
+    plan[0] = 0;
+    renumbered("a slot twice");
+    map = chained(MOST);
+    renumbered("65535 in a chain, renumbered");
     return 0;
 }

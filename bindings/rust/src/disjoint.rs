@@ -246,6 +246,17 @@ impl<'m> DisjointStore<'m> {
         Ok(self.lent.unload(&OPENED, rule, range)?.gone)
     }
 
+    /// Moves the entry of each slot s to slot `plan[s]`: as [`Store::renumber`](super::Store::renumber).
+    /// [`StoreRef::propose`] of [`DisjointStore::read`] makes a plan. What is left is disjoint too
+    /// (the theorem `renumber-keeps` of crate disjoint).
+    ///
+    /// # Errors
+    ///
+    /// [`Refusal::BadPlan`].
+    pub fn renumber(&mut self, plan: &[u64]) -> Result<(), Refusal> {
+        self.lent.renumber(&OPENED, plan)
+    }
+
     /// Gives the memory back, and returns the map in it.
     pub fn close(self) -> Map {
         self.lent.map

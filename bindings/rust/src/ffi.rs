@@ -191,6 +191,23 @@ pairs! {
         answer: *mut u64, answer_len: usize,
     );
 
+    /// Writes a plan that numbers the slots in order. There is no answer.
+    propose: iset_propose, iset_open_propose, iset_narrow_propose, iset_narrow_open_propose;
+    Propose: fn(
+        count: u64, root: u64,
+        nodes: *const u64, nodes_len: usize, colours: *const u8, colours_len: usize,
+        out: *mut u64, out_len: usize,
+    );
+
+    /// Moves each entry to the slot that a plan gives it. The answer has 3 numbers.
+    renumber: iset_renumber, iset_open_renumber, iset_narrow_renumber, iset_narrow_open_renumber;
+    Renumber: fn(
+        count: u64, root: u64, version: u32,
+        nodes: *mut u64, nodes_len: usize, colours: *mut u8, colours_len: usize,
+        plan: *const u64, plan_len: usize,
+        answer: *mut u64, answer_len: usize,
+    );
+
     /// Reads the entry of a slot, if the map still has version `taken`. The answer has 3 numbers.
     read: iset_read, iset_open_read, iset_narrow_read, iset_narrow_open_read;
     Read: fn(

@@ -193,6 +193,14 @@ impl LentMut<'_> {
             gone,
         })
     }
+
+    pub fn renumber(&mut self, calls: &Calls, plan: &[u64]) -> Result<(), Refusal> {
+        let (from, many) = (plan.as_ptr(), plan.len());
+        let mut answer = [0; 3];
+        // SAFETY: as in `build`; the plan is live too, and the call only reads it.
+        told(unsafe { call!(dated calls.renumber, self, as_mut_ptr; from, many; answer) })?;
+        self.replaced(answer)
+    }
 }
 
 impl Lent<'_> {
@@ -214,6 +222,12 @@ impl Lent<'_> {
         told(unsafe { call!(calls.disjoint_point, self, as_ptr; address; answer) })?;
         let [slot, entered] = answer;
         Ok(Spot { slot, entered })
+    }
+
+    /// Writes the place of each slot in order.
+    pub fn propose(self, calls: &Calls, out: &mut [u64]) -> Result<(), Refusal> {
+        // SAFETY: as in `begin`, with the output for the answer.
+        told(unsafe { call!(calls.propose, self, as_ptr;; out) })
     }
 
     /// The entry of a ticket.

@@ -13,8 +13,8 @@ pub struct Map {
     pub count: u64,
     /// The slot of the root, [`U`] if there are no entries.
     pub root: u64,
-    /// How often it was changed, modulo 2^32: each build, removal, insertion and reading of an image
-    /// that is not refused counts, and an unloading counts once for each entry that went.
+    /// How often it was changed, modulo 2^32: each build, removal, insertion, renumbering and reading
+    /// of an image that is not refused counts, and an unloading counts once for each entry that went.
     pub version: u32,
 }
 
@@ -214,6 +214,55 @@ impl Map {
         range: impl RangeBounds<u64>,
     ) -> Result<Unloaded, Refusal> {
         self.over_mut(nodes, colours).unload(&PUBLIC, rule, range)
+    }
+
+    /// Proposes a plan that numbers the slots in order: `out[slot]` becomes the place of that slot's
+    /// entry, counted from 0. The plan is the first `count` places; those past it are unchanged.
+    /// Nothing moves: [`Map::renumber`] takes the plan.
+    ///
+    #[cfg_attr(iset_linked, doc = "```")]
+    #[cfg_attr(not(iset_linked), doc = "```no_run")]
+    #[doc = using!("{Map, Refusal, NODE_WORDS}")]
+    ///
+    /// # fn main() -> Result<(), Refusal> {
+    /// let (mut nodes, mut colours, mut out) = ([0; 3 * NODE_WORDS], [0; 1], [7; 3]);
+    /// let late = Map::new().insert(&mut nodes, &mut colours, 25, 40, 3)?.map;
+    /// let map = late.insert(&mut nodes, &mut colours, 10, 20, 1)?.map;
+    /// map.propose(&nodes, &colours, &mut out)?;
+    /// assert_eq!(out, [1, 0, 7]);
+    ///
+    /// let tidy = map.renumber(&mut nodes, &mut colours, &out[..2])?;
+    /// tidy.propose(&nodes, &colours, &mut out)?;
+    /// assert_eq!((tidy.version, out), (3, [0, 1, 7]));
+    /// # Ok(())
+    /// # }
+    /// ```
+    ///
+    /// # Errors
+    ///
+    /// [`Refusal::NoRoom`], [`Refusal::Broken`], [`Refusal::ShortOutput`] if `out` has fewer places
+    /// than the count.
+    pub fn propose(self, nodes: &[u64], colours: &[u8], out: &mut [u64]) -> Result<(), Refusal> {
+        self.over(nodes, colours).propose(&PUBLIC, out)
+    }
+
+    /// Moves the entry of each slot s to slot `plan[s]`, with its colour and its links. The plan is
+    /// that of [`Map::propose`] or any other: it has `count` numbers, and each slot below the count is
+    /// one of them. The entries keep their order. The new map has the next version, also if nothing
+    /// moved. The call takes up to 24 KiB of stack.
+    ///
+    /// # Errors
+    ///
+    /// [`Refusal::NoRoom`], [`Refusal::Broken`], [`Refusal::BadPlan`].
+    pub fn renumber(
+        self,
+        nodes: &mut [u64],
+        colours: &mut [u8],
+        plan: &[u64],
+    ) -> Result<Map, Refusal> {
+        let mut lent = self.over_mut(nodes, colours);
+        lent.renumber(&PUBLIC, plan)?;
+        Ok(lent.map)
     }
 
     /// Where an overlap lookup begins. The map is tested when the cursor is used.

@@ -34,8 +34,9 @@ pub enum Refusal {
     BadCursor,
     /// The length of the list to build is not a multiple of 3.
     BadList,
-    /// The drain's limit is above the output's length, a plain lookup's output has fewer places
-    /// than there are entries, an image is longer than the output, or a buffer for hits is empty.
+    /// The drain's limit is above the output's length, the output of a plain lookup or of a plan has
+    /// fewer places than there are entries, an image is longer than the output, or a buffer for hits
+    /// is empty.
     ShortOutput,
     /// Of bit vectors and stacks. None of these calls returns it.
     BadBit,
@@ -47,7 +48,7 @@ pub enum Refusal {
     Overlap,
     /// Two entries intersect: see [`DisjointMap`](crate::DisjointMap).
     NotDisjoint,
-    /// A plan does not name each slot once. None of these calls returns it yet.
+    /// The plan of a renumbering does not name each slot below the count once.
     BadPlan,
     /// The answer slice has fewer places than the answer has numbers. This crate never passes such
     /// a slice.

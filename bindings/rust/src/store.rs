@@ -92,6 +92,15 @@ impl<'m> StoreRef<'m> {
         self.lent.write_image(&OPENED, out)
     }
 
+    /// Writes a plan that numbers the slots in order: as [`Map::propose`].
+    ///
+    /// # Errors
+    ///
+    /// [`Refusal::ShortOutput`].
+    pub fn propose(self, out: &mut [u64]) -> Result<(), Refusal> {
+        self.lent.propose(&OPENED, out)
+    }
+
     /// All entries in order: by start, then end, equal ones in the order in which they were added.
     #[inline]
     pub fn entries(self) -> Entries<'m, MANY> {
@@ -445,6 +454,25 @@ impl<'m> Store<'m> {
     /// [`Refusal::BadRange`].
     pub fn unload(&mut self, rule: Rule, range: impl RangeBounds<u64>) -> Result<u64, Refusal> {
         Ok(self.lent.unload(&OPENED, rule, range)?.gone)
+    }
+
+    /// Writes a plan that numbers the slots in order: as [`Map::propose`].
+    ///
+    /// # Errors
+    ///
+    /// [`Refusal::ShortOutput`].
+    pub fn propose(&self, out: &mut [u64]) -> Result<(), Refusal> {
+        self.read().propose(out)
+    }
+
+    /// Moves the entry of each slot s to slot `plan[s]`: as [`Map::renumber`]. Tickets of before are
+    /// stale, also if nothing moved. If it is refused, the store is unchanged.
+    ///
+    /// # Errors
+    ///
+    /// [`Refusal::BadPlan`].
+    pub fn renumber(&mut self, plan: &[u64]) -> Result<(), Refusal> {
+        self.lent.renumber(&OPENED, plan)
     }
 
     /// Gives the memory back, and returns the map in it.

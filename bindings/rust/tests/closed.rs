@@ -18,7 +18,8 @@ macro_rules! refusing {
 }
 
 refusing! {
-    77: iset_build iset_remove iset_insert iset_unload iset_unload_ruled iset_read iset_fresh_exact iset_step iset_step_exact iset_drain
+    77: iset_build iset_remove iset_insert iset_unload iset_unload_ruled iset_propose
+    iset_renumber iset_read iset_fresh_exact iset_step iset_step_exact iset_drain
     iset_drain_exact iset_plain iset_plain_exact iset_find_all iset_find_all_exact iset_write_image
     iset_read_image iset_image_count iset_image_value iset_image_refusal iset_step_ruled iset_drain_ruled
     iset_plain_ruled iset_find_all_ruled iset_disjoint_check iset_disjoint_point iset_disjoint_insert
@@ -26,7 +27,8 @@ refusing! {
 }
 
 refusing! {
-    78: iset_open_remove iset_open_insert iset_open_unload iset_open_unload_ruled iset_open_read iset_open_fresh_exact iset_open_step
+    78: iset_open_remove iset_open_insert iset_open_unload iset_open_unload_ruled
+    iset_open_propose iset_open_renumber iset_open_read iset_open_fresh_exact iset_open_step
     iset_open_step_exact iset_open_drain iset_open_drain_exact iset_open_plain iset_open_plain_exact
     iset_open_find_all iset_open_find_all_exact iset_open_write_image iset_open_step_ruled
     iset_open_drain_ruled iset_open_plain_ruled iset_open_find_all_ruled iset_open_disjoint_point
@@ -35,7 +37,7 @@ refusing! {
 
 refusing! {
     87: iset_narrow_build iset_narrow_remove iset_narrow_insert iset_narrow_unload
-    iset_narrow_unload_ruled iset_narrow_read iset_narrow_fresh_exact
+    iset_narrow_unload_ruled iset_narrow_propose iset_narrow_renumber iset_narrow_read iset_narrow_fresh_exact
     iset_narrow_step iset_narrow_step_exact iset_narrow_drain iset_narrow_drain_exact iset_narrow_plain
     iset_narrow_plain_exact iset_narrow_find_all iset_narrow_find_all_exact iset_narrow_write_image
     iset_narrow_read_image iset_narrow_step_ruled iset_narrow_drain_ruled iset_narrow_plain_ruled
@@ -45,7 +47,8 @@ refusing! {
 
 refusing! {
     88: iset_narrow_open_remove iset_narrow_open_insert iset_narrow_open_unload
-    iset_narrow_open_unload_ruled iset_narrow_open_read
+    iset_narrow_open_unload_ruled iset_narrow_open_propose iset_narrow_open_renumber
+    iset_narrow_open_read
     iset_narrow_open_fresh_exact iset_narrow_open_step iset_narrow_open_step_exact
     iset_narrow_open_drain iset_narrow_open_drain_exact iset_narrow_open_plain
     iset_narrow_open_plain_exact iset_narrow_open_find_all iset_narrow_open_find_all_exact
@@ -119,6 +122,8 @@ macro_rules! layout {
                     let unloaded = map.unload(&mut nodes, &mut colours, rule, 1..2);
                     assert_eq!(unloaded.err(), PUBLIC);
                 }
+                assert_eq!(map.propose(&nodes, &colours, &mut out).err(), PUBLIC);
+                assert_eq!(map.renumber(&mut nodes, &mut colours, &[0]).err(), PUBLIC);
                 assert_eq!(map.fresh_exact(&nodes, &colours, 1, 2).err(), PUBLIC);
                 assert_eq!(map.begin(&nodes, &colours, QUERIES[1]).err(), PUBLIC);
                 for query in QUERIES {
@@ -155,6 +160,8 @@ macro_rules! layout {
                 assert_eq!(store.remove(0).err(), OPENED);
                 assert_eq!(store.unload(Rule::Any, 1..2).err(), OPENED);
                 assert_eq!(store.unload(Rule::Whole, 1..2).err(), OPENED);
+                assert_eq!(store.propose(&mut out).err(), OPENED);
+                assert_eq!(store.renumber(&[]).err(), OPENED);
                 assert_eq!(store.rebuild(&[]).err(), PUBLIC);
                 assert_eq!(store.read_ticket(store.ticket(0)).err(), OPENED);
                 assert_eq!(store.write_image(&mut [0; 44]).err(), OPENED);
@@ -189,6 +196,7 @@ macro_rules! layout {
                 assert_eq!((Some(not.why), not.slot), (OPENED, U));
                 assert_eq!(store.remove(0).err(), OPENED);
                 assert_eq!(store.unload(Rule::Any, 1..2).err(), OPENED);
+                assert_eq!(store.renumber(&[]).err(), OPENED);
                 assert!(catch_unwind(AssertUnwindSafe(|| store.at(1))).is_err());
             }
         }

@@ -79,6 +79,26 @@ fn unload(store: &mut DisjointStore, list: &mut Vec<(u64, u64)>, chance: &mut Ch
     assert_eq!(left, found);
 }
 
+/// Tidies the store: slot i is then the i-th range.
+fn tidy(store: &mut DisjointStore, list: &mut [(u64, u64)]) {
+    let mut plan = [0; SLOTS];
+    store.read().propose(&mut plan).unwrap();
+    assert_eq!(store.renumber(&plan), list_is_full(list));
+    if list.len() < SLOTS {
+        store.renumber(&plan[..list.len()]).unwrap();
+    }
+    list.sort();
+    for (slot, range) in list.iter().enumerate() {
+        let entry = store.get(slot as u64).unwrap();
+        assert_eq!((entry.range.start, entry.range.end), *range);
+    }
+}
+
+/// What a plan of as many places as there are slots comes to.
+fn list_is_full(list: &[(u64, u64)]) -> Result<(), Refusal> {
+    (list.len() == SLOTS).then_some(()).ok_or(Refusal::BadPlan)
+}
+
 #[test]
 fn by_chance() {
     let mut chance = Chance(88172645463325252);
@@ -90,6 +110,7 @@ fn by_chance() {
             match chance.below(30) {
                 0..=8 => remove(&mut store, &mut list, &mut chance),
                 9 => unload(&mut store, &mut list, &mut chance),
+                10 => tidy(&mut store, &mut list),
                 _ => insert(&mut store, &mut list, &mut chance),
             }
             assert_eq!(store.len(), list.len());

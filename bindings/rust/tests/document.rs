@@ -296,6 +296,89 @@ fn refused_unloadings() {
     assert_eq!(refused(a.map, Rule::Any, top), None);
 }
 
+/// The planner writes places in tree order, and its plan is accepted; then nothing is left to move.
+#[test]
+fn tidied() {
+    let mut a = Store::of(&LIST_A);
+    a.map = a.map.remove(&mut a.nodes, &mut a.colours, 0).unwrap().map;
+    a.insert([10, 20, 6]);
+    a.map.version = u32::MAX;
+    let (ticket, before) = (a.map.ticket(1), a.all(Query::overlap(..), 3).unwrap());
+    let mut out = [7; 7];
+    assert_eq!(a.map.propose(&a.nodes, &a.colours, &mut out), Ok(()));
+    for (place, &slot) in before.iter().enumerate() {
+        assert_eq!(out[slot as usize], place as u64);
+    }
+    assert_eq!(out[5..], [7; 2]);
+    assert!(read(&a, ticket).is_ok());
+    let (plan, values) = (out, values(&a));
+    let moved = a.map.renumber(&mut a.nodes, &mut a.colours, &out[..5]);
+    assert_eq!((moved.unwrap().count, moved.unwrap().version), (5, 0));
+    assert_eq!(
+        (moved.unwrap().root, out),
+        (plan[a.map.root as usize], plan)
+    );
+    a.map = moved.unwrap();
+    assert_eq!(a.map.check(&a.nodes, &a.colours), Ok(()));
+    assert_eq!(a.all(Query::overlap(..), 3), Ok(vec![0, 1, 2, 3, 4]));
+    assert_eq!(self::values(&a), values);
+    assert_eq!(read(&a, ticket), Err(Refusal::Stale));
+    assert_eq!(a.map.propose(&a.nodes, &a.colours, &mut out), Ok(()));
+    assert_eq!(out, [0, 1, 2, 3, 4, 7, 7]);
+    // a plan that moves nothing is a change too
+    let (nodes, colours) = (a.nodes, a.colours);
+    let same = a.map.renumber(&mut a.nodes, &mut a.colours, &out[..5]);
+    assert_eq!(same, Ok(map(5, a.map.root, 1)));
+    assert_eq!((a.nodes, a.colours), (nodes, colours));
+}
+
+/// The values of all entries in order.
+fn values(store: &Store) -> Vec<u64> {
+    let slots = store.all(Query::overlap(..), 3).unwrap();
+    let value = |slot: &u64| store.nodes[*slot as usize * 8 + 2];
+    slots.iter().map(value).collect()
+}
+
+/// The refusals in their order, and nothing changes.
+#[test]
+fn refused_plans() {
+    let mut a = Store::of(&LIST_A);
+    let (nodes, colours, good, broken) = (a.nodes, a.colours, a.map, map(5, 1, 1));
+    let mut out = [7; 4];
+    for (map, why) in [
+        (good, Refusal::ShortOutput),
+        (broken, Refusal::Broken),
+        (map(6, 2, 1), Refusal::NoRoom),
+    ] {
+        assert_eq!(map.propose(&nodes, &colours, &mut out), Err(why));
+    }
+    assert_eq!(out, [7; 4]);
+    let plans: [&[u64]; 9] = [
+        &[],
+        &[0, 1, 2, 3],
+        &[0, 1, 2, 3, 4, 5],
+        &[0, 1, 2, 3, 4, 4],
+        &[0, 1, 2, 3, 3],
+        &[0, 1, 2, 3, 5],
+        &[0, 1, 2, 3, U],
+        &[0, 1, 2, 3, (1 << 32) + 4],
+        &[u64::MAX, 1, 2, 3, 4],
+    ];
+    for plan in plans {
+        for (map, why) in [
+            (good, Refusal::BadPlan),
+            (broken, Refusal::Broken),
+            (map(6, 2, 1), Refusal::NoRoom),
+        ] {
+            let refused = map.renumber(&mut a.nodes, &mut a.colours, plan);
+            assert_eq!((refused, a.nodes, a.colours), (Err(why), nodes, colours));
+        }
+    }
+    // the map of no entries: the plan is empty, and the version rises
+    let none = Map::new().renumber(&mut a.nodes, &mut a.colours, &[]);
+    assert_eq!((none, a.nodes), (Ok(map(0, U, 1)), nodes));
+}
+
 #[test]
 fn stepped() {
     let a = Store::of(&LIST_A);

@@ -44,6 +44,20 @@ impl Chance {
         ([Rule::Any, Rule::Whole][self.below(2) as usize], range)
     }
 
+    /// A plan for so many slots, seldom one that is refused.
+    fn plan(&mut self, count: u64) -> Vec<u64> {
+        let mut plan: Vec<u64> = (0..count).collect();
+        for i in (1..plan.len()).rev() {
+            plan.swap(i, self.below(i as u64 + 1) as usize);
+        }
+        match self.below(8) {
+            0 => plan.push(count),
+            1 if count > 0 => plan[self.below(count) as usize] = self.below(count + 1),
+            _ => {}
+        }
+        plan
+    }
+
     fn query(&mut self) -> Query {
         let (lo, hi) = (self.bound(), self.bound());
         match self.below(4) {
@@ -221,6 +235,23 @@ impl Both {
         self.same();
     }
 
+    /// A plan into so many places.
+    fn propose(&self, places: usize) {
+        let (mut out, mut other) = (vec![7; places], vec![7; places]);
+        let eight = (self.eight).propose(&self.nodes, &self.colours, &mut out);
+        let six = (self.six).propose(&self.narrow, &self.bits, &mut other);
+        assert_eq!((six, other), (eight, out));
+    }
+
+    fn renumber(&mut self, plan: &[u64]) {
+        let six = (self.six).renumber(&mut self.narrow, &mut self.bits, plan);
+        let eight = (self.eight).renumber(&mut self.nodes, &mut self.colours, plan);
+        assert_eq!(six.map(wide), eight);
+        self.six = six.unwrap_or(self.six);
+        self.eight = eight.unwrap_or(self.eight);
+        self.same();
+    }
+
     fn place(&mut self, start: u64, end: u64, value: u64) {
         let (six, eight) = self.disjoint();
         let six = six.insert(&mut self.narrow, &mut self.bits, start, end, value);
@@ -355,7 +386,12 @@ impl Both {
     fn change(&mut self, chance: &mut Chance) {
         let slot = chance.below(self.eight.count + 1);
         let (start, end) = chance.interval();
-        match chance.below(13) {
+        match chance.below(14) {
+            13 => {
+                self.propose(chance.below(SLOTS as u64 + 2) as usize);
+                let plan = chance.plan(self.eight.count);
+                self.renumber(&plan);
+            }
             12 => {
                 let (rule, range) = chance.window();
                 self.unload(rule, range);
@@ -517,6 +553,8 @@ fn readers(six: narrow::StoreRef, eight: StoreRef, chance: &mut Chance) {
         eight.find_all(query, &mut other),
     );
     assert_eq!((found.0, &out), (found.1, &other));
+    let plans = (six.propose(&mut out), eight.propose(&mut other));
+    assert_eq!((plans.0, &out), (plans.1, &other));
     let hits = (six.hits(query, &mut out), eight.hits(query, &mut other));
     assert_eq!(hits.0.map(Vec::from_iter), hits.1.map(Vec::from_iter));
     let (mut saved, mut others) = ([0; image_len(SLOTS)], [0; image_len(SLOTS)]);
@@ -536,7 +574,11 @@ fn stores() {
         for _ in 0..8 {
             let (slot, value) = (chance.below(SLOTS as u64), chance.below(u64::MAX));
             let (start, end) = chance.interval();
-            match chance.below(10) {
+            match chance.below(11) {
+                10 => {
+                    let plan = chance.plan(eight.len() as u64);
+                    assert_eq!(six.renumber(&plan), eight.renumber(&plan));
+                }
                 9 => {
                     let (rule, range) = chance.window();
                     assert_eq!(six.unload(rule, range), eight.unload(rule, range));
@@ -585,6 +627,9 @@ fn disjoint_stores() {
             } else if chance.below(12) == 0 {
                 let (rule, range) = chance.window();
                 assert_eq!(six.unload(rule, range), eight.unload(rule, range));
+            } else if chance.below(12) == 0 {
+                let plan = chance.plan(eight.len() as u64);
+                assert_eq!(six.renumber(&plan), eight.renumber(&plan));
             } else {
                 let placed = six.insert(start..end, value);
                 assert_eq!(placed, eight.insert(start..end, value));

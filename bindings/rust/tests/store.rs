@@ -167,6 +167,37 @@ fn unload(store: &mut Store, plain: &mut Plain, chance: &mut Chance) {
     }
 }
 
+/// Renumbers by the planner's proposal, or by chance: the entries keep their order, and each is in
+/// the slot that the plan gave it.
+fn renumber(store: &mut Store, plain: &mut Plain, chance: &mut Chance) {
+    let count = store.len();
+    let mut plan = [U; SLOTS];
+    assert_eq!(store.propose(&mut plan), Ok(()));
+    assert!(plan[count..].iter().all(|&place| place == U));
+    if count > 0 {
+        let short = store.propose(&mut [0; SLOTS][..count - 1]);
+        assert_eq!(short, Err(Refusal::ShortOutput));
+    }
+    for (place, entry) in plain.0.iter().enumerate() {
+        assert_eq!(plan[entry.3 as usize], place as u64);
+    }
+    if chance.below(2) == 0 {
+        for i in (1..count).rev() {
+            plan.swap(i, chance.below(i as u64 + 1) as usize);
+        }
+    }
+    if count > 1 {
+        let kept = plan[0];
+        plan[0] = plan[1];
+        assert_eq!(store.renumber(&plan[..count]), Err(Refusal::BadPlan));
+        plan[0] = kept;
+    }
+    assert_eq!(store.renumber(&plan[..count]), Ok(()));
+    for entry in &mut plain.0 {
+        entry.3 = plan[entry.3 as usize];
+    }
+}
+
 #[test]
 fn as_a_plain_list() {
     let mut chance = Chance(88172645463325252);
@@ -182,6 +213,9 @@ fn as_a_plain_list() {
         }
         if k % 20 == 19 {
             unload(&mut store, &mut plain, &mut chance);
+        }
+        if k % 20 == 9 {
+            renumber(&mut store, &mut plain, &mut chance);
         }
         assert_eq!(
             (store.len(), store.is_empty()),
@@ -231,17 +265,19 @@ fn opened_and_built() {
     assert_eq!(store.get(1), Some(second));
 }
 
-/// A ticket holds until the next change: a removal, an insertion, an unloading of an entry or a build.
+/// A ticket holds until the next change: a removal, an insertion, an unloading of an entry, a
+/// renumbering or a build.
 #[test]
 fn tickets() {
     let (mut nodes, mut colours) = ([0; 32], [0; 1]);
     let list = [[5, 9, 1], [6, 9, 2], [7, 9, 3]];
     let mut store = Store::build(&mut nodes, &mut colours, &list).unwrap();
     type Change = fn(&mut Store) -> Result<u64, Refusal>;
-    let changes: [Change; 4] = [
+    let changes: [Change; 5] = [
         |store| store.insert(8..9, 4),
         |store| store.remove(0).map(|removed| removed.value),
         |store| store.unload(Rule::Any, 6..7),
+        |store| store.renumber(&[0, 1]).map(|()| 0),
         |store| store.rebuild(&[[1, 2, 7], [3, 4, 8]]).map(|()| 0),
     ];
     for change in changes {
@@ -256,12 +292,13 @@ fn tickets() {
         );
         assert_eq!(store.unload(Rule::Any, 9..), Ok(0));
         assert_eq!(store.unload(Rule::Whole, 9..9), Err(Refusal::BadRange));
+        assert_eq!(store.renumber(&[0, 0]), Err(Refusal::BadPlan));
         assert!(store.read_ticket(ticket).is_ok());
         change(&mut store).unwrap();
         assert_eq!(store.read_ticket(ticket), Err(Refusal::Stale));
         assert_eq!(store.read_ticket(store.ticket(9)), Err(Refusal::NoSuch));
     }
-    assert_eq!((store.len(), store.close().version), (2, 5));
+    assert_eq!((store.len(), store.close().version), (2, 6));
 }
 
 #[test]

@@ -5,7 +5,7 @@ use contract.Lifetimes.{Lfts}
 use borrow.Fn.Kinds as K
 use denote.Triple.Clauses.{AtExit}
 use denote.Ref.{now}
-use Rattle.iset_c.proofs.Exits.{same-answer, same-effect, same-effect-in, same-output}
+use Rattle.iset_c.proofs.Exits.{same-answer, same-effect, same-effect-in, same-output, same-number}
 use Rattle.iset_c.proofs.exports.iset_check.Reads as check-reads
 use Rattle.iset_c.proofs.exports.iset_check.Kinds as check-kinds
 use Rattle.iset_c.proofs.exports.iset_build.Reads as build-reads
@@ -16,6 +16,10 @@ use Rattle.iset_c.proofs.exports.iset_insert.Reads as insert-reads
 use Rattle.iset_c.proofs.exports.iset_insert.Kinds as insert-kinds
 use Rattle.iset_c.proofs.exports.iset_unload.Reads as unload-reads
 use Rattle.iset_c.proofs.exports.iset_unload.Kinds as unload-kinds
+use Rattle.iset_c.proofs.exports.iset_propose.Reads as propose-reads
+use Rattle.iset_c.proofs.exports.iset_propose.Kinds as propose-kinds
+use Rattle.iset_c.proofs.exports.iset_renumber.Reads as renumber-reads
+use Rattle.iset_c.proofs.exports.iset_renumber.Kinds as renumber-kinds
 use Rattle.iset_c.proofs.iset_slot_after.Reads as slot-after-reads
 use Rattle.iset_c.proofs.iset_slot_after.Kinds as slot-after-kinds
 use Rattle.iset_c.proofs.exports.iset_read.Reads as read-reads
@@ -104,6 +108,24 @@ pub unload-determined :
     × (now (s .1 .1 .1 .0) ≡ now (s′ .1 .1 .1 .0))
     × (now (s .1 .1 .1 .1 .0) ≡ now (s′ .1 .1 .1 .1 .0))
 unload-determined κs a r r′ s s′ p q = same-effect p q
+
+pub propose-determined :
+    (κs : Lfts 3) (a : K.Dens κs propose-kinds.ps) (r r′ : K.resT propose-kinds.r κs .Denot)
+    (s s′ : AtExit (K.endedOf 3 propose-kinds.ps propose-kinds.r) κs)
+    → propose-reads.Post κs a r s → propose-reads.Post κs a r′ s′
+    → (r ≡ r′)
+    × (now (s .1 .1 .1 .1 .0) ≡ now (s′ .1 .1 .1 .1 .0))
+propose-determined κs a r r′ s s′ p q = same-number p q
+
+pub renumber-determined :
+    (κs : Lfts 4) (a : K.Dens κs renumber-kinds.ps) (r r′ : K.resT renumber-kinds.r κs .Denot)
+    (s s′ : AtExit (K.endedOf 4 renumber-kinds.ps renumber-kinds.r) κs)
+    → renumber-reads.Post κs a r s → renumber-reads.Post κs a r′ s′
+    → (r ≡ r′)
+    × (now (s .1 .1 .1 .1 .1 .1 .0) ≡ now (s′ .1 .1 .1 .1 .1 .1 .0))
+    × (now (s .1 .1 .1 .0) ≡ now (s′ .1 .1 .1 .0))
+    × (now (s .1 .1 .1 .1 .0) ≡ now (s′ .1 .1 .1 .1 .0))
+renumber-determined κs a r r′ s s′ p q = same-effect p q
 
 pub read-determined :
     (κs : Lfts 3) (a : K.Dens κs read-kinds.ps) (r r′ : K.resT read-kinds.r κs .Denot)

@@ -5,6 +5,7 @@ use mathlib.Core.List.{List, [], _∷_}
 use Prim.Native.Nat.{ℕ}
 use Rattle.words.specs.Layouts.{asEight}
 use Rattle.words.proofs.Layouts.{eight-injective}
+use Rattle.iset.specs.Effects.{Output, output}
 use Rattle.iset_c.specs.Replies.{Exit, exit}
 
 abbrev front : List (List ℕ) → List ℕ
@@ -41,3 +42,9 @@ module _ {n k : ℕ} {A B : List ℕ} {x : Exit} where
   same-output {X = X} {Y = Y} p q =
       let e : exit n A (X ∷ []) ≡ exit k B (Y ∷ []) = p ∙ sym q in
       (ap (λ (y : Exit). y .number) e, ap (λ (y : Exit). y .answer) e, ap (λ (y : Exit). front (y .slices)) e)
+
+-- of a call that writes an output and has no answer but its number
+pub same-number : {n k : ℕ} {X Y : List ℕ} {x : Output ℕ} → output n X ≡ x → output k Y ≡ x → (n ≡ k) × (X ≡ Y)
+same-number {n = n} {k = k} {X = X} {Y = Y} p q =
+    let e : output n X ≡ output k Y = p ∙ sym q in
+    (ap (λ (y : Output ℕ). y .answer) e, ap (λ (y : Output ℕ). y .output) e)

@@ -17,12 +17,13 @@ use Rattle.iset.specs.Build.{buildNumber, buildList, buildCall}
 use Rattle.iset.specs.Remove.{removeNumber, removeSlot, removeCall}
 use Rattle.iset.specs.Insert.{insertNumber, insertEntry, insertCall}
 use Rattle.iset.specs.Unload.{unloadNumber, unloadRange, unloadCall}
+use Rattle.iset.specs.Tidy.{renumberNumber, renumberPlan, renumberCall}
 use Rattle.iset.specs.Lookup.{startNumber, drainNumber, drainCall}
 use Rattle.iset.specs.Plain.{plainNumber, plainCall}
 use Rattle.iset.specs.Find.{findAllCall}
 use Rattle.iset.specs.Image.{writeImageNumber, writeImageCall, readImageNumber, readStore, readImageCall}
 use Rattle.iset.specs.declared.Map.{Map}
-use Rattle.iset_c.specs.Replies.{Reply, Exit, exit, number, handed, left, exitOf, effectExit, rangedEffectExit, outputExit, buildReply, removeReply, insertReply, unloadReply, writeReply, drainReply, tallyReply, buildExit, removeExit, insertExit, unloadExit, drainExit, plainExit, findAllExit, writeImageExit, readImageExit}
+use Rattle.iset_c.specs.Replies.{Reply, Exit, exit, number, handed, left, exitOf, effectExit, rangedEffectExit, outputExit, buildReply, removeReply, insertReply, unloadReply, renumberReply, writeReply, drainReply, tallyReply, buildExit, removeExit, insertExit, unloadExit, renumberExit, drainExit, plainExit, findAllExit, writeImageExit, readImageExit}
 
 -- an export that refuses leaves the answer A and the other slices, l
 abbrev pub Kept : Exit → List ℕ → List (List ℕ) → Type 0
@@ -74,6 +75,10 @@ module _ (A : List ℕ) (m : Map) (W C : List ℕ) where
   pub insert-kept : (e : Entry) → Kept (insertExit A m W C e) A (W ∷ C ∷ [])
   unfolding insertCall
   insert-kept e = effect-kept insertReply A W C (insertNumber m W C e) (insertEntry m W C e) _ refl
+
+  pub renumber-kept : (plan : List ℕ) → Kept (renumberExit A m W C plan) A (W ∷ C ∷ [])
+  unfolding renumberCall
+  renumber-kept plan = effect-kept renumberReply A W C (renumberNumber m W C plan) (renumberPlan m W C plan) _ refl
 
   pub write-image-kept : (out : List ℕ) → Kept (writeImageExit A m W C out) A (out ∷ [])
   unfolding writeImageCall

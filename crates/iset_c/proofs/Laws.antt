@@ -127,6 +127,10 @@ pub bounded-unload : (rule : Bool → List ℕ → Map → List ℕ → List ℕ
     → (r : Exit) → r ≡ rule true A m W C k made → r ≡ rule b A m W C k range
 bounded-unload rule A m W C k made range b t e f q r p = let d : b ≡ true = sym f ∙ q in rw (d, ← e) p
 
+-- a call whose number is its whole answer
+pub number-told : (call : Output ℕ) (k r : ℕ) (X : List ℕ) → output k X ≡ call → r ≡ k → output r X ≡ call
+number-told call k r X e p = ap (λ (n : ℕ). output n X) p ∙ e
+
 -- the numbers of a step that is known to be a hit or the end
 module _ (s : Step) (A X : List ℕ) (c : Cursor) (e : ℕ) where
   pub hit-put : s ≡ Hit c e → X ≡ filled (stepNumbers (c .slot) c e) A → X ≡ filled (foundNumbers s) A

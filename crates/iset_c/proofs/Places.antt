@@ -30,13 +30,16 @@ use Rattle.iset.specs.Lookup.{startCall, stepCall, drainCall}
 use Rattle.iset.specs.Plain.{plainCall}
 use Rattle.iset.specs.Find.{findAllCall}
 use Rattle.iset.specs.Maps.{mapOf, mapAt}
-use Rattle.iset.specs.Refusals.{Rows, accept, refuse, Exactly, checkRows, buildRows, removeRows, insertRows, unloadRows, readRows, startRows, stepRows, drainRows, plainRows, findAllRows, writeImageRows, readImageRows}
+use Rattle.iset.specs.Refusals.{Rows, accept, refuse, Exactly, checkRows, buildRows, removeRows, insertRows, unloadRows, proposeRows, renumberRows, readRows, startRows, stepRows, drainRows, plainRows, findAllRows, writeImageRows, readImageRows}
+use Rattle.iset.specs.Effects.{Output}
 use Rattle.iset.specs.Ticket.{readCall}
+use Rattle.iset.specs.Tidy.{RenumberAnswer, renumberCall}
 use Rattle.iset.specs.Image.{writeImageCall, readImageCall}
 use Rattle.iset.specs.declared.Map.{Map}
 use Rattle.iset.proofs.Refusals.{Lacks, passed-row, failed-row, check-refusals, build-refusals, remove-refusals, insert-refusals, unload-refusals, read-refusals, start-refusals, step-refusals, drain-refusals, plain-refusals, find-all-refusals}
 use Rattle.iset.specs.declared.ticket.Ticket.{Ticket}
 use Rattle.iset.proofs.ImageRefusals.{write-image-refusals, read-image-refusals}
+use Rattle.iset.proofs.TidyRefusals.{propose-refusals, renumber-refusals}
 use Rattle.iset.proofs.BitRefusals.{Fails, le-fails, and-fails}
 use Rattle.iset_c.specs.Replies.{Reply, Exit, exit, number, handed, exitOf, unloadReply, stepReply, drainReply, tallyReply}
 use Rattle.iset_c.specs.Ranges.{rangeOf, spanOf, kinds}
@@ -51,6 +54,10 @@ use Rattle.iset_c.proofs.exports.iset_insert.Reads as insert-reads
 use Rattle.iset_c.proofs.exports.iset_insert.Kinds as insert-kinds
 use Rattle.iset_c.proofs.exports.iset_unload.Reads as unload-reads
 use Rattle.iset_c.proofs.exports.iset_unload.Kinds as unload-kinds
+use Rattle.iset_c.proofs.exports.iset_propose.Reads as propose-reads
+use Rattle.iset_c.proofs.exports.iset_propose.Kinds as propose-kinds
+use Rattle.iset_c.proofs.exports.iset_renumber.Reads as renumber-reads
+use Rattle.iset_c.proofs.exports.iset_renumber.Kinds as renumber-kinds
 use Rattle.iset_c.proofs.exports.iset_read.Reads as read-reads
 use Rattle.iset_c.proofs.exports.iset_read.Kinds as read-kinds
 use Rattle.iset_c.proofs.lookup.iset_fresh.Reads as fresh-reads
@@ -200,6 +207,26 @@ unload-told κs a r s p =
     let q : Span = spanOf (b .0) (b .1 .0) (b .1 .1 .0) (b .1 .1 .1 .0) in
     told-ranged (unloadRows m W C 1 q) (unloadReply (unloadCall m W C 1 q .answer)) (now (b .1 .1 .1 .1 .0)) (now (s .1 .1 .1 .1 .1 .1 .1 .1 .1 .0)) r
     (b .0) (b .1 .1 .0) (omega arith) (omega arith) (unload-refusals m W C 1 q) _ _ _ p
+
+-- `iset_propose`: its number is all
+pub propose-told : (κs : Lfts 3) (a : K.Dens κs propose-kinds.ps) (r : K.resT propose-kinds.r κs .Denot) (s : AtExit (K.endedOf 3 propose-kinds.ps propose-kinds.r) κs)
+    → propose-reads.Post κs a r s
+    → Exactly (proposeRows (mapOf (a .0) (a .1 .0)) (now (a .1 .1 .0)) (now (a .1 .1 .1 .0)) (length (now (a .1 .1 .1 .1 .0)))) r
+propose-told κs a r s p =
+    rw (ap (λ (x : Output ℕ). x .answer) p)
+    (propose-refusals (mapOf (a .0) (a .1 .0)) (now (a .1 .1 .0)) (now (a .1 .1 .1 .0)) (now (a .1 .1 .1 .1 .0)))
+
+-- `iset_renumber`: count, root, version
+pub renumber-told : (κs : Lfts 4) (a : K.Dens κs renumber-kinds.ps) (r : K.resT renumber-kinds.r κs .Denot) (s : AtExit (K.endedOf 4 renumber-kinds.ps renumber-kinds.r) κs)
+    → renumber-reads.Post κs a r s
+    → let m : Map = mapAt (a .0) (a .1 .0) (a .1 .1 .0) in
+    let W : List ℕ = now (a .1 .1 .1 .0) in
+    let C : List ℕ = now (a .1 .1 .1 .1 .0) in
+    let plan : List ℕ = now (a .1 .1 .1 .1 .1 .0) in
+    let b : RenumberAnswer = renumberCall m W C plan .answer in
+    Told (renumberRows m W C plan) (b .map .count ∷ b .map .root ∷ b .map .version ∷ [])
+    (now (a .1 .1 .1 .1 .1 .1 .0)) (now (s .1 .1 .1 .1 .1 .1 .0)) r
+renumber-told κs a r s p = told _ true _ _ _ r (omega arith) (renumber-refusals _ _ _ _) _ _ _ p
 
 -- `iset_read`: start, end, value
 pub read-told : (κs : Lfts 3) (a : K.Dens κs read-kinds.ps) (r : K.resT read-kinds.r κs .Denot) (s : AtExit (K.endedOf 3 read-kinds.ps read-kinds.r) κs)

@@ -28,6 +28,7 @@ use Rattle.iset.specs.Tallies.{TallyAnswer}
 use Rattle.iset.specs.Plain.{plainCall}
 use Rattle.iset.specs.Find.{findAllCall}
 use Rattle.iset.specs.Ticket.{ReadAnswer, readCall}
+use Rattle.iset.specs.Tidy.{RenumberAnswer, renumberCall}
 use Rattle.iset.specs.Image.{WriteAnswer, writeImageCall, readImageCall}
 use Rattle.iset.specs.declared.Map.{Map}
 use Rattle.iset.specs.declared.ticket.Ticket.{Ticket}
@@ -128,6 +129,10 @@ unloadedNumbers m gone = m .count ∷ m .root ∷ m .version ∷ gone ∷ []
 abbrev pub unloadReply : (answer : UnloadAnswer) → Reply
 unloadReply a = record { no = a .no; numbers = unloadedNumbers (a .map) (a .gone) }
 
+-- a renumbering: the new map
+abbrev pub renumberReply : (answer : RenumberAnswer) → Reply
+renumberReply a = record { no = a .no; numbers = mapNumbers (a .map) }
+
 -- a reading through a ticket: start, end, value
 abbrev pub entryNumbers : (entry : Entry) → List ℕ
 entryNumbers e = e .start ∷ e .end ∷ e .value ∷ []
@@ -195,6 +200,9 @@ insertExit A m W C e = effectExit insertReply A W C (insertCall m W C e)
 abbrev pub unloadExit : (known : Bool) (places : List ℕ) (map : Map) (words colours : List ℕ)
     (rule : ℕ) (range : Span) → Exit
 unloadExit b A m W C rule range = rangedEffectExit unloadReply b A W C (unloadCall m W C rule range)
+
+abbrev pub renumberExit : (places : List ℕ) (map : Map) (words colours plan : List ℕ) → Exit
+renumberExit A m W C plan = effectExit renumberReply A W C (renumberCall m W C plan)
 
 abbrev pub readExit : (places : List ℕ) (map : Map) (words colours : List ℕ) (ticket : Ticket)
     → Exit

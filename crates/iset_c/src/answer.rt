@@ -30,7 +30,7 @@ pub(crate) fn put(numbers: &[u64], answer: &mut [u64])
     }
 }
 
-pub(crate) fn put_map(m: Map, answer: &mut [u64])
+pub fn put_map(m: Map, answer: &mut [u64])
     requires { ⌜ 3 ≤ length (now answer) ⌝ }
     ensures { λ _. ⌜ now (answer .exit) ≡ filled (mapNumbers m) (now (answer .entry)) ⌝ }
 {

@@ -16,15 +16,19 @@ use crate::save::write_image_in;
 use crate::scan::plain_exact_in;
 use crate::scan::plain_in;
 use crate::ticket::read_in;
+use crate::tidy::propose_in;
+use crate::tidy::renumber_in;
 use crate::unload::unload_in;
 ghost use mathlib.Core.Path.{_≡_};
 ghost use mathlib.Core.Bool.{true};
 ghost use mathlib.Core.List.{[], _∷_};
 ghost use Rattle.words.specs.Ix.{U};
 ghost use Rattle.iset.specs.Check.{checkRule};
+ghost use Rattle.iset.specs.Effects.{output};
 ghost use Rattle.iset.specs.Insert.{entryOf};
 ghost use Rattle.iset.specs.Maps.{mapAt, mapOf};
-ghost use Rattle.iset_c.specs.Replies.{buildExit, cursorOf, drainExit, exit, findAllExit, insertExit, plainExit, readExit, readImageExit, removeExit, startExit, stepExit, ticketAt, unloadExit, writeImageExit};
+ghost use Rattle.iset.specs.Tidy.{proposeCall};
+ghost use Rattle.iset_c.specs.Replies.{buildExit, cursorOf, drainExit, exit, findAllExit, insertExit, plainExit, readExit, readImageExit, removeExit, renumberExit, startExit, stepExit, ticketAt, unloadExit, writeImageExit};
 ghost use Rattle.iset_c.specs.Ranges.{exactOf, intervalOf, kinds, rangeOf, spanOf};
 
 #[no_mangle]
@@ -122,6 +126,35 @@ pub extern "C" fn iset_unload(
         hi,
         answer,
     )
+}
+
+#[no_mangle]
+pub extern "C" fn iset_propose(
+    count: u64,
+    root: u64,
+    nodes: &[u64],
+    colours: &[u8],
+    out: &mut [u64],
+) -> u64
+    ensures { λ r. ⌜ output r (now (out .exit)) ≡ proposeCall (mapOf count root) (now (nodes .entry)) (now (colours .entry)) (now (out .entry)) ⌝ }
+{
+    propose_in(count, root, nodes, false, colours, out)
+}
+
+#[no_mangle]
+pub extern "C" fn iset_renumber(
+    count: u64,
+    root: u64,
+    version: u32,
+    nodes: &mut [u64],
+    colours: &mut [u8],
+    plan: &[u64],
+    answer: &mut [u64],
+) -> u64
+    ensures { λ r. ⌜ exit r (now (answer .exit)) (now (nodes .exit) ∷ now (colours .exit) ∷ [])
+        ≡ renumberExit (now (answer .entry)) (mapAt count root version) (now (nodes .entry)) (now (colours .entry)) (now (plan .entry)) ⌝ }
+{
+    renumber_in(count, root, version, nodes, false, colours, plan, answer)
 }
 
 #[no_mangle]

@@ -20,6 +20,7 @@ pub mod range;
 pub mod save;
 pub mod scan;
 pub mod ticket;
+pub mod tidy;
 pub mod unload;
 
 use crate::answer::put_inserted;

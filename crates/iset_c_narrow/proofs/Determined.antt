@@ -10,7 +10,7 @@ use denote.Ref.{now}
 use Rattle.words.specs.Layouts.{unpack}
 use Rattle.iset.proofs.Layouts.{unpack-injective}
 use Rattle.iset_c.specs.Replies.{Exit, exit}
-use Rattle.iset_c.proofs.Exits.{same-answer, same-effect, same-output}
+use Rattle.iset_c.proofs.Exits.{same-answer, same-effect, same-output, same-number}
 use Rattle.iset_c_narrow.proofs.closed.iset_narrow_check.Reads as check-reads
 use Rattle.iset_c_narrow.proofs.closed.iset_narrow_check.Kinds as check-kinds
 use Rattle.iset_c_narrow.proofs.closed.iset_narrow_build.Reads as build-reads
@@ -21,6 +21,10 @@ use Rattle.iset_c_narrow.proofs.closed.iset_narrow_insert.Reads as inse
 use Rattle.iset_c_narrow.proofs.closed.iset_narrow_insert.Kinds as insert-kinds
 use Rattle.iset_c_narrow.proofs.closed.iset_narrow_unload.Reads as unload-reads
 use Rattle.iset_c_narrow.proofs.closed.iset_narrow_unload.Kinds as unload-kinds
+use Rattle.iset_c_narrow.proofs.closed.iset_narrow_propose.Reads as propose-reads
+use Rattle.iset_c_narrow.proofs.closed.iset_narrow_propose.Kinds as propose-kinds
+use Rattle.iset_c_narrow.proofs.closed.iset_narrow_renumber.Reads as renumber-reads
+use Rattle.iset_c_narrow.proofs.closed.iset_narrow_renumber.Kinds as renumber-kinds
 use Rattle.iset_c_narrow.proofs.closed.iset_narrow_read.Reads as read-reads
 use Rattle.iset_c_narrow.proofs.closed.iset_narrow_read.Kinds as read-kinds
 use Rattle.iset_c_narrow.proofs.closed.iset_narrow_write_image.Reads as write-image-reads
@@ -51,6 +55,10 @@ use Rattle.iset_c_narrow.proofs.opened.iset_narrow_open_insert.Reads as
 use Rattle.iset_c_narrow.proofs.opened.iset_narrow_open_insert.Kinds as open-insert-kinds
 use Rattle.iset_c_narrow.proofs.opened.iset_narrow_open_unload.Reads as open-unload-reads
 use Rattle.iset_c_narrow.proofs.opened.iset_narrow_open_unload.Kinds as open-unload-kinds
+use Rattle.iset_c_narrow.proofs.opened.iset_narrow_open_propose.Reads as open-propose-reads
+use Rattle.iset_c_narrow.proofs.opened.iset_narrow_open_propose.Kinds as open-propose-kinds
+use Rattle.iset_c_narrow.proofs.opened.iset_narrow_open_renumber.Reads as open-renumber-reads
+use Rattle.iset_c_narrow.proofs.opened.iset_narrow_open_renumber.Kinds as open-renumber-kinds
 use Rattle.iset_c_narrow.proofs.opened.iset_narrow_open_read.Reads as open-read-reads
 use Rattle.iset_c_narrow.proofs.opened.iset_narrow_open_read.Kinds as open-read-kinds
 use Rattle.iset_c_narrow.proofs.opened.iset_narrow_open_write_image.Reads as open-write-image-reads
@@ -159,6 +167,24 @@ pub unload-determined :
     × (now (s .1 .1 .1 .0) ≡ now (s′ .1 .1 .1 .0))
     × (now (s .1 .1 .1 .1 .0) ≡ now (s′ .1 .1 .1 .1 .0))
 unload-determined κs a r r′ s s′ p q = same-six p q
+
+pub propose-determined :
+    (κs : Lfts 3) (a : K.Dens κs propose-kinds.ps) (r r′ : K.resT propose-kinds.r κs .Denot)
+    (s s′ : AtExit (K.endedOf 3 propose-kinds.ps propose-kinds.r) κs)
+    → propose-reads.Post κs a r s → propose-reads.Post κs a r′ s′
+    → (r ≡ r′)
+    × (now (s .1 .1 .1 .1 .0) ≡ now (s′ .1 .1 .1 .1 .0))
+propose-determined κs a r r′ s s′ p q = same-number p q
+
+pub renumber-determined :
+    (κs : Lfts 4) (a : K.Dens κs renumber-kinds.ps) (r r′ : K.resT renumber-kinds.r κs .Denot)
+    (s s′ : AtExit (K.endedOf 4 renumber-kinds.ps renumber-kinds.r) κs)
+    → renumber-reads.Post κs a r s → renumber-reads.Post κs a r′ s′
+    → (r ≡ r′)
+    × (now (s .1 .1 .1 .1 .1 .1 .0) ≡ now (s′ .1 .1 .1 .1 .1 .1 .0))
+    × (now (s .1 .1 .1 .0) ≡ now (s′ .1 .1 .1 .0))
+    × (now (s .1 .1 .1 .1 .0) ≡ now (s′ .1 .1 .1 .1 .0))
+renumber-determined κs a r r′ s s′ p q = same-six p q
 
 pub read-determined :
     (κs : Lfts 3) (a : K.Dens κs read-kinds.ps) (r r′ : K.resT read-kinds.r κs .Denot)
@@ -294,6 +320,24 @@ pub open-unload-determined :
     × (now (s .1 .1 .1 .0) ≡ now (s′ .1 .1 .1 .0))
     × (now (s .1 .1 .1 .1 .0) ≡ now (s′ .1 .1 .1 .1 .0))
 open-unload-determined κs a r r′ s s′ p q = same-six p q
+
+pub open-propose-determined :
+    (κs : Lfts 3) (a : K.Dens κs open-propose-kinds.ps) (r r′ : K.resT open-propose-kinds.r κs .Denot)
+    (s s′ : AtExit (K.endedOf 3 open-propose-kinds.ps open-propose-kinds.r) κs)
+    → open-propose-reads.Post κs a r s → open-propose-reads.Post κs a r′ s′
+    → (r ≡ r′)
+    × (now (s .1 .1 .1 .1 .0) ≡ now (s′ .1 .1 .1 .1 .0))
+open-propose-determined κs a r r′ s s′ p q = same-number p q
+
+pub open-renumber-determined :
+    (κs : Lfts 4) (a : K.Dens κs open-renumber-kinds.ps) (r r′ : K.resT open-renumber-kinds.r κs .Denot)
+    (s s′ : AtExit (K.endedOf 4 open-renumber-kinds.ps open-renumber-kinds.r) κs)
+    → open-renumber-reads.Post κs a r s → open-renumber-reads.Post κs a r′ s′
+    → (r ≡ r′)
+    × (now (s .1 .1 .1 .1 .1 .1 .0) ≡ now (s′ .1 .1 .1 .1 .1 .1 .0))
+    × (now (s .1 .1 .1 .0) ≡ now (s′ .1 .1 .1 .0))
+    × (now (s .1 .1 .1 .1 .0) ≡ now (s′ .1 .1 .1 .1 .0))
+open-renumber-determined κs a r r′ s s′ p q = same-six p q
 
 pub open-read-determined :
     (κs : Lfts 3) (a : K.Dens κs open-read-kinds.ps) (r r′ : K.resT open-read-kinds.r κs .Denot)

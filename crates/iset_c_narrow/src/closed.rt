@@ -16,6 +16,8 @@ use iset_c::save::write_image_in;
 use iset_c::scan::plain_exact_in;
 use iset_c::scan::plain_in;
 use iset_c::ticket::read_in;
+use iset_c::tidy::propose_in;
+use iset_c::tidy::renumber_in;
 use iset_c::unload::unload_in;
 ghost use mathlib.Core.Path.{_≡_};
 ghost use mathlib.Core.Bool.{true};
@@ -23,9 +25,11 @@ ghost use mathlib.Core.List.{[], _∷_};
 ghost use Rattle.words.specs.Ix.{U};
 ghost use Rattle.words.specs.Layouts.{unpack};
 ghost use Rattle.iset.specs.Check.{checkRule};
+ghost use Rattle.iset.specs.Effects.{output};
 ghost use Rattle.iset.specs.Insert.{entryOf};
 ghost use Rattle.iset.specs.Maps.{mapAt, mapOf};
-ghost use Rattle.iset_c.specs.Replies.{exit, cursorOf, ticketAt, buildExit, removeExit, insertExit, unloadExit, readExit, writeImageExit, readImageExit, startExit, stepExit, drainExit, plainExit, findAllExit};
+ghost use Rattle.iset.specs.Tidy.{proposeCall};
+ghost use Rattle.iset_c.specs.Replies.{exit, cursorOf, ticketAt, buildExit, removeExit, insertExit, unloadExit, renumberExit, readExit, writeImageExit, readImageExit, startExit, stepExit, drainExit, plainExit, findAllExit};
 ghost use Rattle.iset_c.specs.Ranges.{rangeOf, spanOf, intervalOf, exactOf, kinds};
 
 #[no_mangle]
@@ -123,6 +127,35 @@ pub extern "C" fn iset_narrow_unload(
         hi,
         answer,
     )
+}
+
+#[no_mangle]
+pub extern "C" fn iset_narrow_propose(
+    count: u64,
+    root: u64,
+    nodes: &[u64],
+    colours: &[u8],
+    out: &mut [u64],
+) -> u64
+    ensures { λ r. ⌜ output r (now (out .exit)) ≡ proposeCall (mapOf count root) (unpack (now (nodes .entry))) (now (colours .entry)) (now (out .entry)) ⌝ }
+{
+    propose_in(count, root, nodes, true, colours, out)
+}
+
+#[no_mangle]
+pub extern "C" fn iset_narrow_renumber(
+    count: u64,
+    root: u64,
+    version: u32,
+    nodes: &mut [u64],
+    colours: &mut [u8],
+    plan: &[u64],
+    answer: &mut [u64],
+) -> u64
+    ensures { λ r. ⌜ exit r (now (answer .exit)) (unpack (now (nodes .exit)) ∷ now (colours .exit) ∷ [])
+        ≡ renumberExit (now (answer .entry)) (mapAt count root version) (unpack (now (nodes .entry))) (now (colours .entry)) (now (plan .entry)) ⌝ }
+{
+    renumber_in(count, root, version, nodes, true, colours, plan, answer)
 }
 
 #[no_mangle]

@@ -13,16 +13,20 @@ use iset_c_open::save::open_write_image_in;
 use iset_c_open::scan::open_plain_exact_in;
 use iset_c_open::scan::open_plain_in;
 use iset_c_open::ticket::open_read_in;
+use iset_c_open::tidy::open_propose_in;
+use iset_c_open::tidy::open_renumber_in;
 use iset_c_open::unload::open_unload_in;
 ghost use mathlib.Core.Path.{_≡_};
 ghost use mathlib.Core.Bool.{true};
 ghost use mathlib.Core.List.{[], _∷_};
 ghost use Rattle.words.specs.Layouts.{unpack};
+ghost use Rattle.iset.specs.Effects.{output};
 ghost use Rattle.iset.specs.Insert.{entryOf};
 ghost use Rattle.iset.specs.Maps.{mapAt, mapOf};
+ghost use Rattle.iset.specs.Tidy.{openProposeCall};
 ghost use Rattle.iset_c.specs.Replies.{exit, cursorOf, ticketAt};
 ghost use Rattle.iset_c.specs.Ranges.{rangeOf, spanOf, intervalOf, exactOf, kinds};
-ghost use Rattle.iset_c_open.specs.Replies.{openRemoveExit, openInsertExit, openUnloadExit, openReadExit, openWriteImageExit, openStartExit, openStepExit, openDrainExit, openPlainExit, openFindAllExit};
+ghost use Rattle.iset_c_open.specs.Replies.{openRemoveExit, openInsertExit, openUnloadExit, openRenumberExit, openReadExit, openWriteImageExit, openStartExit, openStepExit, openDrainExit, openPlainExit, openFindAllExit};
 
 #[no_mangle]
 pub extern "C" fn iset_narrow_open_remove(
@@ -98,6 +102,35 @@ pub extern "C" fn iset_narrow_open_unload(
         hi,
         answer,
     )
+}
+
+#[no_mangle]
+pub extern "C" fn iset_narrow_open_propose(
+    count: u64,
+    root: u64,
+    nodes: &[u64],
+    colours: &[u8],
+    out: &mut [u64],
+) -> u64
+    ensures { λ r. ⌜ output r (now (out .exit)) ≡ openProposeCall (mapOf count root) (unpack (now (nodes .entry))) (now (colours .entry)) (now (out .entry)) ⌝ }
+{
+    open_propose_in(count, root, nodes, true, colours, out)
+}
+
+#[no_mangle]
+pub extern "C" fn iset_narrow_open_renumber(
+    count: u64,
+    root: u64,
+    version: u32,
+    nodes: &mut [u64],
+    colours: &mut [u8],
+    plan: &[u64],
+    answer: &mut [u64],
+) -> u64
+    ensures { λ r. ⌜ exit r (now (answer .exit)) (unpack (now (nodes .exit)) ∷ now (colours .exit) ∷ [])
+        ≡ openRenumberExit (now (answer .entry)) (mapAt count root version) (unpack (now (nodes .entry))) (now (colours .entry)) (now (plan .entry)) ⌝ }
+{
+    open_renumber_in(count, root, version, nodes, true, colours, plan, answer)
 }
 
 #[no_mangle]

@@ -5,13 +5,17 @@ use contract.Lifetimes.{Lfts}
 use borrow.Fn.Kinds as K
 use denote.Triple.Clauses.{AtExit}
 use denote.Ref.{now}
-use Rattle.iset_c.proofs.Exits.{same-answer, same-effect, same-effect-in, same-output}
+use Rattle.iset_c.proofs.Exits.{same-answer, same-effect, same-effect-in, same-output, same-number}
 use Rattle.iset_c_open.proofs.exports.iset_open_remove.Reads as remove-reads
 use Rattle.iset_c_open.proofs.exports.iset_open_remove.Kinds as remove-kinds
 use Rattle.iset_c_open.proofs.exports.iset_open_insert.Reads as insert-reads
 use Rattle.iset_c_open.proofs.exports.iset_open_insert.Kinds as insert-kinds
 use Rattle.iset_c_open.proofs.exports.iset_open_unload.Reads as unload-reads
 use Rattle.iset_c_open.proofs.exports.iset_open_unload.Kinds as unload-kinds
+use Rattle.iset_c_open.proofs.exports.iset_open_propose.Reads as propose-reads
+use Rattle.iset_c_open.proofs.exports.iset_open_propose.Kinds as propose-kinds
+use Rattle.iset_c_open.proofs.exports.iset_open_renumber.Reads as renumber-reads
+use Rattle.iset_c_open.proofs.exports.iset_open_renumber.Kinds as renumber-kinds
 use Rattle.iset_c_open.proofs.exports.iset_open_write_image.Reads as write-image-reads
 use Rattle.iset_c_open.proofs.exports.iset_open_write_image.Kinds as write-image-kinds
 use Rattle.iset_c_open.proofs.exports.iset_open_read.Reads as read-reads
@@ -72,6 +76,24 @@ pub unload-determined :
     × (now (s .1 .1 .1 .0) ≡ now (s′ .1 .1 .1 .0))
     × (now (s .1 .1 .1 .1 .0) ≡ now (s′ .1 .1 .1 .1 .0))
 unload-determined κs a r r′ s s′ p q = same-effect p q
+
+pub propose-determined :
+    (κs : Lfts 3) (a : K.Dens κs propose-kinds.ps) (r r′ : K.resT propose-kinds.r κs .Denot)
+    (s s′ : AtExit (K.endedOf 3 propose-kinds.ps propose-kinds.r) κs)
+    → propose-reads.Post κs a r s → propose-reads.Post κs a r′ s′
+    → (r ≡ r′)
+    × (now (s .1 .1 .1 .1 .0) ≡ now (s′ .1 .1 .1 .1 .0))
+propose-determined κs a r r′ s s′ p q = same-number p q
+
+pub renumber-determined :
+    (κs : Lfts 4) (a : K.Dens κs renumber-kinds.ps) (r r′ : K.resT renumber-kinds.r κs .Denot)
+    (s s′ : AtExit (K.endedOf 4 renumber-kinds.ps renumber-kinds.r) κs)
+    → renumber-reads.Post κs a r s → renumber-reads.Post κs a r′ s′
+    → (r ≡ r′)
+    × (now (s .1 .1 .1 .1 .1 .1 .0) ≡ now (s′ .1 .1 .1 .1 .1 .1 .0))
+    × (now (s .1 .1 .1 .0) ≡ now (s′ .1 .1 .1 .0))
+    × (now (s .1 .1 .1 .1 .0) ≡ now (s′ .1 .1 .1 .1 .0))
+renumber-determined κs a r r′ s s′ p q = same-effect p q
 
 pub write-image-determined :
     (κs : Lfts 4) (a : K.Dens κs write-image-kinds.ps) (r r′ : K.resT write-image-kinds.r κs .Denot)

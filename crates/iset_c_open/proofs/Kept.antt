@@ -12,14 +12,15 @@ use Rattle.iter.specs.declared.rules.Query.{Query}
 use Rattle.iset.specs.Remove.{openRemoveNumber, removeSlot, openRemoveCall}
 use Rattle.iset.specs.Insert.{openInsertNumber, insertEntry, openInsertCall}
 use Rattle.iset.specs.Unload.{openUnloadNumber, unloadRange, openUnloadCall}
+use Rattle.iset.specs.Tidy.{openRenumberNumber, renumberPlan, openRenumberCall}
 use Rattle.iset.specs.Lookup.{openStartNumber, openDrainNumber, openDrainCall}
 use Rattle.iset.specs.Plain.{openPlainNumber, openPlainCall}
 use Rattle.iset.specs.Find.{openFindAllCall}
 use Rattle.iset.specs.Image.{openWriteImageNumber, openWriteImageCall}
 use Rattle.iset.specs.declared.Map.{Map}
-use Rattle.iset_c.specs.Replies.{removeReply, insertReply, unloadReply, writeReply, drainReply, tallyReply}
+use Rattle.iset_c.specs.Replies.{removeReply, insertReply, unloadReply, renumberReply, writeReply, drainReply, tallyReply}
 use Rattle.iset_c.proofs.Kept.{Kept, effect-kept, ranged-effect-kept, output-kept}
-use Rattle.iset_c_open.specs.Replies.{openRemoveExit, openInsertExit, openUnloadExit, openDrainExit, openPlainExit, openFindAllExit, openWriteImageExit}
+use Rattle.iset_c_open.specs.Replies.{openRemoveExit, openInsertExit, openUnloadExit, openRenumberExit, openDrainExit, openPlainExit, openFindAllExit, openWriteImageExit}
 
 module _ (A : List ℕ) (m : Map) (W C : List ℕ) where
   pub open-remove-kept : (s : ℕ) → Kept (openRemoveExit A m W C s) A (W ∷ C ∷ [])
@@ -29,6 +30,10 @@ module _ (A : List ℕ) (m : Map) (W C : List ℕ) where
   pub open-insert-kept : (e : Entry) → Kept (openInsertExit A m W C e) A (W ∷ C ∷ [])
   unfolding openInsertCall
   open-insert-kept e = effect-kept insertReply A W C (openInsertNumber m W C e) (insertEntry m W C e) _ refl
+
+  pub open-renumber-kept : (plan : List ℕ) → Kept (openRenumberExit A m W C plan) A (W ∷ C ∷ [])
+  unfolding openRenumberCall
+  open-renumber-kept plan = effect-kept renumberReply A W C (openRenumberNumber m W C plan) (renumberPlan m W C plan) _ refl
 
   pub open-write-image-kept : (out : List ℕ) → Kept (openWriteImageExit A m W C out) A (out ∷ [])
   unfolding openWriteImageCall

@@ -1,5 +1,6 @@
 -- On a store that passes the check an export returns and leaves what the export of crate iset_c of
--- that name does.
+-- that name does. Of the planner `propose-is` of iset/proofs/Opened says it: its promise is the
+-- call's rule.
 use mathlib.Core.Path.{_≡_, ap}
 use mathlib.Core.Bool.{Bool, true}
 use mathlib.Core.List.{List}
@@ -14,14 +15,15 @@ use Rattle.iset.specs.Check.{checkRule}
 use Rattle.iset.specs.Remove.{RemoveAnswer}
 use Rattle.iset.specs.Insert.{InsertAnswer}
 use Rattle.iset.specs.Unload.{UnloadAnswer}
+use Rattle.iset.specs.Tidy.{RenumberAnswer}
 use Rattle.iset.specs.Lookup.{StartAnswer, StepAnswer, DrainAnswer}
 use Rattle.iset.specs.Tallies.{TallyAnswer}
 use Rattle.iset.specs.Ticket.{ReadAnswer}
 use Rattle.iset.specs.Image.{WriteAnswer}
 use Rattle.iset.specs.declared.Map.{Map}
-use Rattle.iset.proofs.Opened.{remove-is, insert-is, unload-is, read-is, write-image-is, fresh-exact-is, step-is, drain-is, plain-is, find-all-is}
-use Rattle.iset_c.specs.Replies.{answerExit, effectExit, rangedEffectExit, outputExit, removeReply, insertReply, unloadReply, readReply, writeReply, startReply, stepReply, drainReply, tallyReply, removeExit, insertExit, unloadExit, readExit, writeImageExit, startExit, stepExit, drainExit, plainExit, findAllExit}
-use Rattle.iset_c_open.specs.Replies.{openRemoveExit, openInsertExit, openUnloadExit, openReadExit, openWriteImageExit, openStartExit, openStepExit, openDrainExit, openPlainExit, openFindAllExit}
+use Rattle.iset.proofs.Opened.{remove-is, insert-is, unload-is, renumber-is, read-is, write-image-is, fresh-exact-is, step-is, drain-is, plain-is, find-all-is}
+use Rattle.iset_c.specs.Replies.{answerExit, effectExit, rangedEffectExit, outputExit, removeReply, insertReply, unloadReply, renumberReply, readReply, writeReply, startReply, stepReply, drainReply, tallyReply, removeExit, insertExit, unloadExit, renumberExit, readExit, writeImageExit, startExit, stepExit, drainExit, plainExit, findAllExit}
+use Rattle.iset_c_open.specs.Replies.{openRemoveExit, openInsertExit, openUnloadExit, openRenumberExit, openReadExit, openWriteImageExit, openStartExit, openStepExit, openDrainExit, openPlainExit, openFindAllExit}
 use Rattle.iset.specs.declared.ticket.Ticket.{Ticket}
 
 module _ (A : List ℕ) (m : Map) (W C : List ℕ) (h : checkRule m W C ≡ 0) where
@@ -33,6 +35,9 @@ module _ (A : List ℕ) (m : Map) (W C : List ℕ) (h : checkRule m W C ≡ 0) w
 
   pub unload-exit-is : (b : Bool) (k : ℕ) (q : Span) → openUnloadExit b A m W C k q ≡ unloadExit b A m W C k q
   unload-exit-is b k q = ap (λ (x : Effect UnloadAnswer). rangedEffectExit unloadReply b A W C x) (unload-is m W C h k q)
+
+  pub renumber-exit-is : (plan : List ℕ) → openRenumberExit A m W C plan ≡ renumberExit A m W C plan
+  renumber-exit-is plan = ap (λ (x : Effect RenumberAnswer). effectExit renumberReply A W C x) (renumber-is m W C h plan)
 
   pub read-exit-is : (t : Ticket) → openReadExit A m W C t ≡ readExit A m W C t
   read-exit-is t = ap (λ (k : ReadAnswer). answerExit true A (readReply k)) (read-is m W C h t)

@@ -16,9 +16,10 @@ use Rattle.iset.specs.Lookup.{openStartCall, openStepCall, openDrainCall}
 use Rattle.iset.specs.Plain.{openPlainCall}
 use Rattle.iset.specs.Find.{openFindAllCall}
 use Rattle.iset.specs.Ticket.{openReadCall}
+use Rattle.iset.specs.Tidy.{openRenumberCall}
 use Rattle.iset.specs.Image.{openWriteImageCall}
 use Rattle.iset.specs.declared.Map.{Map}
-use Rattle.iset_c.specs.Replies.{Exit, answerExit, effectExit, rangedEffectExit, outputExit, removeReply, insertReply, unloadReply, readReply, writeReply, startReply, stepReply, drainReply, tallyReply}
+use Rattle.iset_c.specs.Replies.{Exit, answerExit, effectExit, rangedEffectExit, outputExit, removeReply, insertReply, unloadReply, renumberReply, readReply, writeReply, startReply, stepReply, drainReply, tallyReply}
 use Rattle.iset.specs.declared.ticket.Ticket.{Ticket}
 
 abbrev pub openRemoveExit : (places : List ℕ) (map : Map) (words colours : List ℕ) (slot : ℕ) → Exit
@@ -31,6 +32,9 @@ openInsertExit A m W C e = effectExit insertReply A W C (openInsertCall m W C e)
 abbrev pub openUnloadExit : (known : Bool) (places : List ℕ) (map : Map) (words colours : List ℕ)
     (rule : ℕ) (range : Span) → Exit
 openUnloadExit b A m W C rule range = rangedEffectExit unloadReply b A W C (openUnloadCall m W C rule range)
+
+abbrev pub openRenumberExit : (places : List ℕ) (map : Map) (words colours plan : List ℕ) → Exit
+openRenumberExit A m W C plan = effectExit renumberReply A W C (openRenumberCall m W C plan)
 
 abbrev pub openReadExit : (places : List ℕ) (map : Map) (words colours : List ℕ) (ticket : Ticket)
     → Exit

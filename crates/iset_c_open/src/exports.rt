@@ -13,15 +13,19 @@ use crate::save::open_write_image_in;
 use crate::scan::open_plain_exact_in;
 use crate::scan::open_plain_in;
 use crate::ticket::open_read_in;
+use crate::tidy::open_propose_in;
+use crate::tidy::open_renumber_in;
 use crate::unload::open_unload_in;
 ghost use mathlib.Core.Path.{_≡_};
 ghost use mathlib.Core.Bool.{true};
 ghost use mathlib.Core.List.{[], _∷_};
+ghost use Rattle.iset.specs.Effects.{output};
 ghost use Rattle.iset.specs.Insert.{entryOf};
 ghost use Rattle.iset.specs.Maps.{mapAt, mapOf};
+ghost use Rattle.iset.specs.Tidy.{openProposeCall};
 ghost use Rattle.iset_c.specs.Replies.{cursorOf, exit, ticketAt};
 ghost use Rattle.iset_c.specs.Ranges.{exactOf, intervalOf, kinds, rangeOf, spanOf};
-ghost use Rattle.iset_c_open.specs.Replies.{openDrainExit, openFindAllExit, openInsertExit, openPlainExit, openReadExit, openRemoveExit, openStartExit, openStepExit, openUnloadExit, openWriteImageExit};
+ghost use Rattle.iset_c_open.specs.Replies.{openDrainExit, openFindAllExit, openInsertExit, openPlainExit, openReadExit, openRemoveExit, openRenumberExit, openStartExit, openStepExit, openUnloadExit, openWriteImageExit};
 
 #[no_mangle]
 pub extern "C" fn iset_open_remove(
@@ -97,6 +101,35 @@ pub extern "C" fn iset_open_unload(
         hi,
         answer,
     )
+}
+
+#[no_mangle]
+pub extern "C" fn iset_open_propose(
+    count: u64,
+    root: u64,
+    nodes: &[u64],
+    colours: &[u8],
+    out: &mut [u64],
+) -> u64
+    ensures { λ r. ⌜ output r (now (out .exit)) ≡ openProposeCall (mapOf count root) (now (nodes .entry)) (now (colours .entry)) (now (out .entry)) ⌝ }
+{
+    open_propose_in(count, root, nodes, false, colours, out)
+}
+
+#[no_mangle]
+pub extern "C" fn iset_open_renumber(
+    count: u64,
+    root: u64,
+    version: u32,
+    nodes: &mut [u64],
+    colours: &mut [u8],
+    plan: &[u64],
+    answer: &mut [u64],
+) -> u64
+    ensures { λ r. ⌜ exit r (now (answer .exit)) (now (nodes .exit) ∷ now (colours .exit) ∷ [])
+        ≡ openRenumberExit (now (answer .entry)) (mapAt count root version) (now (nodes .entry)) (now (colours .entry)) (now (plan .entry)) ⌝ }
+{
+    open_renumber_in(count, root, version, nodes, false, colours, plan, answer)
 }
 
 #[no_mangle]

@@ -11,6 +11,7 @@ pub mod lookup;
 pub mod save;
 pub mod scan;
 pub mod ticket;
+pub mod tidy;
 pub mod unload;
 
 use iset::Map;
