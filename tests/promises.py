@@ -28,6 +28,9 @@ BODIES, EXPORTS, NARROW = {'iset_c', 'iset_c_open', 'iset_c_disjoint', 'iset_c_r
 # Here the public calls are those that return one of these types, and `new`. The others are inner
 # functions, as in all other crates.
 ANSWERS = {'bitvec': {'Answer'}, 'stack': {'Answer', 'Outcome', 'After'}}
+# What these return and leave is what the system gives them, so no rule can say it. Their promise is a
+# bound. docs/DECISIONS.md lists them too.
+GIVEN = {('lines', 'read_all')}
 # The whole tree has more; a reading that finds fewer has gone wrong.
 FEWEST_FUNCTIONS, FEWEST_CALLS = 100, 50
 
@@ -133,6 +136,10 @@ def main():
         proved += len(told[crate.name])
         for f in functions(crate):
             count += 1
+            if (f.crate, f.name) in GIVEN:
+                if not f.ensures or f.requires:
+                    wrong('%s: no promise, or a premise' % f)
+                continue
             calls += f.is_call()
             if f.unsaid():
                 wrong('%s: no promise about %s' % (f, ', '.join('what it returns' if x == 'r' else x for x in f.unsaid())))

@@ -3,38 +3,8 @@
 use image_text::memory;
 use image_text::writing::put_image;
 use image_text::writing::put_refusal;
-use libc::STDIN_FILENO;
 use lines::output;
-ghost use Prim.Native.Nat.{_≤_};
-ghost use lib.ListN.{length};
-
-// How many bytes were read, and whether a read failed.
-struct Got {
-    len: usize,
-    failed: bool,
-}
-
-// Reads to the end of the input, or until the space is full.
-fn read_all(space: &mut [u8]) -> Got
-    ensures { λ r. ⌜ r .len ≤ length (now (space .exit)) ⌝ }
-{
-    let mut at = 0;
-    while at < space.len() {
-        let got = libc::read(STDIN_FILENO, &mut space[at..]);
-        let n = io::count(got, &space[at..]);
-        if n == 0 {
-            return Got {
-                len: at,
-                failed: got < 0,
-            };
-        }
-        at += n;
-    }
-    Got {
-        len: at,
-        failed: false,
-    }
-}
+use lines::whole::read_all;
 
 // Prints the first n bytes as an image. If they fill the input, it is longer than any image that
 // fits.

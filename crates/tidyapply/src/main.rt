@@ -6,8 +6,8 @@ use iset::build::Built;
 use iset::save::Written;
 use iset::tidy::Renumbering;
 use libc::STDERR_FILENO;
-use libc::STDIN_FILENO;
 use lines::output;
+use lines::whole::read_all;
 use plan_text::memory;
 use plan_text::reading::Flaw;
 use plan_text::reading::State;
@@ -17,38 +17,10 @@ use words::numbers::least;
 ghost use Prim.Native.Nat.{_≤_};
 ghost use lib.ListN.{length};
 
-// How many bytes were read, and whether a read failed.
-struct Got {
-    len: usize,
-    failed: bool,
-}
-
 // What was read of the plan, and whether a read failed.
 struct Fed {
     state: State,
     failed: bool,
-}
-
-// Reads to the end of the input, or until the space is full.
-fn read_all(space: &mut [u8]) -> Got
-    ensures { λ r. ⌜ r .len ≤ length (now (space .exit)) ⌝ }
-{
-    let mut at = 0;
-    while at < space.len() {
-        let got = libc::read(STDIN_FILENO, &mut space[at..]);
-        let n = io::count(got, &space[at..]);
-        if n == 0 {
-            return Got {
-                len: at,
-                failed: got < 0,
-            };
-        }
-        at += n;
-    }
-    Got {
-        len: at,
-        failed: false,
-    }
 }
 
 // Reads the plan to its end. The loop is bounded by 2^64 rounds, so that the proof can show that it

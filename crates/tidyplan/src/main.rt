@@ -4,42 +4,12 @@
 use iset::Checked;
 use iset::Map;
 use iset::build::Built;
-use libc::STDIN_FILENO;
 use lines::output;
+use lines::whole::read_all;
 use plan_text::memory;
 use plan_text::refusing::refuse_image;
 use plan_text::writing::put_plan;
 use words::numbers::least;
-ghost use Prim.Native.Nat.{_≤_};
-ghost use lib.ListN.{length};
-
-// How many bytes were read, and whether a read failed.
-struct Got {
-    len: usize,
-    failed: bool,
-}
-
-// Reads to the end of the input, or until the space is full.
-fn read_all(space: &mut [u8]) -> Got
-    ensures { λ r. ⌜ r .len ≤ length (now (space .exit)) ⌝ }
-{
-    let mut at = 0;
-    while at < space.len() {
-        let got = libc::read(STDIN_FILENO, &mut space[at..]);
-        let n = io::count(got, &space[at..]);
-        if n == 0 {
-            return Got {
-                len: at,
-                failed: got < 0,
-            };
-        }
-        at += n;
-    }
-    Got {
-        len: at,
-        failed: false,
-    }
-}
 
 fn print(count: u64, plan: &[u64], out: &mut [u8]) {
     let n = least(count as usize, plan.len());

@@ -2,8 +2,8 @@ use mathlib.Core.Path.{_≡_}
 use Prim.Native.Nat.{_≤_, _-_}
 use lib.ListN.{length}
 use native.Mathlib.Omega.{arith}
-use Rattle.tidyapply.proofs.read_all.Statement.{statement}
-use Rattle.tidyapply.proofs.read_all.Tie as tie
+use Rattle.lines.proofs.whole.read_all.Statement.{statement}
+use Rattle.lines.proofs.whole.read_all.Tie as tie
 
 abbrev Inv-loop : tie.InvT-loop
 Inv-loop space₀ at₀ space at = (at ≤ length space) × (length space ≡ length space₀)
