@@ -1,0 +1,107 @@
+// What stays from line to line.
+use iset::Interval;
+use iset::Map;
+use iset::Pair;
+use iset::Pairs;
+use iter::rules::Tests;
+use slotshell_draw::Marks;
+use words::ix::U;
+
+// The map, what a picture of it marks, how many tickets were taken, and how many bytes the saved
+// image has, 0 if none was saved.
+pub struct State {
+    pub map: Map,
+    pub marks: Marks,
+    pub tickets: usize,
+    pub saved: usize,
+}
+
+pub(crate) fn no_pairs() -> Pairs {
+    let none = Pair { old: U, new: U };
+    Pairs {
+        first: none,
+        second: none,
+        third: none,
+    }
+}
+
+// The tests of no lookup. Nothing is tested by them.
+fn no_tests() -> Tests {
+    Tests::Equal(Interval { start: 0, end: 0 })
+}
+
+// The marks after a change: there was no lookup yet.
+fn marks_of(pairs: Pairs, added: u64) -> Marks {
+    let tests = no_tests();
+    Marks {
+        pairs,
+        added,
+        from: U,
+        tests,
+    }
+}
+
+impl State {
+    pub(crate) fn new() -> State {
+        let map = Map::new();
+        let marks = marks_of(no_pairs(), U);
+        State {
+            map,
+            marks,
+            tickets: 0,
+            saved: 0,
+        }
+    }
+
+    // The state after a change of the map.
+    pub(crate) fn changed(self, map: Map, pairs: Pairs, added: u64) -> State {
+        let marks = marks_of(pairs, added);
+        State {
+            map,
+            marks,
+            tickets: self.tickets,
+            saved: self.saved,
+        }
+    }
+
+    // The state after a lookup that starts at a slot.
+    pub(crate) fn looked(self, from: u64, tests: Tests) -> State {
+        let map = self.map;
+        let old = self.marks;
+        let pairs = old.pairs;
+        let marks = Marks {
+            pairs,
+            added: old.added,
+            from,
+            tests,
+        };
+        State {
+            map,
+            marks,
+            tickets: self.tickets,
+            saved: self.saved,
+        }
+    }
+
+    pub(crate) fn with_tickets(self, tickets: usize) -> State {
+        let map = self.map;
+        let marks = self.marks;
+        State {
+            map,
+            marks,
+            tickets,
+            saved: self.saved,
+        }
+    }
+
+    pub(crate) fn with_saved(self, saved: usize) -> State {
+        let map = self.map;
+        let marks = self.marks;
+        State {
+            map,
+            marks,
+            tickets: self.tickets,
+            saved,
+        }
+    }
+}

@@ -1,0 +1,17 @@
+// Entries and maps, each to a line's end.
+use crate::say;
+
+pub fn say_entry(slot: u64, start: u64, end: u64, value: u64) {
+    say(b"slot %  [%,%) %\n", &[slot, start, end, value]);
+}
+
+pub fn say_moved(old: u64, new: u64, start: u64, end: u64, value: u64) {
+    say(
+        b"moved: slot % -> %  [%,%) %\n",
+        &[old, new, start, end, value],
+    );
+}
+
+pub fn say_map(count: u64, root: u64, version: u64) {
+    say(b"entries %, root @, version %\n", &[count, root, version]);
+}

@@ -1,0 +1,98 @@
+// What slotshell writes: text with numbers in it. Each function writes to standard output before it
+// returns, and returns nothing. If a write fails, standard output is closed, and nothing is written
+// after the missing part (lines::output).
+pub mod dot;
+pub mod entry;
+pub mod help;
+mod note;
+pub mod outline;
+pub mod refusal;
+pub mod svg;
+pub mod table;
+pub mod trace;
+pub mod work;
+
+use lines::output;
+ghost use mathlib.Core.Path.{_≡_};
+ghost use lib.ListN.{length};
+use words::ix::U;
+
+// A range by the kinds of its bounds: 0 is Included, 1 Excluded and 2 Unbounded.
+pub struct Range {
+    pub lo_kind: u64,
+    pub lo: u64,
+    pub hi_kind: u64,
+    pub hi: u64,
+}
+
+// Room for a piece of text. It is written out when it is full.
+fn space() -> [u8; 256]
+    ensures { λ r. ⌜ 256 ≡ length r ⌝ }
+{
+    [0; 256]
+}
+
+fn number_at(numbers: &[u64], k: usize) -> u64 {
+    if k < numbers.len() { numbers[k] } else { 0 }
+}
+
+// Writes a link: `-` if it leads nowhere.
+fn put_link(out: &mut [u8], at: usize, x: u64) -> usize {
+    if x == U {
+        output::put_byte(out, at, b'-')
+    } else {
+        output::put_number(out, at, x)
+    }
+}
+
+// Writes a byte of a text. `%` stands for the number x, and `@` for x as a link.
+fn put(out: &mut [u8], at: usize, b: u8, x: u64) -> usize {
+    if b == b'%' {
+        output::put_number(out, at, x)
+    } else if b == b'@' {
+        put_link(out, at, x)
+    } else {
+        output::put_byte(out, at, b)
+    }
+}
+
+// Which number comes next after a byte of a text, if it was number k of n before it.
+fn next(k: usize, b: u8, n: usize) -> usize {
+    if k < n {
+        if (b == b'%') | (b == b'@') {
+            return k + 1;
+        }
+    }
+    k
+}
+
+fn put_all(out: &mut [u8], text: &[u8], numbers: &[u64]) -> usize {
+    let mut to = 0;
+    let mut k = 0;
+    let mut i = 0;
+    while i < text.len() {
+        let b = text[i];
+        let x = number_at(numbers, k);
+        to = put(out, to, b, x);
+        k = next(k, b, numbers.len());
+        i += 1;
+    }
+    to
+}
+
+// Writes a text. Each `%` in it stands for the next number, and each `@` for the next number as a
+// link.
+pub fn say(text: &[u8], numbers: &[u64]) {
+    let mut out = space();
+    let to = put_all(&mut out, text, numbers);
+    output::flush(&out, to);
+}
+
+// Writes n spaces.
+pub fn indent(n: u64) {
+    let mut left = n;
+    while 0 < left {
+        left -= 1;
+        output::send(b" ");
+    }
+}
