@@ -12,6 +12,8 @@ pub enum Bare {
     Disjoint,
     Save,
     Load,
+    Plan,
+    Tidy,
     Help,
     Quit,
 }
@@ -21,6 +23,7 @@ pub enum Ranged {
     Find,
     Trace,
     Plain,
+    Unload,
 }
 
 // The commands with numbers.
@@ -32,6 +35,9 @@ pub enum Numbered {
     Exact,
     Ticket,
     Read,
+    Renumber,
+    Point,
+    Fit,
 }
 
 // Nothing is an empty line or a comment. Misused is a command with other things after its name than
@@ -56,7 +62,9 @@ fn bare_at(place: usize) -> Bare {
         5 => Bare::Disjoint,
         6 => Bare::Save,
         7 => Bare::Load,
-        8 => Bare::Help,
+        8 => Bare::Plan,
+        9 => Bare::Tidy,
+        10 => Bare::Help,
         _ => Bare::Quit,
     }
 }
@@ -65,7 +73,8 @@ fn ranged_at(place: usize) -> Ranged {
     match place {
         0 => Ranged::Find,
         1 => Ranged::Trace,
-        _ => Ranged::Plain,
+        2 => Ranged::Plain,
+        _ => Ranged::Unload,
     }
 }
 
@@ -77,7 +86,10 @@ fn numbered_at(place: usize) -> Numbered {
         3 => Numbered::At,
         4 => Numbered::Exact,
         5 => Numbered::Ticket,
-        _ => Numbered::Read,
+        6 => Numbered::Read,
+        7 => Numbered::Renumber,
+        8 => Numbered::Point,
+        _ => Numbered::Fit,
     }
 }
 
@@ -85,7 +97,9 @@ fn numbered_at(place: usize) -> Numbered {
 fn takes(c: Numbered, n: usize) -> bool {
     match c {
         Numbered::Build => n < usize::MAX,
+        Numbered::Renumber => n < usize::MAX,
         Numbered::Insert => n == 3,
+        Numbered::Fit => n == 3,
         Numbered::Exact => n == 2,
         _ => n == 1,
     }
@@ -124,21 +138,23 @@ fn which(name: &[u8], names: &[u8]) -> usize {
     n
 }
 
-// Each list of names has the order of its `.._at` above. `unload` comes among the names with a range
-// and `tidy` among the bare ones.
+// Each list of names has the order of its `.._at` above.
 fn bare_of(name: &[u8]) -> usize {
     which(
         name,
-        b"tree;slots;svg;dot;check;disjoint;save;load;help;quit;",
+        b"tree;slots;svg;dot;check;disjoint;save;load;plan;tidy;help;quit;",
     )
 }
 
 fn ranged_of(name: &[u8]) -> usize {
-    which(name, b"find;trace;plain;")
+    which(name, b"find;trace;plain;unload;")
 }
 
 fn numbered_of(name: &[u8]) -> usize {
-    which(name, b"build;insert;remove;at;exact;ticket;read;")
+    which(
+        name,
+        b"build;insert;remove;at;exact;ticket;read;renumber;point;fit;",
+    )
 }
 
 fn with_numbers(c: Numbered, line: &[u8], from: usize, numbers: &mut [u64]) -> Command {
@@ -171,15 +187,15 @@ fn alone(c: Bare, line: &[u8], from: usize) -> Command {
 // The command with a name, of a line whose name ends at `end`.
 fn named(name: &[u8], line: &[u8], end: usize, numbers: &mut [u64]) -> Command {
     let k = bare_of(name);
-    if k < 10 {
+    if k < 12 {
         return alone(bare_at(k), line, end);
     }
     let k = ranged_of(name);
-    if k < 3 {
+    if k < 4 {
         return with_range(ranged_at(k), line, end);
     }
     let k = numbered_of(name);
-    if k < 7 {
+    if k < 10 {
         return with_numbers(numbered_at(k), line, end, numbers);
     }
     Command::Unknown

@@ -1,5 +1,6 @@
 // A map in a classroom: a command a line, and an answer to each. Everything that is said of the map
 // comes from the public calls (crates iset, disjoint).
+mod apart;
 mod asked;
 mod changes;
 mod command;
@@ -9,14 +10,17 @@ mod looking;
 mod memory;
 mod state;
 mod tickets;
+mod tidying;
+mod unloading;
 
 use crate::command::Bare;
 use crate::command::Command;
 use crate::command::Numbered;
+use crate::command::Ranged;
 use crate::input::Place;
 use crate::state::State;
-use disjoint::DisjointMap;
 use iset::Checked;
+use iset::Entry;
 use iset::Map;
 use libc::STDIN_FILENO;
 use libc::STDOUT_FILENO;
@@ -26,6 +30,7 @@ use slotshell_draw::entries;
 use slotshell_draw::outline::say_tree;
 use slotshell_draw::svg::say_svg;
 use slotshell_draw::table::say_table;
+use slotshell_text::Range;
 use slotshell_text::help;
 use slotshell_text::refusal::say_refused;
 use words::numbers::least;
@@ -44,54 +49,76 @@ fn check(m: Map, nodes: &[u64], colours: &[u8]) {
     }
 }
 
-fn disjoint(m: Map, nodes: &[u64], colours: &[u8]) {
-    let d = DisjointMap { map: m };
-    match d.check(nodes, colours) {
-        Checked::Sound => output::send(b"disjoint: no two ranges overlap\n"),
-        Checked::Refused(why) => say_refused(why.number(), 0, 0),
-    }
-}
-
 // The commands that only show.
-fn show(s: State, c: Bare, nodes: &[u64], colours: &[u8]) {
+fn show(s: State, c: Bare, nodes: &[u64], colours: &[u8], was: &[u64]) {
     let m = s.map;
     let marks = s.marks;
     match c {
-        Bare::Tree => say_tree(m, nodes, colours, marks),
+        Bare::Tree => say_tree(m, nodes, colours, was, marks),
         Bare::Slots => say_table(m, nodes, colours),
-        Bare::Svg => say_svg(m, nodes, colours, marks),
-        Bare::Dot => say_dot(m, nodes, colours, marks),
+        Bare::Svg => say_svg(m, nodes, colours, was, marks),
+        Bare::Dot => say_dot(m, nodes, colours, was, marks),
         Bare::Check => check(m, nodes, colours),
-        Bare::Disjoint => disjoint(m, nodes, colours),
+        Bare::Disjoint => apart::check(m, nodes, colours),
+        Bare::Plan => tidying::plan(m, nodes, colours),
         Bare::Help => help::say_all(),
         _ => {}
     }
 }
 
-fn do_bare(s: State, c: Bare, nodes: &mut [u64], colours: &mut [u8], image: &mut [u8]) -> State {
+fn do_bare(
+    s: State,
+    c: Bare,
+    nodes: &mut [u64],
+    colours: &mut [u8],
+    was: &mut [u64],
+    image: &mut [u8],
+) -> State {
     match c {
         Bare::Save => images::save(s, nodes, colours, image),
-        Bare::Load => images::load(s, nodes, colours, image),
+        Bare::Load => images::load(s, nodes, colours, image, was),
+        Bare::Tidy => tidying::tidy(s, nodes, colours, was),
         _ => {
-            show(s, c, nodes, colours);
+            show(s, c, nodes, colours, was);
             s
         }
     }
 }
 
-// The commands about tickets.
-fn with_ticket(
+fn do_ranged(
+    s: State,
+    c: Ranged,
+    r: Range,
+    nodes: &mut [u64],
+    colours: &mut [u8],
+    was: &mut [u64],
+) -> State {
+    match c {
+        Ranged::Unload => unloading::unload(s, r, nodes, colours, was),
+        _ => looking::ranged(s, c, r, nodes, colours),
+    }
+}
+
+// The commands with numbers that change nothing in the map.
+fn do_look(
     s: State,
     c: Numbered,
-    x: u64,
+    a: u64,
+    b: u64,
     nodes: &[u64],
     colours: &[u8],
     tickets: &mut [u64],
 ) -> State {
     match c {
-        Numbered::Ticket => tickets::take(s, x, tickets),
+        Numbered::At => looking::at(s, a, nodes, colours),
+        Numbered::Exact => looking::exact(s, a, b, nodes, colours),
+        Numbered::Ticket => tickets::take(s, a, tickets),
+        Numbered::Point => {
+            apart::point(s.map, a, nodes, colours);
+            s
+        }
         _ => {
-            tickets::read(s, x, tickets, nodes, colours);
+            tickets::read(s, a, tickets, nodes, colours);
             s
         }
     }
@@ -103,17 +130,23 @@ fn do_numbered(
     list: &[u64],
     nodes: &mut [u64],
     colours: &mut [u8],
+    was: &mut [u64],
     tickets: &mut [u64],
 ) -> State {
     let a = number(list, 0);
     let b = number(list, 1);
+    let e = Entry {
+        start: a,
+        end: b,
+        value: number(list, 2),
+    };
     match c {
-        Numbered::Build => changes::build(s, list, nodes, colours),
-        Numbered::Insert => changes::insert(s, a, b, number(list, 2), nodes, colours),
-        Numbered::Remove => changes::remove(s, a, nodes, colours),
-        Numbered::At => looking::at(s, a, nodes, colours),
-        Numbered::Exact => looking::exact(s, a, b, nodes, colours),
-        _ => with_ticket(s, c, a, nodes, colours, tickets),
+        Numbered::Build => changes::build(s, list, nodes, colours, was),
+        Numbered::Insert => changes::insert(s, e, nodes, colours, was),
+        Numbered::Remove => changes::remove(s, a, nodes, colours, was),
+        Numbered::Renumber => tidying::renumber(s, list, nodes, colours, was),
+        Numbered::Fit => apart::fit(s, e, nodes, colours, was),
+        _ => do_look(s, c, a, b, nodes, colours, tickets),
     }
 }
 
@@ -126,6 +159,9 @@ fn misused(c: Numbered) {
         Numbered::Exact => help::say_usage(4),
         Numbered::Ticket => help::say_usage(5),
         Numbered::Read => help::say_usage(6),
+        Numbered::Renumber => help::say_usage(7),
+        Numbered::Point => help::say_usage(8),
+        Numbered::Fit => help::say_usage(9),
     }
 }
 
@@ -133,7 +169,7 @@ fn misused(c: Numbered) {
 fn unknown(c: Command) {
     match c {
         Command::Unknown => help::say_unknown(),
-        Command::MisusedRanged(_) => help::say_usage(7),
+        Command::MisusedRanged(_) => help::say_usage(10),
         Command::MisusedNumbered(n) => misused(n),
         _ => {}
     }
@@ -145,15 +181,16 @@ fn answer(
     numbers: &[u64],
     nodes: &mut [u64],
     colours: &mut [u8],
+    was: &mut [u64],
     image: &mut [u8],
     tickets: &mut [u64],
 ) -> State {
     match c {
-        Command::Bare(b) => do_bare(s, b, nodes, colours, image),
-        Command::Ranged(r, range) => looking::ranged(s, r, range, nodes, colours),
+        Command::Bare(b) => do_bare(s, b, nodes, colours, was, image),
+        Command::Ranged(r, range) => do_ranged(s, r, range, nodes, colours, was),
         Command::Numbered(n, count) => {
             let k = least(count, numbers.len());
-            do_numbered(s, n, &numbers[..k], nodes, colours, tickets)
+            do_numbered(s, n, &numbers[..k], nodes, colours, was, tickets)
         }
         _ => {
             unknown(c);
@@ -229,13 +266,14 @@ fn one_round(
     numbers: &mut [u64],
     nodes: &mut [u64],
     colours: &mut [u8],
+    was: &mut [u64],
     image: &mut [u8],
     tickets: &mut [u64],
 ) -> Round {
     prompt();
     let got = input::read(input, place, line);
     let c = asked_by(got, line, numbers);
-    let state = answer(s, c, numbers, nodes, colours, image, tickets);
+    let state = answer(s, c, numbers, nodes, colours, was, image, tickets);
     leave(got.last);
     Round {
         state,
@@ -255,6 +293,7 @@ fn session(
     numbers: &mut [u64],
     nodes: &mut [u64],
     colours: &mut [u8],
+    was: &mut [u64],
     image: &mut [u8],
     tickets: &mut [u64],
 ) -> bool {
@@ -271,6 +310,7 @@ fn session(
             numbers,
             nodes,
             colours,
+            was,
             image,
             tickets,
         );
@@ -290,6 +330,7 @@ fn talk_with(name: &[u8], line: &mut [u8], numbers: &mut [u64]) {
     let mut input = io::buffer();
     let mut nodes = memory::node_space();
     let mut colours = memory::colour_space();
+    let mut was = memory::was_space();
     let mut image = memory::image_space();
     let mut tickets = memory::ticket_space();
     if session(
@@ -298,6 +339,7 @@ fn talk_with(name: &[u8], line: &mut [u8], numbers: &mut [u64]) {
         numbers,
         &mut nodes,
         &mut colours,
+        &mut was,
         &mut image,
         &mut tickets,
     ) {

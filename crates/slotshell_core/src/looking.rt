@@ -2,24 +2,16 @@
 // that it entered.
 use crate::command::Ranged;
 use crate::state::State;
-use iset::Bound;
 use iset::Interval;
 use iset::Map;
 use iset::Query;
-use iset::Span;
 use iset::lookup::Drain;
 use iset::lookup::Started;
 use iter::rules::Tests;
 use slotshell_draw::lookups;
+use slotshell_draw::lookups::span;
 use slotshell_draw::trace;
 use slotshell_text::Range;
-
-fn query(r: Range) -> Query {
-    Query::Overlap(Span {
-        lo: Bound::of_kind(r.lo_kind, r.lo),
-        hi: Bound::of_kind(r.hi_kind, r.hi),
-    })
-}
 
 // The state after a lookup, if it is accepted. A drain to the first hit is refused as the whole one
 // is.
@@ -36,14 +28,14 @@ fn say_ranged(m: Map, c: Ranged, r: Range, nodes: &[u64], colours: &[u8]) {
     match c {
         Ranged::Find => lookups::find(m, nodes, colours, r),
         Ranged::Trace => trace::trace(m, nodes, colours, r),
-        Ranged::Plain => lookups::plain(m, nodes, colours, r),
+        _ => lookups::plain(m, nodes, colours, r),
     }
 }
 
 pub(crate) fn ranged(s: State, c: Ranged, r: Range, nodes: &[u64], colours: &[u8]) -> State {
     let m = s.map;
     say_ranged(m, c, r, nodes, colours);
-    kept(s, query(r), nodes, colours)
+    kept(s, Query::Overlap(span(r)), nodes, colours)
 }
 
 pub(crate) fn at(s: State, address: u64, nodes: &[u64], colours: &[u8]) -> State {

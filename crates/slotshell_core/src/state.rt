@@ -1,10 +1,9 @@
 // What stays from line to line.
 use iset::Interval;
 use iset::Map;
-use iset::Pair;
-use iset::Pairs;
 use iter::rules::Tests;
 use slotshell_draw::Marks;
+use slotshell_text::refusal::say_refused;
 use words::ix::U;
 
 // The map, what a picture of it marks, how many tickets were taken, and how many bytes the saved
@@ -16,13 +15,10 @@ pub struct State {
     pub saved: usize,
 }
 
-pub(crate) fn no_pairs() -> Pairs {
-    let none = Pair { old: U, new: U };
-    Pairs {
-        first: none,
-        second: none,
-        third: none,
-    }
+// Says a refusal, which changes nothing. The slot belongs to the words of some refusals.
+pub(crate) fn refused(s: State, number: u64, slot: u64) -> State {
+    say_refused(number, slot, 0);
+    s
 }
 
 // The tests of no lookup. Nothing is tested by them.
@@ -31,10 +27,10 @@ fn no_tests() -> Tests {
 }
 
 // The marks after a change: there was no lookup yet.
-fn marks_of(pairs: Pairs, added: u64) -> Marks {
+fn marks_of(moved: bool, added: u64) -> Marks {
     let tests = no_tests();
     Marks {
-        pairs,
+        moved,
         added,
         from: U,
         tests,
@@ -44,7 +40,7 @@ fn marks_of(pairs: Pairs, added: u64) -> Marks {
 impl State {
     pub(crate) fn new() -> State {
         let map = Map::new();
-        let marks = marks_of(no_pairs(), U);
+        let marks = marks_of(false, U);
         State {
             map,
             marks,
@@ -54,8 +50,8 @@ impl State {
     }
 
     // The state after a change of the map.
-    pub(crate) fn changed(self, map: Map, pairs: Pairs, added: u64) -> State {
-        let marks = marks_of(pairs, added);
+    pub(crate) fn changed(self, map: Map, moved: bool, added: u64) -> State {
+        let marks = marks_of(moved, added);
         State {
             map,
             marks,
@@ -68,9 +64,8 @@ impl State {
     pub(crate) fn looked(self, from: u64, tests: Tests) -> State {
         let map = self.map;
         let old = self.marks;
-        let pairs = old.pairs;
         let marks = Marks {
-            pairs,
+            moved: old.moved,
             added: old.added,
             from,
             tests,

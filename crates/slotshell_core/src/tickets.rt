@@ -81,10 +81,7 @@ fn read_ticket(s: State, number: u64, t: Ticket, nodes: &[u64], colours: &[u8]) 
 }
 
 fn say_missing(number: u64, taken: u64) {
-    say(
-        b"there is no ticket %; % were taken\n",
-        &[number, taken],
-    );
+    say(b"there is no ticket %; % were taken\n", &[number, taken]);
 }
 
 // Reads through the ticket of a number, counted from 1.

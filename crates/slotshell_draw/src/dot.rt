@@ -14,10 +14,10 @@ fn say_note(note: Note) {
     }
 }
 
-fn say_node(m: Map, nodes: &[u64], bytes: &[u8], marks: Marks, slot: u64) {
+fn say_node(m: Map, nodes: &[u64], bytes: &[u8], was: &[u64], marks: Marks, slot: u64) {
     let e = nodes::entry_at(m, nodes, bytes, slot);
     let n = nodes::node_at(nodes, slot);
-    let note = marks.at(nodes, m.count, slot);
+    let note = marks.at(nodes, m.count, was, slot);
     dot::say_label(slot, e.start, e.end, e.value);
     dot::say_hull(n.low, n.high);
     say_note(note);
@@ -43,11 +43,11 @@ fn say_links(nodes: &[u64], count: u64, slot: u64) {
 }
 
 // Writes the tree as a DOT picture, with marks.
-pub fn say_dot(m: Map, nodes: &[u64], bytes: &[u8], marks: Marks) {
+pub fn say_dot(m: Map, nodes: &[u64], bytes: &[u8], was: &[u64], marks: Marks) {
     dot::say_head();
     let mut slot = 0;
     while slot < m.count {
-        say_node(m, nodes, bytes, marks, slot);
+        say_node(m, nodes, bytes, was, marks, slot);
         say_links(nodes, m.count, slot);
         slot += 1;
     }

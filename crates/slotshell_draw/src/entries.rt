@@ -1,8 +1,10 @@
 // Lists of entries.
 use crate::nodes;
+use crate::order::number_of;
 use iset::Map;
 use slotshell_text::entry;
 use slotshell_text::indent;
+use words::ix::U;
 
 // Writes the entry of a slot: `slot 4  [45,60) 5`, and a line's end.
 pub fn say_entry(m: Map, nodes: &[u64], bytes: &[u8], slot: u64) {
@@ -25,8 +27,64 @@ pub fn say_map(m: Map) {
     entry::say_map(m.count, m.root, m.version as u64);
 }
 
+// Writes the entry of a slot that will go.
+pub fn say_gone(m: Map, nodes: &[u64], bytes: &[u8], slot: u64) {
+    let e = nodes::entry_at(m, nodes, bytes, slot);
+    entry::say_gone(slot, e.start, e.end, e.value);
+}
+
 // Writes that an entry moved.
 pub fn say_moved(m: Map, nodes: &[u64], bytes: &[u8], old: u64, new: u64) {
     let e = nodes::entry_at(m, nodes, bytes, new);
     entry::say_moved(old, new, e.start, e.end, e.value);
+}
+
+fn say_if_moved(m: Map, nodes: &[u64], bytes: &[u8], was: &[u64], slot: u64) -> bool {
+    let old = number_of(was, slot);
+    if old == U {
+        return false;
+    }
+    say_moved(m, nodes, bytes, old, slot);
+    true
+}
+
+fn say_none_if(none: bool) {
+    if none {
+        entry::say_unmoved();
+    }
+}
+
+// Writes each entry that the last change moved, by its new slot, and returns whether there is one.
+pub fn say_moves(m: Map, nodes: &[u64], bytes: &[u8], was: &[u64]) -> bool {
+    let mut any = false;
+    let mut slot = 0;
+    while slot < m.count {
+        any = say_if_moved(m, nodes, bytes, was, slot) | any;
+        slot += 1;
+    }
+    say_none_if(!any);
+    any
+}
+
+fn say_if_planned(m: Map, nodes: &[u64], bytes: &[u8], old: u64, new: u64) -> bool {
+    if old == new {
+        return false;
+    }
+    let e = nodes::entry_at(m, nodes, bytes, old);
+    entry::say_planned(old, new, e.start, e.end, e.value);
+    true
+}
+
+// Writes each entry that a plan would move, by its old slot. A plan has, at the place of each slot,
+// its new one.
+pub fn say_plan(m: Map, nodes: &[u64], bytes: &[u8], plan: &[u64]) {
+    let mut any = false;
+    let mut slot = 0;
+    while slot < m.count {
+        any = say_if_planned(m, nodes, bytes, slot, number_of(plan, slot)) | any;
+        slot += 1;
+    }
+    if any {} else {
+        entry::say_idle_plan();
+    }
 }

@@ -4,6 +4,7 @@ use crate::nodes;
 use crate::numbers::minus;
 use crate::numbers::plus;
 use crate::numbers::times;
+use crate::order::slot_space;
 use iset::Bound;
 use iset::Cursor;
 use iset::Drained;
@@ -19,7 +20,8 @@ use slotshell_text::refusal::say_refused;
 use slotshell_text::work;
 use words::numbers::least;
 
-pub(crate) fn span(r: Range) -> Span {
+// A range as the calls take it.
+pub fn span(r: Range) -> Span {
     Span {
         lo: Bound::of_kind(r.lo_kind, r.lo),
         hi: Bound::of_kind(r.hi_kind, r.hi),
@@ -78,7 +80,7 @@ fn say_found(m: Map, nodes: &[u64], bytes: &[u8], range: Span, d: Drained, out: 
 // Looks a range up by a drain, and writes each hit and the work.
 pub fn find(m: Map, nodes: &[u64], bytes: &[u8], r: Range) {
     let range = span(r);
-    let mut out = nodes::slot_space();
+    let mut out = slot_space();
     match m.drain(nodes, bytes, Query::Overlap(range), m.fresh(), 0, &mut out) {
         Drain::Done(d) => say_found(m, nodes, bytes, range, d, &out),
         Drain::Refused(why) => say_refused(why.number(), 0, 0),
@@ -92,7 +94,7 @@ fn say_equals(m: Map, nodes: &[u64], bytes: &[u8], d: Drained, out: &[u64]) {
 }
 
 fn exact_from(m: Map, nodes: &[u64], bytes: &[u8], x: Interval, c: Cursor) {
-    let mut out = nodes::slot_space();
+    let mut out = slot_space();
     match m.drain(nodes, bytes, Query::Exact(x), c, 0, &mut out) {
         Drain::Done(d) => say_equals(m, nodes, bytes, d, &out),
         Drain::Refused(why) => say_refused(why.number(), 0, 0),
@@ -110,7 +112,7 @@ pub fn exact(m: Map, nodes: &[u64], bytes: &[u8], start: u64, end: u64) {
 
 // How many nodes a drain enters.
 fn entered_by_drain(m: Map, nodes: &[u64], bytes: &[u8], query: Query) -> u64 {
-    let mut out = nodes::slot_space();
+    let mut out = slot_space();
     match m.drain(nodes, bytes, query, m.fresh(), 0, &mut out) {
         Drain::Done(d) => d.entered,
         Drain::Refused(_) => 0,
@@ -119,7 +121,7 @@ fn entered_by_drain(m: Map, nodes: &[u64], bytes: &[u8], query: Query) -> u64 {
 
 // How many nodes the fast lookup enters.
 fn entered_by_find_all(m: Map, nodes: &[u64], bytes: &[u8], query: Query) -> u64 {
-    let mut out = nodes::slot_space();
+    let mut out = slot_space();
     match m.find_all(nodes, bytes, query, &mut out) {
         Looked::Done(t) => t.entered,
         Looked::Refused(_) => 0,
@@ -145,7 +147,7 @@ fn say_plain(
 // Looks a range up without pruning, and compares the work.
 pub fn plain(m: Map, nodes: &[u64], bytes: &[u8], r: Range) {
     let query = Query::Overlap(span(r));
-    let mut out = nodes::slot_space();
+    let mut out = slot_space();
     match m.plain(nodes, bytes, query, &mut out) {
         Looked::Done(t) => say_plain(m, nodes, bytes, query, t.hits, t.entered, &out),
         Looked::Refused(why) => say_refused(why.number(), 0, 0),

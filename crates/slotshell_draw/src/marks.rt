@@ -1,20 +1,21 @@
 // What a picture marks: the entries that the last change moved or added, and the nodes that a
 // lookup after it entered.
 use crate::nodes;
+use crate::order::number_of;
 use iter::rules::Tests;
 use iter::rules::goes_exact;
 use iter::rules::goes_overlap;
 use words::ix::U;
 use words::node::slots_in;
-use words::pair::Pairs;
 ghost use Prim.Native.Nat.{_<_};
 ghost use mathlib.Core.Bool.{false};
 ghost use Rattle.words.specs.Layouts.{HoldsIn};
 
-// The pairs of the last removal, the slot of the last insertion, or U, and the last lookup: where
-// its walk starts, or U if there was none, and its tests.
+// Whether the last change moved an entry, the slot of the entry that it added, or U, and the last
+// lookup: where its walk starts, or U if there was none, and its tests. Which entries moved is in a
+// list beside it (moved).
 pub struct Marks {
-    pub pairs: Pairs,
+    pub moved: bool,
     pub added: u64,
     pub from: u64,
     pub tests: Tests,
@@ -73,29 +74,11 @@ pub(crate) fn is_entered(nodes: &[u64], count: u64, from: u64, tests: Tests, slo
     false
 }
 
-// The old slot of the entry that a removal moved to a slot, or U.
-fn old_slot(p: Pairs, slot: u64) -> u64 {
-    let first = p.first;
-    let second = p.second;
-    let third = p.third;
-    if first.new == slot {
-        return first.old;
-    }
-    if second.new == slot {
-        return second.old;
-    }
-    if third.new == slot {
-        return third.old;
-    }
-    U
-}
-
 impl Marks {
-    pub(crate) fn at(self, nodes: &[u64], count: u64, slot: u64) -> Note {
-        let pairs = self.pairs;
+    pub(crate) fn at(self, nodes: &[u64], count: u64, was: &[u64], slot: u64) -> Note {
         let tests = self.tests;
         Note {
-            old: old_slot(pairs, slot),
+            old: number_of(was, slot),
             is_new: self.added == slot,
             entered: is_entered(nodes, count, self.from, tests, slot),
         }
@@ -103,9 +86,7 @@ impl Marks {
 
     // Whether anything is marked that a change did.
     pub(crate) fn has_change(self) -> bool {
-        let pairs = self.pairs;
-        let first = pairs.first;
-        (first.new != U) | (self.added != U)
+        self.moved | (self.added != U)
     }
 
     pub(crate) fn has_lookup(self) -> bool {

@@ -2,12 +2,8 @@
 // node without links.
 use crate::numbers::plus;
 use bitvec::colours;
-use iset::Bound;
 use iset::Entry;
 use iset::Map;
-use iset::Query;
-use iset::Span;
-use iset::scan::Looked;
 use iset::ticket::Reading;
 use words::interval::larger;
 use words::ix::U;
@@ -15,10 +11,6 @@ use words::node::child_of;
 use words::node::hull_at;
 use words::node::parent_of;
 use words::node::slots_in;
-use words::numbers::least;
-ghost use mathlib.Core.Path.{_≡_};
-ghost use Prim.Native.Nat.{_≤_};
-ghost use lib.ListN.{length};
 
 // How far up the links are followed. No tree of the map is higher.
 pub const HIGHEST: u64 = 32;
@@ -89,32 +81,6 @@ pub(crate) fn entry_at(m: Map, nodes: &[u64], bytes: &[u8], slot: u64) -> Entry 
             end: 0,
             value: 0,
         },
-    }
-}
-
-// Room for a slot of each entry.
-pub(crate) fn slot_space() -> [u64; 256]
-    ensures { λ r. ⌜ 256 ≡ length r ⌝ }
-{
-    [0; 256]
-}
-
-// The query for every entry.
-fn everything() -> Query {
-    Query::Overlap(Span {
-        lo: Bound::Unbounded,
-        hi: Bound::Unbounded,
-    })
-}
-
-// Writes the slots of all entries in tree order, as a plain lookup finds them, and returns how many
-// there are.
-pub(crate) fn in_order(m: Map, nodes: &[u64], bytes: &[u8], out: &mut [u64]) -> usize
-    ensures { λ r. ⌜ r ≤ length (now (out .exit)) ⌝ }
-{
-    match m.plain(nodes, bytes, everything(), out) {
-        Looked::Done(t) => least(t.hits as usize, out.len()),
-        Looked::Refused(_) => 0,
     }
 }
 

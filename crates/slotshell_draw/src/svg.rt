@@ -3,11 +3,14 @@
 // places apart, and a place is half a box wide.
 use crate::marks::Marks;
 use crate::marks::Note;
+use crate::measures::longest_address;
+use crate::measures::longest_value;
 use crate::nodes;
-use crate::numbers::digits;
 use crate::numbers::minus;
 use crate::numbers::plus;
 use crate::numbers::times;
+use crate::order;
+use crate::order::place_in;
 use iset::Entry;
 use iset::Map;
 use slotshell_text::svg;
@@ -29,36 +32,6 @@ struct Sheet {
     long: bool,
     changed: bool,
     looked: bool,
-}
-
-// How many letters the longest number has.
-fn with_slot(longest: u64, m: Map, nodes: &[u64], bytes: &[u8], slot: u64) -> u64 {
-    let e = nodes::entry_at(m, nodes, bytes, slot);
-    let n = nodes::node_at(nodes, slot);
-    let own = larger(digits(e.start), digits(e.end));
-    let hull = larger(digits(n.low), digits(n.high));
-    larger(longest, larger(own, hull))
-}
-
-fn longest_address(m: Map, nodes: &[u64], bytes: &[u8]) -> u64 {
-    let mut longest = 1;
-    let mut slot = 0;
-    while slot < m.count {
-        longest = with_slot(longest, m, nodes, bytes, slot);
-        slot += 1;
-    }
-    longest
-}
-
-fn longest_value(m: Map, nodes: &[u64], bytes: &[u8]) -> u64 {
-    let mut longest = 1;
-    let mut slot = 0;
-    while slot < m.count {
-        let e = nodes::entry_at(m, nodes, bytes, slot);
-        longest = larger(longest, digits(e.value));
-        slot += 1;
-    }
-    longest
 }
 
 // How wide a box is: for the letters of a range, of a value, of a hull and of `was slot 255`.
@@ -110,14 +83,7 @@ fn down(s: Sheet, depth: u64) -> u64 {
 
 // The place of a slot in tree order.
 fn place_of(order: &[u64], slot: u64) -> u64 {
-    let mut i = 0;
-    while i < order.len() {
-        if order[i] == slot {
-            return i as u64;
-        }
-        i += 1;
-    }
-    0
+    place_in(order, slot) as u64
 }
 
 // Writes what the borders mean, below the rows.
@@ -195,11 +161,20 @@ fn say_entry(long: bool, x: u64, y: u64, e: Entry) -> u64 {
     plus(value, 15)
 }
 
-fn say_node(s: Sheet, m: Map, nodes: &[u64], bytes: &[u8], marks: Marks, order: &[u64], slot: u64) {
+fn say_node(
+    s: Sheet,
+    m: Map,
+    nodes: &[u64],
+    bytes: &[u8],
+    was: &[u64],
+    marks: Marks,
+    order: &[u64],
+    slot: u64,
+) {
     let x = across(s, place_of(order, slot));
     let y = down(s, nodes::depth(nodes, m.count, slot));
     let left = minus(x, s.width / 2);
-    let note = marks.at(nodes, m.count, slot);
+    let note = marks.at(nodes, m.count, was, slot);
     svg::say_box(nodes::is_red(bytes, slot), left, y, s.width, s.height);
     say_borders(s, left, y, note);
     svg::say_slot(x, plus(y, 18), slot);
@@ -218,10 +193,18 @@ fn say_edges(s: Sheet, nodes: &[u64], count: u64, order: &[u64]) {
     }
 }
 
-fn say_nodes(s: Sheet, m: Map, nodes: &[u64], bytes: &[u8], marks: Marks, order: &[u64]) {
+fn say_nodes(
+    s: Sheet,
+    m: Map,
+    nodes: &[u64],
+    bytes: &[u8],
+    was: &[u64],
+    marks: Marks,
+    order: &[u64],
+) {
     let mut slot = 0;
     while slot < m.count {
-        say_node(s, m, nodes, bytes, marks, order, slot);
+        say_node(s, m, nodes, bytes, was, marks, order, slot);
         slot += 1;
     }
 }
@@ -243,19 +226,27 @@ fn say_head(s: Sheet, m: Map, n: u64, bottom: u64) {
     );
 }
 
-fn say_picture(s: Sheet, m: Map, nodes: &[u64], bytes: &[u8], marks: Marks, order: &[u64]) {
+fn say_picture(
+    s: Sheet,
+    m: Map,
+    nodes: &[u64],
+    bytes: &[u8],
+    was: &[u64],
+    marks: Marks,
+    order: &[u64],
+) {
     let bottom = down(s, nodes::height(nodes, m.count));
     say_head(s, m, order.len() as u64, bottom);
     say_edges(s, nodes, m.count, order);
-    say_nodes(s, m, nodes, bytes, marks, order);
+    say_nodes(s, m, nodes, bytes, was, marks, order);
     say_legend(s, bottom);
     svg::say_end();
 }
 
 // Writes the tree as an SVG picture, with marks.
-pub fn say_svg(m: Map, nodes: &[u64], bytes: &[u8], marks: Marks) {
+pub fn say_svg(m: Map, nodes: &[u64], bytes: &[u8], was: &[u64], marks: Marks) {
     let s = sheet_of(m, nodes, bytes, marks);
-    let mut order = nodes::slot_space();
-    let n = nodes::in_order(m, nodes, bytes, &mut order);
-    say_picture(s, m, nodes, bytes, marks, &order[..n]);
+    let mut order = order::slot_space();
+    let n = order::in_order(m, nodes, bytes, &mut order);
+    say_picture(s, m, nodes, bytes, was, marks, &order[..n]);
 }

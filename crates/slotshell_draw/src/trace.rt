@@ -1,6 +1,6 @@
 // The walk of a lookup, one line a node.
 use crate::lookups::span;
-use crate::nodes;
+use crate::order::slot_space;
 use crate::walk;
 use iset::Map;
 use iset::Query;
@@ -13,7 +13,7 @@ use slotshell_text::refusal::say_refused;
 // enter, with the rule that shuts it out.
 pub fn trace(m: Map, nodes: &[u64], bytes: &[u8], r: Range) {
     let range = span(r);
-    let mut out = nodes::slot_space();
+    let mut out = slot_space();
     match m.drain(nodes, bytes, Query::Overlap(range), m.fresh(), 0, &mut out) {
         Drain::Done(d) => walk::say_walk(
             m,

@@ -5,15 +5,17 @@ fn say_changes() {
     send(b"build START END VALUE ..   a new map of these entries, sorted\n");
     send(b"insert START END VALUE     one entry more\n");
     send(b"remove SLOT                one entry less; other entries may move\n");
+    send(b"unload RANGE               removes the entries that meet the range\n");
+    send(b"plan, tidy                 numbers the slots in tree order: shows it, does it\n");
+    send(b"renumber NEW NEW ..        numbers the slots by a plan: NEW for slot 0, 1 ..\n");
     send(b"save, load                 the map as an image, and back from it\n");
-    // `unload RANGE` and `tidy` come here.
 }
 
 fn say_pictures() {
     send(b"tree                       the tree in text\n");
     send(b"slots                      a table of the slots\n");
     send(b"svg, dot                   the tree as an SVG or a DOT picture\n");
-    send(b"check, disjoint            is the store sound; do no two ranges overlap\n");
+    send(b"check                      is the store sound\n");
 }
 
 fn say_lookups() {
@@ -28,6 +30,9 @@ pub fn say_all() {
     say_changes();
     say_pictures();
     say_lookups();
+    send(b"disjoint                   do no two ranges overlap; if so:\n");
+    send(b"point ADDRESS              the one entry that holds it, by one way down\n");
+    send(b"fit START END VALUE        one entry more, if it overlaps no other\n");
     send(b"help, quit\n");
     send(b"A RANGE is [20,25), (20,25], [20,..) or the like, or .. for everything.\n");
 }
@@ -41,7 +46,10 @@ fn say_other_usage(command: u64) {
         4 => send(b"usage: exact START END, as in: exact 10 20\n"),
         5 => send(b"usage: ticket SLOT, as in: ticket 4\n"),
         6 => send(b"usage: read TICKET, as in: read 1\n"),
-        _ => send(b"usage: find, trace or plain, and a range, as in: find [20,25)\n"),
+        7 => send(b"usage: renumber NEW NEW .., as in: renumber 1 0\n"),
+        8 => send(b"usage: point ADDRESS, as in: point 20\n"),
+        9 => send(b"usage: fit START END VALUE, as in: fit 10 20 7\n"),
+        _ => send(b"usage: find, trace, plain or unload, and a range, as in: find [20,25)\n"),
     }
 }
 

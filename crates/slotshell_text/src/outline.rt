@@ -10,18 +10,18 @@ pub fn say_empty() {
 // The line of an upper node, if it goes past here.
 pub fn say_bar(bar: bool) {
     if bar {
-        send(b"|   ");
+        send(b"|  ");
     } else {
-        send(b"    ");
+        send(b"   ");
     }
 }
 
 // The corner at a node: its parent is drawn below it or above it.
 pub fn say_corner(left_side: bool) {
     if left_side {
-        send(b".-- ");
+        send(b".- ");
     } else {
-        send(b"'-- ");
+        send(b"'- ");
     }
 }
 
