@@ -19,9 +19,9 @@ from model import END, HI, LEFT, LO, PARENT, RIGHT, START, U, VALUE
 
 TOP = pathlib.Path(__file__).resolve().parent.parent
 MOST, LONGEST = 256, 32768
-BARE = ('tree', 'slots', 'svg', 'dot', 'check', 'disjoint', 'save', 'load', 'help', 'quit')
-RANGED = ('find', 'trace', 'plain')
-COUNTS = {'build': None, 'insert': 3, 'remove': 1, 'at': 1, 'exact': 2, 'ticket': 1, 'read': 1}
+BARE = ('tree', 'slots', 'svg', 'dot', 'check', 'disjoint', 'save', 'load', 'plan', 'tidy', 'help', 'quit')
+RANGED = ('find', 'trace', 'plain', 'unload')
+COUNTS = {'build': None, 'insert': 3, 'remove': 1, 'at': 1, 'exact': 2, 'ticket': 1, 'read': 1, 'renumber': None, 'point': 1, 'fit': 3}
 USAGE = {
     'build': 'build START END VALUE .., as in: build 10 20 1  10 30 2',
     'insert': 'insert START END VALUE, as in: insert 10 20 7',
@@ -30,17 +30,22 @@ USAGE = {
     'exact': 'exact START END, as in: exact 10 20',
     'ticket': 'ticket SLOT, as in: ticket 4',
     'read': 'read TICKET, as in: read 1',
+    'renumber': 'renumber NEW NEW .., as in: renumber 1 0',
+    'point': 'point ADDRESS, as in: point 20',
+    'fit': 'fit START END VALUE, as in: fit 10 20 7',
 }
 REFUSED = {
     1: 'no room, the shell keeps 256 at most (NoRoom, 1)',
     3: 'no entry in slot %d (NoSuch, 3)',
     4: 'the range is empty, or ends before it begins (BadRange, 4)',
-    5: 'a range starts below its end (BadInterval, 5)',
+    5: 'the start is not below the end (BadInterval, 5)',
     6: 'the list is not sorted by start, then by end (NotSorted, 6)',
-    8: 'a list is made of start, end, value, start, end, value .. (BadList, 8)',
+    8: 'the list is not made of threes: start, end, value (BadList, 8)',
     11: 'stale: taken at version %d, the map is at %d (Stale, 11)',
     12: 'no image was saved (BadImage, 12)',
+    13: 'it overlaps the entry in slot %d (Overlap, 13)',
     14: 'two ranges overlap (NotDisjoint, 14)',
+    15: 'the plan does not name each slot once (BadPlan, 15)',
 }
 BLANK = b' \t\r'
 BOUND = rb'[ \t\r]*(\.\.|[0-9]+)[ \t\r]*'
@@ -150,9 +155,15 @@ class Shell:
 
     def insert(self, start, end, value):
         self.s.reach = 0
-        no, _, _, slot = map(int, model.insert(self.s, start, end, value).split())
+        self.inserted(*map(int, model.insert(self.s, start, end, value).split()))
+
+    def fit(self, start, end, value):
+        self.s.reach = 0
+        self.inserted(*map(int, model.insert_disjoint(self.s, start, end, value).split()))
+
+    def inserted(self, no, _, __, slot):
         if no:
-            return self.refuse(no)
+            return self.refuse(no, *[slot][:no == 13])
         self.changed({}, slot)
         self.say('inserted: slot %d  ' % slot + self.entry(slot))
         self.change()
@@ -170,6 +181,67 @@ class Shell:
             self.say('moved: nothing')
         self.changed({new: old for old, new in pairs})
         self.change()
+
+    def order(self):
+        return [slot for slot, _ in self.depths()]
+
+    def moves(self, before):
+        """Says which entries are in other slots than those of the list, which is in tree order."""
+        pairs = [(old, new) for old, new in zip(before, self.order()) if old != new]
+        for old, new in pairs:
+            self.say('moved: slot %d -> %d  ' % (old, new) + self.entry(new))
+        if not pairs:
+            self.say('moved: nothing')
+        self.changed({new: old for old, new in pairs})
+
+    def unload(self, *bounds):
+        """Removes the first hit, over and over; those that stay keep their order."""
+        q = ('o',) + bounds
+        no, gone, _, _ = model.lookup(self.s, q, (model.first(self.s, q), 1, 0), 0)
+        if no:
+            return self.refuse(no)
+        for slot in gone:
+            self.say('gone: slot %d  ' % slot + self.entry(slot))
+        before = [slot for slot in self.order() if slot not in gone]
+        for _ in gone:
+            model.remove(self.s, [slot for slot in self.order() if model.hit(self.s, q, slot)][0])
+        self.moves(before)
+        self.say('unloaded %d, version %d', len(gone), self.s.version)
+
+    def plan(self):
+        moves = [(old, new) for new, old in enumerate(self.order()) if old != new]
+        for old, new in moves:
+            self.say('would move: slot %d -> %d  ' % (old, new) + self.entry(old))
+        if not moves:
+            self.say('would move: nothing')
+
+    def tidy(self):
+        order = self.order()
+        self.renumber(*map(order.index, range(self.s.count)))
+
+    def renumber(self, *plan):
+        if sorted(plan) != list(range(self.s.count)):
+            return self.refuse(15)
+        before, new = self.order(), dict(enumerate(plan))
+        old, reds = self.s.copy(), [self.s.red(slot) for slot in new]
+        for slot in new:
+            words = [old.get(slot, k) for k in range(8)]
+            for k in (LEFT, RIGHT, PARENT):
+                words[k] = new.get(words[k], U)
+            for k, word in enumerate(words):
+                self.s.set(new[slot], k, word)
+            self.s.paint(new[slot], reds[slot])
+        self.s.root = new.get(old.root, U)
+        self.s.version = (old.version + 1) % 2**32
+        self.moves(before)
+        self.say('version %d', self.s.version)
+
+    def point(self, address):
+        no, slot, entered = map(int, model.point(self.s, address).split())
+        if no:
+            return self.refuse(no)
+        self.hits([slot][:slot != U])
+        self.say('hits %d, nodes entered %d', slot != U, entered)
 
     def save(self):
         self.image = model.image_of(self.s)
@@ -285,16 +357,33 @@ class Shell:
 
     # pictures
 
+    def changes(self):
+        return bool(self.moved) or self.added is not None
+
+    def lookups(self):
+        return self.look is not None and model.first(self.s, self.look) != U
+
+    def digits(self):
+        """How many digits the longest address and the longest value have."""
+        addresses = [len(str(self.s.get(k, w))) for k in range(self.s.count) for w in (START, END, LO, HI)]
+        return max(addresses + [1]), max([len(str(self.s.get(k, VALUE))) for k in range(self.s.count)] + [1])
+
     def tree(self):
-        entered = self.entered()
-        if not self.s.count:
+        entered, order = self.entered(), self.depths()
+        if not order:
             self.say('no entries')
-        for slot, way in self.depths():
-            bars = ''.join('|   ' if a != b else '    ' for a, b in zip(way, way[1:]))
-            corner = ('.-- ' if way[-1] == LEFT else "'-- ") if way else ''
-            colour = 'red  ' if self.s.red(slot) else 'black'
-            marks = ''.join('  ' + note for note in (self.note(slot), 'entered' if slot in entered else '') if note)
-            self.say('%s', '%s%s%d %s %s  hull %s%s' % (bars, corner, slot, colour, self.entry(slot), self.hull(slot), marks))
+        marks = self.changes() * (11 + len(str(self.s.count))) + self.lookups() * 9
+        widest = 3 * max([len(way) for _, way in order] + [0]) + len(str(self.s.count)) + 4 * self.digits()[0] + self.digits()[1] + 21 + marks
+        for slot, way in order:
+            bars = ''.join('|  ' if a != b else '   ' for a, b in zip(way, way[1:]))
+            corner = ('.- ' if way[-1] == LEFT else "'- ") if way else ''
+            line = '%s%s%d %s %s' % (bars, corner, slot, 'red  ' if self.s.red(slot) else 'black', self.entry(slot))
+            if widest > 100:
+                down = [way[-1] == LEFT] if way else []
+                self.say('%s', line)
+                line = bars + ''.join('|  ' if bar else '   ' for bar in down + [self.s.get(slot, RIGHT) != U])
+            notes = ''.join('  ' + note for note in (self.note(slot), 'entered' if slot in entered else '') if note)
+            self.say('%s', line + '  hull ' + self.hull(slot) + notes)
 
     def slots(self):
         rows = [['slot', 'start', 'end', 'value', 'colour', 'hull', 'left', 'right', 'parent']]
@@ -324,22 +413,23 @@ class Shell:
                     if k == U:
                         self.say('  %s [style=invis];' % name)
                     self.say('  s%d -> %s;' % (slot, 's%d' % k if k != U else name + ' [style=invis]'))
+                    if side == LEFT:
+                        self.say('  s%dmiddle [style=invis, label="", width=0.1];' % slot)
+                        self.say('  s%d -> s%dmiddle [style=invis, weight=9];' % (slot, slot))
         self.say('}')
 
     def svg(self):
         order, entered = self.depths(), self.entered()
-        addresses = [len(str(self.s.get(k, w))) for k in range(self.s.count) for w in (START, END, LO, HI)]
-        values = [len(str(self.s.get(k, VALUE))) for k in range(self.s.count)]
-        a, v = max(addresses + [1]), max(values + [1])
+        a, v = self.digits()
         long = a > 8
         width = (max(a, v) + 6) * 8 + 16 if long else max((2 * a + 3) * 8, (2 * a + 8) * 6, (v + 6) * 8, 80) + 16
-        change, looked = bool(self.moved) or self.added is not None, self.look is not None and model.first(self.s, self.look) != U
-        height = 72 + 29 * long + 14 * change + 14 * looked
+        change, looked = self.changes(), self.lookups()
+        height = 76 + 29 * long + 14 * change + 14 * looked
         place = (width + 24) // 2
         centre = {slot: 24 + width // 2 + i * place for i, (slot, _) in enumerate(order)}
         top = {slot: 56 + len(way) * (height + 44) for slot, way in order}
         bottom = 56 + max([len(way) + 1 for _, way in order] + [0]) * (height + 44)
-        size = max(len(order) * place + width + 24, 400), bottom + 18 * change + 18 * looked
+        size = max(max(len(order) - 1, 0) * place + width + 48, 400), bottom + 18 * change + 18 * looked
         self.say('%s', "<svg xmlns='http://www.w3.org/2000/svg' width='%d' height='%d' viewBox='0 0 %d %d'>" % (size + size))
         self.say('%s', STYLE)
         self.say('%s', "<rect width='%d' height='%d' fill='#fff'/>" % size)
@@ -418,7 +508,7 @@ class Shell:
             if bounds:
                 getattr(self, name)(*bounds)
             else:
-                self.say('usage: find, trace or plain, and a range, as in: find [20,25)')
+                self.say('usage: find, trace, plain or unload, and a range, as in: find [20,25)')
         elif name in COUNTS:
             numbers = numbers_of(rest)
             if numbers is None or COUNTS[name] not in (None, len(numbers)):
@@ -447,16 +537,22 @@ HELP = """\
 build START END VALUE ..   a new map of these entries, sorted
 insert START END VALUE     one entry more
 remove SLOT                one entry less; other entries may move
+unload RANGE               removes the entries that meet the range
+plan, tidy                 numbers the slots in tree order: shows it, does it
+renumber NEW NEW ..        numbers the slots by a plan: NEW for slot 0, 1 ..
 save, load                 the map as an image, and back from it
 tree                       the tree in text
 slots                      a table of the slots
 svg, dot                   the tree as an SVG or a DOT picture
-check, disjoint            is the store sound; do no two ranges overlap
+check                      is the store sound
 find RANGE, at ADDRESS     the entries that meet the range, and the work
 trace RANGE                that walk, node by node
 plain RANGE                the same without pruning
 exact START END            the entries equal to [START,END)
 ticket SLOT, read TICKET   a ticket, and the entry through it
+disjoint                   do no two ranges overlap; if so:
+point ADDRESS              the one entry that holds it, by one way down
+fit START END VALUE        one entry more, if it overlaps no other
 help, quit
 A RANGE is [20,25), (20,25], [20,..) or the like, or .. for everything."""
 

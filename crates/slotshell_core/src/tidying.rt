@@ -13,11 +13,17 @@ use slotshell_text::say;
 use words::ix::U;
 use words::numbers::least;
 
+fn say_plan(m: Map, nodes: &[u64], colours: &[u8], plan: &[u64]) {
+    let mut order = slot_space();
+    let n = in_order(m, nodes, colours, &mut order);
+    entries::say_plan(m, nodes, colours, plan, &order[..n]);
+}
+
 // Shows the plan that `propose` makes, and changes nothing.
 pub(crate) fn plan(m: Map, nodes: &[u64], colours: &[u8]) {
     let mut plan = slot_space();
     match m.propose(nodes, colours, &mut plan) {
-        Checked::Sound => entries::say_plan(m, nodes, colours, &plan),
+        Checked::Sound => say_plan(m, nodes, colours, &plan),
         Checked::Refused(why) => say_refused(why.number(), 0, 0),
     }
 }
@@ -35,7 +41,7 @@ fn renumbered(
     let mut after = slot_space();
     let n = in_order(map, nodes, colours, &mut after);
     moved::put_moves(was, before, &[], &after[..n]);
-    let any = entries::say_moves(map, nodes, colours, was);
+    let any = entries::say_moves(map, nodes, colours, was, &after[..n]);
     say(b"version %\n", &[map.version as u64]);
     s.changed(map, any, U)
 }

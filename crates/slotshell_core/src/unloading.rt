@@ -31,7 +31,7 @@ fn unloaded(
     let mut after = slot_space();
     let n = in_order(map, nodes, colours, &mut after);
     moved::put_moves(was, before, gone, &after[..n]);
-    let any = entries::say_moves(map, nodes, colours, was);
+    let any = entries::say_moves(map, nodes, colours, was, &after[..n]);
     say(b"unloaded %, version %\n", &[a.gone, map.version as u64]);
     s.changed(map, any, U)
 }

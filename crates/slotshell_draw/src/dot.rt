@@ -38,6 +38,7 @@ fn say_links(nodes: &[u64], count: u64, slot: u64) {
     let n = nodes::node_at(nodes, slot);
     if (n.left < count) | (n.right < count) {
         say_link(nodes, count, slot, true);
+        dot::say_middle(slot);
         say_link(nodes, count, slot, false);
     }
 }

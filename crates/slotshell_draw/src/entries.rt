@@ -54,19 +54,20 @@ fn say_none_if(none: bool) {
     }
 }
 
-// Writes each entry that the last change moved, by its new slot, and returns whether there is one.
-pub fn say_moves(m: Map, nodes: &[u64], bytes: &[u8], was: &[u64]) -> bool {
+// Writes each entry that the last change moved, in tree order, and returns whether there is one.
+pub fn say_moves(m: Map, nodes: &[u64], bytes: &[u8], was: &[u64], order: &[u64]) -> bool {
     let mut any = false;
-    let mut slot = 0;
-    while slot < m.count {
-        any = say_if_moved(m, nodes, bytes, was, slot) | any;
-        slot += 1;
+    let mut i = 0;
+    while i < order.len() {
+        any = say_if_moved(m, nodes, bytes, was, order[i]) | any;
+        i += 1;
     }
     say_none_if(!any);
     any
 }
 
-fn say_if_planned(m: Map, nodes: &[u64], bytes: &[u8], old: u64, new: u64) -> bool {
+fn say_if_planned(m: Map, nodes: &[u64], bytes: &[u8], plan: &[u64], old: u64) -> bool {
+    let new = number_of(plan, old);
     if old == new {
         return false;
     }
@@ -75,16 +76,17 @@ fn say_if_planned(m: Map, nodes: &[u64], bytes: &[u8], old: u64, new: u64) -> bo
     true
 }
 
-// Writes each entry that a plan would move, by its old slot. A plan has, at the place of each slot,
+// Writes each entry that a plan would move, in tree order. A plan has, at the place of each slot,
 // its new one.
-pub fn say_plan(m: Map, nodes: &[u64], bytes: &[u8], plan: &[u64]) {
+pub fn say_plan(m: Map, nodes: &[u64], bytes: &[u8], plan: &[u64], order: &[u64]) {
     let mut any = false;
-    let mut slot = 0;
-    while slot < m.count {
-        any = say_if_planned(m, nodes, bytes, slot, number_of(plan, slot)) | any;
-        slot += 1;
+    let mut i = 0;
+    while i < order.len() {
+        any = say_if_planned(m, nodes, bytes, plan, order[i]) | any;
+        i += 1;
     }
-    if any {} else {
-        entry::say_idle_plan();
+    if any {
+        return;
     }
+    entry::say_idle_plan();
 }

@@ -50,7 +50,7 @@ fn line_height(there: bool, height: u64) -> u64 {
 }
 
 fn box_height(long: bool, changed: bool, looked: bool) -> u64 {
-    let lines = plus(line_height(long, 29), 72);
+    let lines = plus(line_height(long, 29), 76);
     let change = plus(lines, line_height(changed, 14));
     plus(change, line_height(looked, 14))
 }
@@ -211,7 +211,10 @@ fn say_nodes(
 
 // How wide the picture is: at least as wide as its legend.
 fn width_of(s: Sheet, n: u64) -> u64 {
-    larger(plus(times(n, s.place), plus(s.width, MARGIN)), 400)
+    larger(
+        plus(times(minus(n, 1), s.place), plus(s.width, 2 * MARGIN)),
+        400,
+    )
 }
 
 fn say_head(s: Sheet, m: Map, n: u64, bottom: u64) {

@@ -1,5 +1,5 @@
-// The pieces of a DOT picture. A missing child is a node that is not drawn, so that a lone child
-// is drawn on its own side.
+// The pieces of a DOT picture. A missing child is a node that is not drawn, and another one is right
+// below its parent, so that a child is drawn on its own side.
 use crate::note;
 use crate::say;
 use lines::output::send;
@@ -70,6 +70,18 @@ pub fn say_gap(slot: u64, left_side: bool) {
     say_side(left_side);
     say(b"  s% -> s%", &[slot, slot]);
     say_side(left_side);
+}
+
+// The node right below a parent, between its children.
+pub fn say_middle(slot: u64) {
+    say(
+        b"  s%middle [style=invis, label=\"\", width=0.1];\n",
+        &[slot],
+    );
+    say(
+        b"  s% -> s%middle [style=invis, weight=9];\n",
+        &[slot, slot],
+    );
 }
 
 pub fn say_end() {

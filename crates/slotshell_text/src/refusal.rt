@@ -14,7 +14,7 @@ fn say_later(number: u64, a: u64, b: u64) {
             &[a],
         ),
         14 => send(b"refused: two ranges overlap (NotDisjoint, 14)\n"),
-        15 => send(b"refused: the plan does not fit the map (BadPlan, 15)\n"),
+        15 => send(b"refused: the plan does not name each slot once (BadPlan, 15)\n"),
         _ => say(b"refused: (%)\n", &[number]),
     }
 }
@@ -23,9 +23,7 @@ fn say_list(number: u64, a: u64, b: u64) {
     match number {
         6 => send(b"refused: the list is not sorted by start, then by end (NotSorted, 6)\n"),
         7 => send(b"refused: the cursor does not fit the map (BadCursor, 7)\n"),
-        8 => send(
-            b"refused: a list is made of start, end, value, start, end, value .. (BadList, 8)\n",
-        ),
+        8 => send(b"refused: the list is not made of threes: start, end, value (BadList, 8)\n"),
         9 => send(b"refused: the output is too short (ShortOutput, 9)\n"),
         10 => send(b"refused: there is no such bit (BadBit, 10)\n"),
         _ => say_later(number, a, b),
@@ -40,7 +38,7 @@ pub fn say_refused(number: u64, a: u64, b: u64) {
         2 => send(b"refused: the store does not pass the check (Broken, 2)\n"),
         3 => say(b"refused: no entry in slot % (NoSuch, 3)\n", &[a]),
         4 => send(b"refused: the range is empty, or ends before it begins (BadRange, 4)\n"),
-        5 => send(b"refused: a range starts below its end (BadInterval, 5)\n"),
+        5 => send(b"refused: the start is not below the end (BadInterval, 5)\n"),
         _ => say_list(number, a, b),
     }
 }

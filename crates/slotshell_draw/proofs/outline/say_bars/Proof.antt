@@ -1,7 +1,7 @@
 use Prim.Native.Nat.{_≤_, _-_}
 use native.Mathlib.Omega.{arith}
-use Rattle.slotshell_draw.proofs.outline.say_way.Statement.{statement}
-use Rattle.slotshell_draw.proofs.outline.say_way.Tie as tie
+use Rattle.slotshell_draw.proofs.outline.say_bars.Statement.{statement}
+use Rattle.slotshell_draw.proofs.outline.say_bars.Tie as tie
 
 abbrev Inv-loop : tie.InvT-loop
 Inv-loop nodes slot depth left₀ left = 0 ≤ left
@@ -9,8 +9,8 @@ Inv-loop nodes slot depth left₀ left = 0 ≤ left
 abbrev μ-loop : tie.MeasureT-loop
 μ-loop nodes slot depth left₀ left = left
 
-pub say-way-spec : {M : Type 1} → statement M
-say-way-spec =
+pub say-bars-spec : {M : Type 1} → statement M
+say-bars-spec =
     tie.close
     (tie.spec
     Inv-loop

@@ -1,17 +1,17 @@
 use Prim.Native.Nat.{_≤_, _-_}
 use lib.ListN.{length}
 use native.Mathlib.Omega.{arith}
-use Rattle.slotshell_draw.proofs.svg.place_of.Statement.{statement}
-use Rattle.slotshell_draw.proofs.svg.place_of.Tie as tie
+use Rattle.slotshell_draw.proofs.order.place_in.Statement.{statement}
+use Rattle.slotshell_draw.proofs.order.place_in.Tie as tie
 
 abbrev Inv-loop : tie.InvT-loop
-Inv-loop order slot i₀ i = 0 ≤ i
+Inv-loop list slot i₀ i = 0 ≤ i
 
 abbrev μ-loop : tie.MeasureT-loop
-μ-loop order slot i₀ i = length order - i
+μ-loop list slot i₀ i = length list - i
 
-pub place-of-spec : {M : Type 1} → statement M
-place-of-spec =
+pub place-in-spec : {M : Type 1} → statement M
+place-in-spec =
     tie.close
     (tie.spec
     Inv-loop
