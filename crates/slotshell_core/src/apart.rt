@@ -1,5 +1,6 @@
 // The commands about maps in which no two ranges overlap: disjoint, point and fit.
 use crate::changes::inserted;
+use crate::draw::entries;
 use crate::state::State;
 use crate::state::refused;
 use disjoint::DisjointMap;
@@ -10,7 +11,6 @@ use iset::Checked;
 use iset::Entry;
 use iset::Map;
 use lines::output::send;
-use slotshell_draw::entries;
 use slotshell_text::refusal::say_refused;
 use slotshell_text::work;
 use words::ix::U;

@@ -1,4 +1,6 @@
 // The commands that change one entry, or all: build, insert and remove.
+use crate::draw::entries;
+use crate::draw::moved;
 use crate::state::State;
 use crate::state::refused;
 use iset::Entry;
@@ -11,8 +13,6 @@ use iset::remove::Removal;
 use iset::remove::Removed;
 use iset::ticket::Reading;
 use lines::output::send;
-use slotshell_draw::entries;
-use slotshell_draw::moved;
 use slotshell_text::entry;
 use slotshell_text::say;
 use words::ix::U;

@@ -1,12 +1,12 @@
 // The commands that save the map as an image, and load it back.
+use crate::draw::entries;
+use crate::draw::moved;
 use crate::state::State;
 use crate::state::refused;
 use iset::Map;
 use iset::build::Built;
 use iset::save::Written;
 use lines::output::send;
-use slotshell_draw::entries;
-use slotshell_draw::moved;
 use slotshell_text::say;
 use words::ix::U;
 use words::numbers::least;

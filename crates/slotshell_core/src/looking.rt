@@ -1,6 +1,9 @@
 // The commands that look something up. An accepted lookup is kept, so that pictures mark the nodes
 // that it entered.
 use crate::command::Ranged;
+use crate::draw::lookups;
+use crate::draw::lookups::span;
+use crate::draw::trace;
 use crate::state::State;
 use iset::Interval;
 use iset::Map;
@@ -8,9 +11,6 @@ use iset::Query;
 use iset::lookup::Drain;
 use iset::lookup::Started;
 use iter::rules::Tests;
-use slotshell_draw::lookups;
-use slotshell_draw::lookups::span;
-use slotshell_draw::trace;
 use slotshell_text::Range;
 
 // The state after a lookup, if it is accepted. A drain to the first hit is refused as the whole one

@@ -1,8 +1,8 @@
 // What stays from line to line.
+use crate::draw::marks::Marks;
 use iset::Interval;
 use iset::Map;
 use iter::rules::Tests;
-use slotshell_draw::Marks;
 use slotshell_text::refusal::say_refused;
 use words::ix::U;
 

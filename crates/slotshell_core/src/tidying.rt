@@ -1,13 +1,13 @@
 // The commands that number the slots anew: plan, tidy and renumber.
+use crate::draw::entries;
+use crate::draw::moved;
+use crate::draw::order::in_order;
+use crate::draw::order::slot_space;
 use crate::state::State;
 use crate::state::refused;
 use iset::Checked;
 use iset::Map;
 use iset::tidy::Renumbering;
-use slotshell_draw::entries;
-use slotshell_draw::moved;
-use slotshell_draw::order::in_order;
-use slotshell_draw::order::slot_space;
 use slotshell_text::refusal::say_refused;
 use slotshell_text::say;
 use words::ix::U;

@@ -1,4 +1,9 @@
 // The command that unloads a range.
+use crate::draw::entries;
+use crate::draw::lookups::span;
+use crate::draw::moved;
+use crate::draw::order::in_order;
+use crate::draw::order::slot_space;
 use crate::state::State;
 use crate::state::refused;
 use iset::Map;
@@ -6,11 +11,6 @@ use iset::Query;
 use iset::lookup::Drain;
 use iset::unload::Unloaded;
 use iset::unload::Unloading;
-use slotshell_draw::entries;
-use slotshell_draw::lookups::span;
-use slotshell_draw::moved;
-use slotshell_draw::order::in_order;
-use slotshell_draw::order::slot_space;
 use slotshell_text::Range;
 use slotshell_text::say;
 use words::ix::U;
