@@ -19,6 +19,7 @@ use crate::command::Command;
 use crate::command::Numbered;
 use crate::command::Ranged;
 use crate::draw::dot::say_dot;
+use crate::draw::entries;
 use crate::draw::outline::say_tree;
 use crate::draw::svg::say_svg;
 use crate::draw::table::say_table;
@@ -220,6 +221,13 @@ fn is_typed_to() -> bool {
     (libc::isatty(STDIN_FILENO) == 1) & (libc::isatty(STDOUT_FILENO) == 1)
 }
 
+// Says how to begin, if somebody types.
+fn greet() {
+    if is_typed_to() {
+        help::say_greeting();
+    }
+}
+
 // Asks for a line, if somebody types.
 fn prompt() {
     if is_typed_to() {
@@ -352,6 +360,7 @@ fn talk_with(name: &[u8], line: &mut [u8], numbers: &mut [u64]) {
 pub fn talk(name: &[u8]) {
     let mut line = memory::line_space();
     let mut numbers = memory::number_space();
+    greet();
     talk_with(name, &mut line, &mut numbers);
     output::close(name);
 }

@@ -37,6 +37,10 @@ pub fn say_all() {
     send(b"A RANGE is [20,25), (20,25], [20,..) or the like, or .. for everything.\n");
 }
 
+pub fn say_greeting() {
+    send(b"An empty map, with room for 256 entries. help lists the commands, quit ends.\n");
+}
+
 pub fn say_unknown() {
     send(b"not understood; help lists the commands\n");
 }
