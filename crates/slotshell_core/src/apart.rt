@@ -35,12 +35,14 @@ fn found(m: Map, nodes: &[u64], colours: &[u8], spot: Spot) {
 }
 
 // Looks up the one entry that holds an address.
-pub(crate) fn point(m: Map, address: u64, nodes: &[u64], colours: &[u8]) {
+pub(crate) fn point(s: State, address: u64, nodes: &[u64], colours: &[u8]) -> State {
+    let m = s.map;
     let d = DisjointMap { map: m };
     match d.point(nodes, colours, address) {
         Pointed::Done(spot) => found(m, nodes, colours, spot),
         Pointed::Refused(why) => say_refused(why.number(), 0, 0),
     }
+    s
 }
 
 // Inserts an entry, if it overlaps no other.
@@ -51,7 +53,8 @@ pub(crate) fn fit(
     colours: &mut [u8],
     was: &mut [u64],
 ) -> State {
-    let d = DisjointMap { map: s.map };
+    let m = s.map;
+    let d = DisjointMap { map: m };
     match d.insert(nodes, colours, e.start, e.end, e.value) {
         Placement::Done(a) => inserted(s, a, nodes, colours, was),
         Placement::Refused(why, slot) => refused(s, why.number(), slot),

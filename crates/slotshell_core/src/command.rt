@@ -116,6 +116,20 @@ fn matched(name: &[u8], k: usize, b: u8) -> usize {
     usize::MAX
 }
 
+fn next_match(name: &[u8], k: usize, b: u8) -> usize {
+    if b == b';' { 0 } else { matched(name, k, b) }
+}
+
+// How many names have ended, with one more byte.
+fn next_name(n: usize, b: u8) -> usize {
+    if b == b';' {
+        if n < usize::MAX {
+            return n + 1;
+        }
+    }
+    n
+}
+
 // Returns which of the names it is, or how many names there are if it is not one of them. Each of
 // `names` ends in a semicolon.
 fn which(name: &[u8], names: &[u8]) -> usize {
@@ -129,11 +143,9 @@ fn which(name: &[u8], names: &[u8]) -> usize {
             if k == name.len() {
                 return n;
             }
-            n += 1;
-            k = 0;
-        } else {
-            k = matched(name, k, b);
         }
+        n = next_name(n, b);
+        k = next_match(name, k, b);
     }
     n
 }

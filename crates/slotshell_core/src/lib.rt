@@ -114,10 +114,7 @@ fn do_look(
         Numbered::At => looking::at(s, a, nodes, colours),
         Numbered::Exact => looking::exact(s, a, b, nodes, colours),
         Numbered::Ticket => tickets::take(s, a, tickets),
-        Numbered::Point => {
-            apart::point(s.map, a, nodes, colours);
-            s
-        }
+        Numbered::Point => apart::point(s, a, nodes, colours),
         _ => {
             tickets::read(s, a, tickets, nodes, colours);
             s

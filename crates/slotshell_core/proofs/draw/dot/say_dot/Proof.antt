@@ -4,10 +4,10 @@ use Rattle.slotshell_core.proofs.draw.dot.say_dot.Statement.{statement}
 use Rattle.slotshell_core.proofs.draw.dot.say_dot.Tie as tie
 
 abbrev Inv-loop : tie.InvT-loop
-Inv-loop m nodes bytes marks slot₀ slot = 0 ≤ slot
+Inv-loop m nodes bytes was marks slot₀ slot = 0 ≤ slot
 
 abbrev μ-loop : tie.MeasureT-loop
-μ-loop m nodes bytes marks slot₀ slot = (m .count) - slot
+μ-loop m nodes bytes was marks slot₀ slot = (m .count) - slot
 
 pub say-dot-spec : {M : Type 1} → statement M
 say-dot-spec =

@@ -23,8 +23,4 @@ say-bars-spec =
     (λ c κs. omega arith)
     (λ c κs. omega arith)
     (λ c. omega arith)
-    (λ c. omega arith)
-    (λ c κs. omega arith)
-    (λ c κs. omega arith)
-    (λ c. omega arith)
     (λ c. omega arith))

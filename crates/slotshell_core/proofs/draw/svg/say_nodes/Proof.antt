@@ -4,10 +4,10 @@ use Rattle.slotshell_core.proofs.draw.svg.say_nodes.Statement.{statemen
 use Rattle.slotshell_core.proofs.draw.svg.say_nodes.Tie as tie
 
 abbrev Inv-loop : tie.InvT-loop
-Inv-loop s m nodes bytes marks order slot₀ slot = 0 ≤ slot
+Inv-loop s m nodes bytes was marks order slot₀ slot = 0 ≤ slot
 
 abbrev μ-loop : tie.MeasureT-loop
-μ-loop s m nodes bytes marks order slot₀ slot = (m .count) - slot
+μ-loop s m nodes bytes was marks order slot₀ slot = (m .count) - slot
 
 pub say-nodes-spec : {M : Type 1} → statement M
 say-nodes-spec =
