@@ -20,6 +20,7 @@ use crate::command::Numbered;
 use crate::command::Ranged;
 use crate::draw::dot::say_dot;
 use crate::draw::entries;
+use crate::draw::order::slot_space;
 use crate::draw::outline::say_tree;
 use crate::draw::svg::say_svg;
 use crate::draw::table::say_table;
@@ -335,7 +336,7 @@ fn talk_with(name: &[u8], line: &mut [u8], numbers: &mut [u64]) {
     let mut input = io::buffer();
     let mut nodes = memory::node_space();
     let mut colours = memory::colour_space();
-    let mut was = memory::was_space();
+    let mut was = slot_space();
     let mut image = memory::image_space();
     let mut tickets = memory::ticket_space();
     if session(

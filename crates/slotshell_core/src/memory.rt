@@ -43,10 +43,3 @@ pub(crate) fn number_space() -> [u64; 16384]
 {
     [0; 16384]
 }
-
-// For each slot the old slot of its entry.
-pub(crate) fn was_space() -> [u64; 256]
-    ensures { λ r. ⌜ 256 ≡ length r ⌝ }
-{
-    [4294967295; 256]
-}

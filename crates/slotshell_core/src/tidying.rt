@@ -15,8 +15,8 @@ use words::numbers::least;
 
 fn say_plan(m: Map, nodes: &[u64], colours: &[u8], plan: &[u64]) {
     let mut order = slot_space();
-    let n = in_order(m, nodes, colours, &mut order);
-    entries::say_plan(m, nodes, colours, plan, &order[..n]);
+    in_order(m, nodes, colours, &mut order);
+    entries::say_plan(m, nodes, colours, plan, &order);
 }
 
 // Shows the plan that `propose` makes, and changes nothing.
@@ -38,10 +38,11 @@ fn renumbered(
     colours: &[u8],
     was: &mut [u64],
 ) -> State {
+    let none = slot_space();
     let mut after = slot_space();
-    let n = in_order(map, nodes, colours, &mut after);
-    moved::put_moves(was, before, &[], &after[..n]);
-    let any = entries::say_moves(map, nodes, colours, was, &after[..n]);
+    in_order(map, nodes, colours, &mut after);
+    moved::put_moves(was, before, &none, &after);
+    let any = entries::say_moves(map, nodes, colours, was, &after);
     say(b"version %\n", &[map.version as u64]);
     s.changed(map, any, U)
 }
@@ -71,8 +72,8 @@ pub(crate) fn renumber(
 ) -> State {
     let m = s.map;
     let mut before = slot_space();
-    let n = in_order(m, nodes, colours, &mut before);
-    renumber_from(s, plan, &before[..n], nodes, colours, was)
+    in_order(m, nodes, colours, &mut before);
+    renumber_from(s, plan, &before, nodes, colours, was)
 }
 
 // Renumbers by the plan that `propose` makes.

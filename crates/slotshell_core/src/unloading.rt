@@ -14,7 +14,6 @@ use iset::unload::Unloading;
 use slotshell_text::Range;
 use slotshell_text::say;
 use words::ix::U;
-use words::numbers::least;
 
 // Says what was unloaded, and which entries moved. `before` has the slots in tree order before it,
 // and `gone` those of them that went. The others keep their order.
@@ -29,9 +28,9 @@ fn unloaded(
 ) -> State {
     let map = a.map;
     let mut after = slot_space();
-    let n = in_order(map, nodes, colours, &mut after);
-    moved::put_moves(was, before, gone, &after[..n]);
-    let any = entries::say_moves(map, nodes, colours, was, &after[..n]);
+    in_order(map, nodes, colours, &mut after);
+    moved::put_moves(was, before, gone, &after);
+    let any = entries::say_moves(map, nodes, colours, was, &after);
     say(b"unloaded %, version %\n", &[a.gone, map.version as u64]);
     s.changed(map, any, U)
 }
@@ -71,9 +70,9 @@ fn unload_found(
 ) -> State {
     let m = s.map;
     let mut before = slot_space();
-    let n = in_order(m, nodes, colours, &mut before);
+    in_order(m, nodes, colours, &mut before);
     say_all_gone(m, nodes, colours, gone);
-    unload_these(s, r, &before[..n], gone, nodes, colours, was)
+    unload_these(s, r, &before, gone, nodes, colours, was)
 }
 
 // A lookup finds the entries that go, so that they can be shown. It is refused as the unloading is.
@@ -94,10 +93,7 @@ pub(crate) fn unload(
         0,
         &mut gone,
     ) {
-        Drain::Done(d) => {
-            let n = least(d.hits as usize, gone.len());
-            unload_found(s, r, &gone[..n], nodes, colours, was)
-        }
+        Drain::Done(_) => unload_found(s, r, &gone, nodes, colours, was),
         Drain::Refused(why) => refused(s, why.number(), 0),
     }
 }

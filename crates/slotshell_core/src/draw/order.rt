@@ -10,11 +10,11 @@ ghost use mathlib.Core.Path.{_≡_};
 ghost use Prim.Native.Nat.{_≤_};
 ghost use lib.ListN.{length};
 
-// Room for a slot of each entry.
+// Room for a slot of each entry. What is not written stays U.
 pub(crate) fn slot_space() -> [u64; 256]
     ensures { λ r. ⌜ 256 ≡ length r ⌝ }
 {
-    [0; 256]
+    [4294967295; 256]
 }
 
 // The query for every entry.

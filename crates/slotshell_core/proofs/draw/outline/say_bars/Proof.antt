@@ -23,4 +23,5 @@ say-bars-spec =
     (λ c κs. omega arith)
     (λ c κs. omega arith)
     (λ c. omega arith)
+    (λ c. omega arith)
     (λ c. omega arith))
