@@ -263,6 +263,30 @@ struct Round {
     failed: bool,
 }
 
+// Answers a line that was read.
+fn respond(
+    s: State,
+    got: input::Line,
+    line: &[u8],
+    numbers: &mut [u64],
+    nodes: &mut [u64],
+    colours: &mut [u8],
+    was: &mut [u64],
+    image: &mut [u8],
+    tickets: &mut [u64],
+) -> Round {
+    let c = asked_by(got, line, numbers);
+    let state = answer(s, c, numbers, nodes, colours, was, image, tickets);
+    leave(got.last);
+    Round {
+        state,
+        at: got.at,
+        end: got.end,
+        stop: got.last | is_quit(c) | !is_open(),
+        failed: got.failed,
+    }
+}
+
 // Reads a line and answers it.
 fn one_round(
     s: State,
@@ -278,16 +302,7 @@ fn one_round(
 ) -> Round {
     prompt();
     let got = input::read(input, place, line);
-    let c = asked_by(got, line, numbers);
-    let state = answer(s, c, numbers, nodes, colours, was, image, tickets);
-    leave(got.last);
-    Round {
-        state,
-        at: got.at,
-        end: got.end,
-        stop: got.last | is_quit(c) | !is_open(),
-        failed: got.failed,
-    }
+    respond(s, got, line, numbers, nodes, colours, was, image, tickets)
 }
 
 // Answers line after line to the end of the input, to `quit`, or until a read or a write fails.
