@@ -508,7 +508,7 @@ class Shell:
             if bounds:
                 getattr(self, name)(*bounds)
             else:
-                self.say('usage: find, trace, plain or unload, and a range, as in: find [20,25)')
+                self.say('usage: find, trace, plain or unload, and a range, as in: find [20,25); one address is: at 20')
         elif name in COUNTS:
             numbers = numbers_of(rest)
             if numbers is None or COUNTS[name] not in (None, len(numbers)):
@@ -518,7 +518,7 @@ class Shell:
             else:
                 getattr(self, name)(*numbers)
         else:
-            self.say('not understood; help lists the commands')
+            self.say('not understood; type help for the commands, which are in small letters')
         return False
 
 
@@ -527,7 +527,7 @@ def answered(data):
     shell = Shell()
     for line in data.split(b'\n'):
         if len(line) > LONGEST:
-            shell.say('not understood; help lists the commands')
+            shell.say('not understood; type help for the commands, which are in small letters')
         elif shell.line(line):
             break
     return ''.join(text + '\n' for text in shell.out)

@@ -42,7 +42,7 @@ pub fn say_greeting() {
 }
 
 pub fn say_unknown() {
-    send(b"not understood; help lists the commands\n");
+    send(b"not understood; type help for the commands, which are in small letters\n");
 }
 
 fn say_other_usage(command: u64) {
@@ -53,7 +53,9 @@ fn say_other_usage(command: u64) {
         7 => send(b"usage: renumber NEW NEW .., as in: renumber 1 0\n"),
         8 => send(b"usage: point ADDRESS, as in: point 20\n"),
         9 => send(b"usage: fit START END VALUE, as in: fit 10 20 7\n"),
-        _ => send(b"usage: find, trace, plain or unload, and a range, as in: find [20,25)\n"),
+        _ => send(
+            b"usage: find, trace, plain or unload, and a range, as in: find [20,25); one address is: at 20\n",
+        ),
     }
 }
 

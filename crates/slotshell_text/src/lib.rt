@@ -14,7 +14,10 @@ pub mod work;
 
 use lines::output;
 ghost use mathlib.Core.Path.{_≡_};
-ghost use lib.ListN.{length};
+ghost use Prim.Native.Nat.{_≤_};
+ghost use lib.ListN.{length, getD};
+ghost use Rattle.lines.specs.Output.{page};
+ghost use Rattle.slotshell_text.specs.Said.{outLink, outOther, outPiece, taken, outSaid};
 use words::ix::U;
 
 // A range by the kinds of its bounds: 0 is Included, 1 Excluded and 2 Unbounded.
@@ -32,12 +35,19 @@ fn space() -> [u8; 256]
     [0; 256]
 }
 
-fn number_at(numbers: &[u64], k: usize) -> u64 {
-    if k < numbers.len() { numbers[k] } else { 0 }
+fn number_at(numbers: &[u64], k: usize) -> u64
+    ensures { λ r. ⌜ r ≡ getD (now (numbers .entry)) k 0 ⌝ }
+{
+    if k < numbers.len() {
+        return numbers[k];
+    }
+    0
 }
 
 // Writes a link: `-` if it leads nowhere.
-fn put_link(out: &mut [u8], at: usize, x: u64) -> usize {
+fn put_link(out: &mut [u8], at: usize, x: u64) -> usize
+    ensures { λ r. ⌜ page r (now (out .exit)) ≡ outLink (page at (now (out .entry))) x ⌝ }
+{
     if x == U {
         output::put_byte(out, at, b'-')
     } else {
@@ -45,37 +55,52 @@ fn put_link(out: &mut [u8], at: usize, x: u64) -> usize {
     }
 }
 
-// Writes a byte of a text. `%` stands for the number x, and `@` for x as a link.
-fn put(out: &mut [u8], at: usize, b: u8, x: u64) -> usize {
-    if b == b'%' {
-        output::put_number(out, at, x)
-    } else if b == b'@' {
+fn put_other(out: &mut [u8], at: usize, b: u8, x: u64) -> usize
+    ensures { λ r. ⌜ page r (now (out .exit)) ≡ outOther (page at (now (out .entry))) b x ⌝ }
+{
+    if b == b'@' {
         put_link(out, at, x)
     } else {
         output::put_byte(out, at, b)
     }
 }
 
-// Which number comes next after a byte of a text, if it was number k of n before it.
-fn next(k: usize, b: u8, n: usize) -> usize {
-    if k < n {
-        if (b == b'%') | (b == b'@') {
-            return k + 1;
-        }
+// Writes a byte of a text. `%` stands for the number x, and `@` for x as a link.
+fn put(out: &mut [u8], at: usize, b: u8, x: u64) -> usize
+    ensures { λ r. ⌜ page r (now (out .exit)) ≡ outPiece (page at (now (out .entry))) b x ⌝ }
+{
+    if b == b'%' {
+        output::put_number(out, at, x)
+    } else {
+        put_other(out, at, b, x)
     }
-    k
 }
 
-fn put_all(out: &mut [u8], text: &[u8], numbers: &[u64]) -> usize {
+// How many numbers a byte of a text takes.
+fn taken_by(b: u8) -> usize
+    ensures { λ r. ⌜ (r ≡ taken b) × (r ≤ 1) ⌝ }
+{
+    if b == b'%' {
+        return 1;
+    }
+    if b == b'@' {
+        return 1;
+    }
+    0
+}
+
+fn put_all(out: &mut [u8], text: &[u8], numbers: &[u64]) -> usize
+    ensures { λ r. ⌜ page r (now (out .exit)) ≡ outSaid (page 0 (now (out .entry))) (now (text .entry)) (now (numbers .entry)) ⌝ }
+{
     let mut to = 0;
     let mut k = 0;
     let mut i = 0;
     while i < text.len() {
         let b = text[i];
         let x = number_at(numbers, k);
-        to = put(out, to, b, x);
-        k = next(k, b, numbers.len());
+        k = k + taken_by(b);
         i += 1;
+        to = put(out, to, b, x);
     }
     to
 }
