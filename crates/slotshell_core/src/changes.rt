@@ -13,8 +13,8 @@ use iset::remove::Removal;
 use iset::remove::Removed;
 use iset::ticket::Reading;
 use lines::output::send;
+use slotshell_say::say;
 use slotshell_text::entry;
-use slotshell_text::say;
 use words::ix::U;
 
 fn built(s: State, map: Map, nodes: &[u64], colours: &[u8], was: &mut [u64]) -> State {

@@ -7,7 +7,7 @@ use iset::Map;
 use iset::build::Built;
 use iset::save::Written;
 use lines::output::send;
-use slotshell_text::say;
+use slotshell_say::say;
 use words::ix::U;
 use words::numbers::least;
 

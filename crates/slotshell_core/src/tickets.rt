@@ -4,8 +4,8 @@ use crate::state::State;
 use iset::Entry;
 use iset::ticket::Reading;
 use iset::ticket::Ticket;
+use slotshell_say::say;
 use slotshell_text::refusal::say_refused;
-use slotshell_text::say;
 
 fn word(tickets: &[u64], at: usize) -> u64 {
     if at < tickets.len() { tickets[at] } else { 0 }

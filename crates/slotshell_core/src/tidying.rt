@@ -8,8 +8,8 @@ use crate::state::refused;
 use iset::Checked;
 use iset::Map;
 use iset::tidy::Renumbering;
+use slotshell_say::say;
 use slotshell_text::refusal::say_refused;
-use slotshell_text::say;
 use words::ix::U;
 use words::numbers::least;
 

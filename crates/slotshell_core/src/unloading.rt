@@ -11,8 +11,8 @@ use iset::Query;
 use iset::lookup::Drain;
 use iset::unload::Unloaded;
 use iset::unload::Unloading;
+use slotshell_say::say;
 use slotshell_text::Range;
-use slotshell_text::say;
 use words::ix::U;
 
 // Says what was unloaded, and which entries moved. `before` has the slots in tree order before it,

@@ -1,8 +1,8 @@
 // The pieces of a DOT picture. A missing child is a node that is not drawn, and another one is right
 // below its parent, so that a child is drawn on its own side.
 use crate::note;
-use crate::say;
 use lines::output::send;
+use slotshell_say::say;
 
 pub fn say_head() {
     send(b"digraph map {\n  graph [ordering=out];\n");

@@ -1,6 +1,6 @@
 // Entries and maps, each to a line's end.
-use crate::say;
 use lines::output::send;
+use slotshell_say::say;
 
 pub fn say_entry(slot: u64, start: u64, end: u64, value: u64) {
     say(b"slot %  [%,%) %\n", &[slot, start, end, value]);

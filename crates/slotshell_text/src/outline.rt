@@ -1,7 +1,7 @@
 // The pieces of a tree in text.
 use crate::note;
-use crate::say;
 use lines::output::send;
+use slotshell_say::say;
 
 pub fn say_empty() {
     send(b"no entries\n");

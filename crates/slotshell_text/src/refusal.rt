@@ -1,6 +1,6 @@
 // A refusal in words, with its name and its number.
-use crate::say;
 use lines::output::send;
+use slotshell_say::say;
 
 fn say_later(number: u64, a: u64, b: u64) {
     match number {

@@ -1,7 +1,7 @@
 // The pieces of an SVG picture.
 use crate::note;
-use crate::say;
 use lines::output::send;
+use slotshell_say::say;
 
 fn say_style() {
     send(b"<style>text{font:12px monospace;text-anchor:middle;fill:#fff}");

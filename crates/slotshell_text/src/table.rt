@@ -1,7 +1,7 @@
 // The pieces of a table of slots. Each cell is given the number of blanks before it.
-use crate::indent;
-use crate::say;
 use lines::output::send;
+use slotshell_say::indent;
+use slotshell_say::say;
 use words::ix::U;
 
 // The names of the columns. The numbers are the blanks before start, end, value and hull.

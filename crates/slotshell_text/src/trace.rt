@@ -1,8 +1,8 @@
 // The lines of a trace.
 use crate::Range;
-use crate::indent;
-use crate::say;
 use lines::output::send;
+use slotshell_say::indent;
+use slotshell_say::say;
 
 // An entered node, and whether it is a hit, touches only, or is neither.
 pub fn say_node(blanks: u64, slot: u64, start: u64, end: u64, value: u64) {

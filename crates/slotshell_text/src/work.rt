@@ -1,6 +1,6 @@
 // The work of a lookup.
-use crate::say;
 use lines::output::send;
+use slotshell_say::say;
 
 // Before each hit.
 pub fn say_hit() {

@@ -2,8 +2,8 @@
 use crate::draw::nodes;
 use crate::draw::order::number_of;
 use iset::Map;
+use slotshell_say::indent;
 use slotshell_text::entry;
-use slotshell_text::indent;
 use words::ix::U;
 
 // Writes the entry of a slot: `slot 4  [45,60) 5`, and a line's end.

@@ -1,7 +1,7 @@
 use Prim.Native.Nat.{_≤_, _-_}
 use native.Mathlib.Omega.{arith}
-use Rattle.slotshell_text.proofs.indent.Statement.{statement}
-use Rattle.slotshell_text.proofs.indent.Tie as tie
+use Rattle.slotshell_say.proofs.indent.Statement.{statement}
+use Rattle.slotshell_say.proofs.indent.Tie as tie
 
 abbrev Inv-loop : tie.InvT-loop
 Inv-loop n left₀ t3 left = 0 ≤ left

@@ -1,8 +1,8 @@
-use Rattle.slotshell_text.specs.Said.{outPiece}
+use Rattle.slotshell_say.specs.Said.{outPiece}
 use Rattle.words.proofs.Tests.{equal, unequal}
 use borrow.Author.Needs.{needs}
-use Rattle.slotshell_text.proofs.put.Statement.{statement}
-use Rattle.slotshell_text.proofs.put.Tie as tie
+use Rattle.slotshell_say.proofs.put.Statement.{statement}
+use Rattle.slotshell_say.proofs.put.Tie as tie
 
 pub put-spec : {M : Type 1} → statement M
 unfolding outPiece

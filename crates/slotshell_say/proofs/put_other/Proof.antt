@@ -1,8 +1,8 @@
-use Rattle.slotshell_text.specs.Said.{outOther}
+use Rattle.slotshell_say.specs.Said.{outOther}
 use Rattle.words.proofs.Tests.{equal, unequal}
 use borrow.Author.Needs.{needs}
-use Rattle.slotshell_text.proofs.put_other.Statement.{statement}
-use Rattle.slotshell_text.proofs.put_other.Tie as tie
+use Rattle.slotshell_say.proofs.put_other.Statement.{statement}
+use Rattle.slotshell_say.proofs.put_other.Tie as tie
 
 pub put-other-spec : {M : Type 1} → statement M
 unfolding outOther

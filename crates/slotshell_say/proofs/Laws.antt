@@ -8,7 +8,7 @@ use lib.ListN.{length, getD, drop, drop-of-length-le, List·getD-eq-default}
 use lib.Seq.{drop-cons, drop-drop, getD-drop}
 use Rattle.lines.specs.Output.{Page}
 use Rattle.words.proofs.Tests.{equal, unequal}
-use Rattle.slotshell_text.specs.Said.{outPiece, taken, outSaid}
+use Rattle.slotshell_say.specs.Said.{outPiece, taken, outSaid}
 
 pub past : (l : List ℕ) (k : ℕ) → length l ≤ k → 0 ≡ getD l k 0
 past l k h = sym (List·getD-eq-default l 0 h)

@@ -1,7 +1,7 @@
 use native.Mathlib.Omega.{arith}
-use Rattle.slotshell_text.proofs.Laws.{takes-number, takes-link, takes-none}
-use Rattle.slotshell_text.proofs.taken_by.Statement.{statement}
-use Rattle.slotshell_text.proofs.taken_by.Tie as tie
+use Rattle.slotshell_say.proofs.Laws.{takes-number, takes-link, takes-none}
+use Rattle.slotshell_say.proofs.taken_by.Statement.{statement}
+use Rattle.slotshell_say.proofs.taken_by.Tie as tie
 
 pub taken-by-spec : {M : Type 1} → statement M
 taken-by-spec =

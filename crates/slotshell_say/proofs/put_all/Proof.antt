@@ -3,10 +3,10 @@ use Prim.Native.Nat.{_≤_, _-_}
 use lib.ListN.{length, drop}
 use native.Mathlib.Omega.{arith}
 use Rattle.lines.specs.Output.{page}
-use Rattle.slotshell_text.specs.Said.{outSaid}
-use Rattle.slotshell_text.proofs.Laws.{said-on, said-end}
-use Rattle.slotshell_text.proofs.put_all.Statement.{statement}
-use Rattle.slotshell_text.proofs.put_all.Tie as tie
+use Rattle.slotshell_say.specs.Said.{outSaid}
+use Rattle.slotshell_say.proofs.Laws.{said-on, said-end}
+use Rattle.slotshell_say.proofs.put_all.Statement.{statement}
+use Rattle.slotshell_say.proofs.put_all.Tie as tie
 
 abbrev Inv-loop : tie.InvT-loop
 Inv-loop out₀ text numbers to₀ k₀ i₀ out to k i = (i ≤ length text) × (k ≤ i) × (length out ≡ length out₀)

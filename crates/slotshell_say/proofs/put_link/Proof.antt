@@ -1,8 +1,8 @@
-use Rattle.slotshell_text.specs.Said.{outLink}
+use Rattle.slotshell_say.specs.Said.{outLink}
 use Rattle.words.proofs.Tests.{equal, unequal}
 use borrow.Author.Needs.{needs}
-use Rattle.slotshell_text.proofs.put_link.Statement.{statement}
-use Rattle.slotshell_text.proofs.put_link.Tie as tie
+use Rattle.slotshell_say.proofs.put_link.Statement.{statement}
+use Rattle.slotshell_say.proofs.put_link.Tie as tie
 
 pub put-link-spec : {M : Type 1} → statement M
 unfolding outLink
