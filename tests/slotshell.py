@@ -2,7 +2,9 @@
 """The program `slotshell` by docs/MANUAL.md and tests/model.py, and not by its code.
 
     slotshell.py          runs the program on many random talks and compares what it prints with this
-                          model; the program must be built (rt check)
+                          model; tries that trees of up to 31 entries fit 100 columns, that nothing
+                          overlaps in a picture, and that every command and refusal was met; the
+                          program must be built (rt check)
     slotshell.py print    what slotshell prints for the commands on standard input
 
 The last line of a run is 'slotshell: N passed, M failed'.
@@ -92,11 +94,13 @@ class Shell:
         self.s = model.Store(0, U, [0] * 8 * MOST, [0] * (MOST // 8))
         self.tickets, self.image, self.out = [], b'', []
         self.moved, self.added, self.look = {}, None, None
+        self.met, self.widest = set(), 0
 
     def say(self, text, *numbers):
         self.out.append(text % numbers)
 
     def refuse(self, no, *numbers):
+        self.met.add(no)
         self.say('refused: ' + REFUSED[no], *numbers)
 
     def changed(self, moved, added=None):
@@ -378,12 +382,15 @@ class Shell:
             bars = ''.join('|  ' if a != b else '   ' for a, b in zip(way, way[1:]))
             corner = ('.- ' if way[-1] == LEFT else "'- ") if way else ''
             line = '%s%s%d %s %s' % (bars, corner, slot, 'red  ' if self.s.red(slot) else 'black', self.entry(slot))
+            start = len(self.out)
             if widest > 100:
                 down = [way[-1] == LEFT] if way else []
                 self.say('%s', line)
                 line = bars + ''.join('|  ' if bar else '   ' for bar in down + [self.s.get(slot, RIGHT) != U])
             notes = ''.join('  ' + note for note in (self.note(slot), 'entered' if slot in entered else '') if note)
             self.say('%s', line + '  hull ' + self.hull(slot) + notes)
+            if len(order) <= 31:
+                self.widest = max([self.widest] + [len(text) for text in self.out[start:]])
 
     def slots(self):
         rows = [['slot', 'start', 'end', 'value', 'colour', 'hull', 'left', 'right', 'parent']]
@@ -499,6 +506,7 @@ class Shell:
             return False
         name = re.match(b'[a-z]*', line)[0].decode()
         rest = line[len(name):]
+        self.met.add(name)
         if name in BARE and not rest.strip(BLANK):
             if name == 'quit':
                 return True
@@ -522,9 +530,9 @@ class Shell:
         return False
 
 
-def answered(data):
+def answered(data, shell=None):
     """What slotshell prints for an input."""
-    shell = Shell()
+    shell = shell or Shell()
     for line in data.split(b'\n'):
         if len(line) > LONGEST:
             shell.say('not understood; type help for the commands, which are in small letters')
@@ -608,8 +616,15 @@ def some_talk(r):
     return '\n'.join(lines).encode('latin-1')
 
 
+def long_talk(order):
+    """Entries of 20 digits, inserted one by one, a removal, a lookup, a tree and a picture."""
+    top = 2**64 - 2 * 10**17
+    lines = ['insert %d %d %d' % (top + 10**15 * k, top + 10**15 * (k + 1), top + k) for k in order]
+    return '\n'.join(lines + ['remove 3', 'find [%d,..)' % (top + 29 * 10**15), 'tree', 'svg', 'dot']).encode()
+
+
 def fixed_talks():
-    """A line that is just as long as it may be, one that is longer, and one without its end."""
+    """Lines that are just as long as they may be, longer ones, and one without its end; every refusal; long numbers."""
     yield b'help\nquit\ncheck\n'
     for size in LONGEST, LONGEST + 1, 200000:
         yield b'check' + b' ' * (size - 5) + b'\ncheck'
@@ -617,22 +632,77 @@ def fixed_talks():
     yield b'build 1 2 3\r\n\ttree\t\r\n # no\nticket 0\n' + b'ticket 1\n' * 256 + b'read 256\nread 257\nread 0\n'
     yield b'find [18446744073709551615,18446744073709551616)\nfind (0,18446744073709551615]\nfind [5,5)\nfind [5,5]\n'
     yield b'load\nsave\nload\nfind..\nfind [..,..]\nfind(3 , .. )\ntrace ..\nplain ..\nsvg\ndot\nslots\nremove 0\n'
+    yield b'build 1 2 3  4\nbuild 4 5 6  1 2 3\nbuild 2 1 3\nfit 1 5 1\nfit 4 6 2\nfit 5 9 3\npoint 5\npoint 9\nticket 0\ninsert 2 6 4\nread 1\ndisjoint\npoint 1\nquit'
+    yield b'build 1 2 3  3 4 5\nplan\nrenumber 1 0\ntree\nplan\ntidy\ntree\nrenumber 0\nrenumber 1 1\nrenumber 0 1 2\nunload [1,1)\nunload (1,3]\nunload ..\ntidy\nrenumber'
+    for order in range(31), range(31, 0, -1), [k * 7 % 31 for k in range(31)]:
+        yield long_talk(order)
+
+
+# Pictures
+
+def number(text, name):
+    return int(re.search(r"[ ]%s='(\d+)'" % name, text)[1])
+
+
+def ends(text):
+    """Left, right, top and bottom of a box, and of a line."""
+    x, y, width, height = (number(text, name) for name in ('x', 'y', 'width', 'height'))
+    return x, x + width, y, y + height
+
+
+def apart(a, b):
+    return a[1] < b[0] or b[1] < a[0] or a[3] < b[2] or b[3] < a[2]
+
+
+def drawn_well(svg):
+    """No two boxes meet, also with their dashed borders, no line crosses a box, and each text is inside its box."""
+    lines = svg.split('\n')
+    width, height = number(lines[0], 'width'), number(lines[0], 'height')
+    boxes, box = [], (0, width, 0, height)
+    for line in lines[4:]:
+        kind = re.match(r"<(\w+)(?: class='(\w)')?", line)
+        if line.startswith('<rect'):
+            if kind[2] in 'rb':
+                box = ends(line)
+                boxes.append(box)
+            elif kind[2] == 'l':
+                boxes[-1] = ends(line)
+        elif line.startswith('<text'):
+            words = re.search('>(.*)<', line)[1]
+            half = len(words) * (6.1 if kind[2] == 's' else 7.3) / 2
+            x, y = number(line, 'x') + (half if kind[2] == 'k' else 0), number(line, 'y')
+            inside = box if kind[2] != 'k' else (0, width, 0, height)
+            if not (inside[0] <= x - half and x + half <= inside[1] and inside[2] + 9 <= y <= inside[3] - 3):
+                return False
+    links = [(number(line, 'y1'), number(line, 'y2')) for line in lines if line.startswith('<line')]
+    rows = {(top, bottom) for _, _, top, bottom in boxes}
+    return (all(0 <= b[0] and b[1] <= width and 0 <= b[2] and b[3] <= height for b in boxes)
+            and all(apart(a, b) for i, a in enumerate(boxes) for b in boxes[:i])
+            and all(bottom - 8 <= start or end - 1 <= top + 8 for start, end in links for top, bottom in rows))
 
 
 def main():
     if sys.argv[1:] == ['print']:
         sys.stdout.write(answered(sys.stdin.buffer.read()))
         return
-    run, passed, failed = program(), 0, 0
+    run, passed, failed, met = program(), 0, 0, set()
     r = random.Random(34)
-    for talk in list(fixed_talks()) + [some_talk(r) for _ in range(150)]:
+    for k, talk in enumerate(list(fixed_talks()) + [some_talk(r) for _ in range(150)]):
+        shell = Shell()
         out = subprocess.run(run, input=talk, capture_output=True).stdout
-        if out == answered(talk).encode():
-            passed += 1
-        else:
-            failed += 1
-            pathlib.Path('/tmp/slotshell-talk').write_bytes(talk)
-            print('slotshell: another answer to the talk in /tmp/slotshell-talk')
+        pictures = re.findall('(?s)<svg.*?</svg>', out.decode('latin-1'))
+        wrong = [what for what, there in (
+            ('it answers otherwise than the model', out != answered(talk, shell).encode()),
+            ('a tree is %d columns wide' % shell.widest, shell.widest > 100),
+            ('something overlaps in a picture', not all(map(drawn_well, pictures)))) if there]
+        met |= shell.met
+        passed, failed = passed + (not wrong), failed + bool(wrong)
+        for what in wrong:
+            print('slotshell: talk %d, %r ..: %s' % (k, talk[:60], what))
+    missing = [str(name) for name in list(REFUSED) + list(BARE) + list(RANGED) + list(COUNTS) if name not in met]
+    if missing:
+        failed += 1
+        print('slotshell: not met in any talk: ' + ', '.join(missing))
     print('slotshell: %d passed, %d failed' % (passed, failed))
     sys.exit(1 if failed or not passed else 0)
 
