@@ -224,6 +224,7 @@ MEANINGS = {
         b byte; d digit; l line; p part; v value; s slice; f found (for the number); z otherwise (if
         there is none)""",
     'lines/Output': 'b byte; p page; s text; f digits at most; n number',
+    'slotshell_say/Said': 'b byte; n numbers; p page; s text; x number',
     'plain_laws/Tour': 's slot; p parent; k link',
     'slots': """
         E entries (their numbers); b byte; k slot; a start; c value; d desk; t:Turn turn; t:Stand stand;
