@@ -71,8 +71,8 @@ module _ (m : Map) (W C : List ℕ) where
   unfolding disjointRule
   zero-disjoint h P d = let c : checkRule m W C ≡ 0 = zero-check m W C h P in rw (c, apart-complete c d) refl
 
-  -- 1 exactly if the count is above capacity; 2 exactly if it is not, and the store does not pass; 14
-  -- exactly if it passes, and two entries intersect
+  -- 1 exactly if the count is above capacity; 2 exactly if it is not, and the store does not pass;
+  -- 14 exactly if it passes, and two entries intersect
   pub disjoint-one : disjointRule m W C ≡ 1 → NoRoom m W C
   disjoint-one = disjoint-refusals .0 .0
 

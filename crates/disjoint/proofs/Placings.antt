@@ -1,5 +1,5 @@
--- What an insertion guarantees: it is refused exactly as document 02's item 10 says; with 13 it names
--- the first entry in tree order that intersects the new one; and what it leaves is disjoint.
+-- What an insertion guarantees: it is refused exactly as document 02's item 10 says; with 13 it
+-- names the first entry in tree order that intersects the new one; and what it leaves is disjoint.
 use mathlib.Core.Path.{_≡_, refl, sym, ap, _∙_}
 use mathlib.Core.Bool.{Bool, true, false, cond, true≢false}
 use mathlib.Core.List.{List}

@@ -1,5 +1,5 @@
--- What a removal guarantees: it is refused exactly as document 02's item 10 says, and "Removal keeps
--- the rule."
+-- What a removal guarantees: it is refused exactly as document 02's item 10 says, and "Removal
+-- keeps the rule."
 use mathlib.Core.Path.{_≡_, refl, _∙_}
 use mathlib.Core.List.{List}
 use Prim.Native.Nat.{ℕ, _-_, _<_, _≤_}
@@ -47,7 +47,8 @@ module _ (m : Map) (W C : List ℕ) (s : ℕ) where
   pub take-refusals : Exactly (takeRows m W C s) (takeCall m W C s .answer .no)
   take-refusals = rw take-no take-rows
 
-  -- a store that the check refuses nothing of: 3 exactly if the slot is not below the count, and else 0
+  -- a store that the check refuses nothing of: 3 exactly if the slot is not below the count, and
+  -- else 0
   pub take-three : disjointRule m W C ≡ 0 → n ≤ s → takeNumber m W C s ≡ 3
   unfolding takeNumber
   take-three z h = rw z (slot-row z .0 .1 h)

@@ -1,6 +1,6 @@
--- The calls' rules, computed in the store of the entries [0, 5), [5, 9) and [9, 12) in the slots 0, 1
--- and 2, with slot 1 as the root and all nodes black, without room and with room for one more; and
--- in a store of the entries [0, 5) and [4, 9), which intersect.
+-- The calls' rules, computed in the store of the entries [0, 5), [5, 9) and [9, 12) in the slots 0,
+-- 1 and 2, with slot 1 as the root and all nodes black, without room and with room for one more;
+-- and in a store of the entries [0, 5) and [4, 9), which intersect.
 use mathlib.Core.Path.{_≡_, refl}
 use mathlib.Core.List.{List, [], _∷_, _++_}
 use Prim.Native.Nat.{ℕ}

@@ -28,8 +28,8 @@ enum Trial {
     Refused(Refusal, u64),
 }
 
-// Returns BadInterval if the new interval holds no address, else Overlap with the first slot in tree
-// order whose entry intersects it.
+// Returns BadInterval if the new interval holds no address, else Overlap with the first slot in
+// tree order whose entry intersects it.
 fn test_overlap(nodes: &[u64], narrow: bool, count: u64, root: u64, start: u64, end: u64) -> Trial
     requires { ⌜ HoldsIn narrow (now nodes) count ⌝ }
     ensures { λ r. ⌜ tried r ≡ trialBy (meetNumber (asEight narrow (now (nodes .entry))) count root start end) (met (asEight narrow (now (nodes .entry))) count root start end) ⌝ }

@@ -17,7 +17,8 @@ pub enum Pointed {
 }
 
 impl DisjointMap {
-    // `point` for an opened store (see lib.rt). It enters at most as many nodes as the tree is high.
+    // `point` for an opened store (see lib.rt). It enters at most as many nodes as the tree is
+    // high.
     pub fn open_point_in(self, nodes: &[u64], narrow: bool, colours: &[u8], address: u64) -> Pointed
         ensures { λ r. ⌜ pointAnswer r ≡ openPointCall (self .map) (asEight narrow (now (nodes .entry))) (now (colours .entry)) address ⌝ }
     {

@@ -1,6 +1,6 @@
 -- "insertion there is refused exactly if some stored entry intersects the new one, and names the
--- first such slot in tree order": of an interval x, on a store that passes the check, whether or not
--- its entries intersect.
+-- first such slot in tree order": of an interval x, on a store that passes the check, whether or
+-- not its entries intersect.
 use mathlib.Core.Path.{_≡_}
 use mathlib.Core.Bool.{true, false}
 use mathlib.Core.List.{List}

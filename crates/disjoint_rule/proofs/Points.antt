@@ -1,4 +1,5 @@
--- The point lookup agrees with the general one, and enters at most as many nodes as the tree is high.
+-- The point lookup agrees with the general one, and enters at most as many nodes as the tree is
+-- high.
 use mathlib.Core.Path.{_≡_, refl, ap, _∙_}
 use mathlib.Core.Bool.{Bool, true, false, cond, not, _&&_}
 use mathlib.Core.List.{List, [], _∷_, _++_, append-nil}

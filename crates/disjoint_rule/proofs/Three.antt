@@ -56,7 +56,8 @@ pub three-outside : (at 12 ≡ U) × (at 18446744073709551615 ≡ U)
 unfolding rules
 three-outside = (refl, refl)
 
--- as the general lookup has it: the entry of slot 1 holds the address 5, and that of slot 0 does not
+-- as the general lookup has it: the entry of slot 1 holds the address 5, and that of slot 0 does
+-- not
 pub three-holds : (meets three (only 5) 1 ≡ true) × (meets three (only 5) 0 ≡ false)
 unfolding rules
 three-holds = (refl, refl)

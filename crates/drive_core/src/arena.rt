@@ -1,7 +1,8 @@
 // All that the requests work on is in one arena, a slice of numbers in which a byte is a number
 // too. It holds the copy that the last request worked on, the store that the settings gave, and the
-// bytes that the line `bytes` gave. A place is given by where its part begins and its index there. Reading
-// outside the arena gives 0 and writing outside does nothing, so no caller needs to know the sizes.
+// bytes that the line `bytes` gave. A place is given by where its part begins and its index there.
+// Reading outside the arena gives 0 and writing outside does nothing, so no caller needs to know
+// the sizes.
 use words::numbers::wide;
 ghost use mathlib.Core.Path.{_≡_};
 ghost use lib.ListN.{length};

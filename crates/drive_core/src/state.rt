@@ -1,9 +1,9 @@
 // What stays from line to line.
 use iset::Map;
 
-// What the last request left in the arena's copy, for `commit`: a map with its node words and colour
-// bytes, or the bytes of the bit calls or of an image, by their number. `reach` is how many hulls changed, for
-// `last`.
+// What the last request left in the arena's copy, for `commit`: a map with its node words and
+// colour bytes, or the bytes of the bit calls or of an image, by their number. `reach` is how many
+// hulls changed, for `last`.
 pub enum Left {
     Nothing,
     Store {

@@ -1,6 +1,6 @@
-// The judge of the store in an image: one pass over the links in the image's own bytes, as the check
-// of a store makes it. The hull of a node is not compared with one that is stored. It is worked out
-// from the node's own interval and its children's hulls. Nothing is written.
+// The judge of the store in an image: one pass over the links in the image's own bytes, as the
+// check of a store makes it. The hull of a node is not compared with one that is stored. It is
+// worked out from the node's own interval and its children's hulls. Nothing is written.
 use crate::layout::count_in;
 use crate::layout::root_in;
 use crate::stored::link_in;

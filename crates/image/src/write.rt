@@ -104,7 +104,8 @@ fn put_whole_bytes(colours: &[u8], n: usize, out: &mut [u8], at: usize)
     }
 }
 
-// Writes the colour bits that fill no whole byte, if there are any. The spare bits are written as 0.
+// Writes the colour bits that fill no whole byte, if there are any. The spare bits are written as
+// 0.
 fn put_last_bits(colours: &[u8], count: u64, out: &mut [u8], at: usize)
     requires { ⌜ HoldsBits (now colours) count × (at + (count + 7) / 8 ≤ length (now out) + count / 8) ⌝ }
     ensures { λ _. ⌜ now (out .exit) ≡ sets (now (out .entry)) at (cond (eqb (count % 8) 0) [] (getD (now (colours .entry)) (count / 8) 0 % 2 ^ (count % 8) ∷ [])) ⌝ }

@@ -1,4 +1,5 @@
--- What is seen of an address in an image is what a drain hands out in the map that was read from it.
+-- What is seen of an address in an image is what a drain hands out in the map that was read from
+-- it.
 use mathlib.Core.Path.{_≡_, refl, sym, ap, _∙_}
 use mathlib.Core.Bool.{Bool, true, false, cond}
 use mathlib.Core.List.{List, [], _∷_}

@@ -1,4 +1,5 @@
--- Addresses looked up in the images of store A, of store A after slot 0 was removed, and of store B.
+-- Addresses looked up in the images of store A, of store A after slot 0 was removed, and of store
+-- B.
 use mathlib.Core.Path.{_≡_, refl}
 use mathlib.Core.List.{List, [], _∷_}
 use Prim.Native.Nat.{ℕ}
@@ -93,8 +94,8 @@ pub told-second : hostValue image-A 10 1 ≡ 2
 unfolding computing
 told-second = refl
 
--- its entries fall, since slot 1 starts at 9: the count judges it, and its refusal comes before that
--- of k
+-- its entries fall, since slot 1 starts at 9: the count judges it, and its refusal comes before
+-- that of k
 pub told-judged : hostCount (set image-A 68 9) 10 ≡ 0
 unfolding computing
 told-judged = refl

@@ -140,7 +140,8 @@ module _ (I : List ℕ) where
       as-drained : AsDrained I a (readStore m W C I .words) (drainedAfter (readStore m W C I) a limit out)
       as-drained = record { accepted = handed I m W C e a limit out enough fits .no-is; count = host-count; values = host-value }
 
-  -- the links that a search follows, in an image that is not refused: in memory that is taken for it
+  -- the links that a search follows, in an image that is not refused: in memory that is taken for
+  -- it
   pub seek-linear : hostImage I ≡ 0 → seekCalls (childIn I n) n 33 (rootIn I) ≤ 2 * n + 1
   seek-linear e =
       let W : List ℕ = replicate (n * 8) 0 in

@@ -1,5 +1,5 @@
--- Said of the code: what the promises of `image_count` and `image_value` allow, beside what those of
--- `Map::read_image` and `Map::drain` allow.
+-- Said of the code: what the promises of `image_count` and `image_value` allow, beside what those
+-- of `Map::read_image` and `Map::drain` allow.
 use mathlib.Core.Path.{_≡_, refl, sym, ap, _∙_}
 use mathlib.Core.List.{List}
 use Prim.Native.Nat.{ℕ, _<_, _≤_}
@@ -36,8 +36,8 @@ use Rattle.image_host.proofs.image_count.Kinds as count-kinds
 use Rattle.image_host.proofs.image_value.Reads as value-reads
 use Rattle.image_host.proofs.image_value.Kinds as value-kinds
 
--- `Map::read_image` read an image and returned the map M; then `Map::drain` in what it left, from the
--- fresh cursor and for the address a, returned d. There was room for all.
+-- `Map::read_image` read an image and returned the map M; then `Map::drain` in what it left, from
+-- the fresh cursor and for the address a, returned d. There was room for all.
 module _ (κr : Lfts 3) (b : K.Dens κr read-kinds.ps) (M : Map) (t : AtExit (K.endedOf 3 read-kinds.ps read-kinds.r) κr)
     (reads : read-reads.Post κr b (built.Done M) t)
     (κd : Lfts 3) (c : K.Dens κd drain-kinds.ps) (d : Drained) (u : AtExit (K.endedOf 3 drain-kinds.ps drain-kinds.r) κd)

@@ -1,5 +1,5 @@
--- A glance works the hulls out and so never finds one wrong. If the hulls in the words are right, it
--- finds what the check finds.
+-- A glance works the hulls out and so never finds one wrong. If the hulls in the words are right,
+-- it finds what the check finds.
 use mathlib.Core.Path.{_≡_, refl, sym, ap, _∙_}
 use mathlib.Core.Bool.{Bool, true, false, cond, false≢true}
 use mathlib.Core.List.{List}

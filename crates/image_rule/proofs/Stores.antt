@@ -140,8 +140,8 @@ module _ (I : List ℕ) (n : ℕ) (C : List ℕ) where
   unfolding loadedColours
   colours-read i room q = painted-bits I n n C i room q
 
--- the judge of the bytes says yes exactly if what reading would leave in any memory with room passes
--- the check
+-- the judge of the bytes says yes exactly if what reading would leave in any memory with room
+-- passes the check
 module _ (I W C : List ℕ) (n r : ℕ) (small : n ≤ 65535) (room : Holds W n) (bits : HoldsBits C n) where
   abbrev X : List ℕ
   X = unpacked I n n W

@@ -1,5 +1,5 @@
--- An image is accepted exactly if it is laid out, has at most 65,535 entries, and holds a store that
--- passes.
+-- An image is accepted exactly if it is laid out, has at most 65,535 entries, and holds a store
+-- that passes.
 use mathlib.Core.Path.{_≡_, refl, sym, _∙_}
 use mathlib.Core.Bool.{Bool, true, false, cond}
 use mathlib.Core.List.{List}

@@ -1,6 +1,6 @@
-// Reads a text into an image. The text is words, numbered from 0 without regard to its lines: `count`,
-// the count, `root`, the root, and then eight words for each slot. After the fourth word and after
-// the last one of each slot comes a line end, after any other word one space.
+// Reads a text into an image. The text is words, numbered from 0 without regard to its lines:
+// `count`, the count, `root`, the root, and then eight words for each slot. After the fourth word
+// and after the last one of each slot comes a line end, after any other word one space.
 use crate::judging::number_of;
 use crate::word::NONE;
 use crate::word::Word;

@@ -1,5 +1,5 @@
--- A lookup that finds all hits at once: what the code's answer stands for, and what it has in common
--- with steps and drains.
+-- A lookup that finds all hits at once: what the code's answer stands for, and what it has in
+-- common with steps and drains.
 use mathlib.Core.Path.{_≡_, sym, ap, _∙_}
 use mathlib.Core.Bool.{Bool}
 use mathlib.Core.List.{List, [], _∷_, append-nil}
@@ -35,7 +35,8 @@ pub refused-tally : (k : ℕ) (t : Checked) (z : Refusal) → checkNumber t ≡ 
     → output (refusedTally (refusalNumber z)) out ≡ output (refusedTally k) out
 refused-tally k t z e q out = ap (λ (i : ℕ). output (refusedTally i) out) (sym (ap checkNumber q) ∙ e)
 
--- the hits l and the nodes entered b, which are k and y, and the output that `written` makes of hits
+-- the hits l and the nodes entered b, which are k and y, and the output that `written` makes of
+-- hits
 pub counted : (written : List ℕ → List ℕ) {l k : List ℕ} {b y : ℕ} → l ≡ k → b ≡ y
     → _≡_ {A = Output TallyAnswer} (output (record { no = 0; hits = length l; entered = b }) (written l))
     (output (record { no = 0; hits = length k; entered = y }) (written k))

@@ -1,6 +1,6 @@
 -- "The store after every build and removal passes the check", and after every insertion, every
--- reading of an image, every unloading and every renumbering: a build with any number of changes after it, and any
--- public calls one after the other.
+-- reading of an image, every unloading and every renumbering: a build with any number of changes
+-- after it, and any public calls one after the other.
 use mathlib.Core.Path.{_≡_, refl, ap}
 use mathlib.Core.Bool.{cond}
 use mathlib.Core.List.{List, [], _∷_}

@@ -1,6 +1,6 @@
--- Document 02, item 4: "a ticket is refused when at least 1 and fewer than 4,294,967,296 changes have
--- come since; at exactly that many it can pass". A ticket is taken in a state S; then come calls,
--- each on what the one before it answered and left, refused ones among them.
+-- Document 02, item 4: "a ticket is refused when at least 1 and fewer than 4,294,967,296 changes
+-- have come since; at exactly that many it can pass". A ticket is taken in a state S; then come
+-- calls, each on what the one before it answered and left, refused ones among them.
 use mathlib.Core.Path.{_≡_, refl, sym, ap, _∙_}
 use mathlib.Core.Bool.{Bool, true, false, cond}
 use mathlib.Core.List.{List, [], _∷_}

@@ -1,5 +1,5 @@
--- Numbering the slots anew: what the tests of both calls leave, in the form that `search` takes, and
--- what an accepted plan does to the store.
+-- Numbering the slots anew: what the tests of both calls leave, in the form that `search` takes,
+-- and what an accepted plan does to the store.
 use mathlib.Core.Path.{_≡_, refl, sym, ap, _∙_}
 use mathlib.Core.Bool.{Bool, true, false, cond}
 use mathlib.Core.List.{List}

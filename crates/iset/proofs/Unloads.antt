@@ -1,5 +1,5 @@
--- Document 02, item 13: an unloading is public removals one after the other, two of them come to the
--- same in either order, and all that is claimed of the call.
+-- Document 02, item 13: an unloading is public removals one after the other, two of them come to
+-- the same in either order, and all that is claimed of the call.
 use mathlib.Core.Path.{_≡_, refl, sym, ap, _∙_}
 use mathlib.Core.Bool.{Bool, true, false, cond, _||_}
 use mathlib.Core.List.{List, [], _∷_, map}

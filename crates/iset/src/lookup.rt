@@ -1,7 +1,7 @@
 // Looking up: finds the entries that intersect a range, or those that are equal to an interval. By
-// rule 1 an entry intersects as in the Rust crate, and by rule 2 if some whole address lies in both. A
-// lookup goes step by step or returns many entries at once. A cursor is its place between two
-// calls.
+// rule 1 an entry intersects as in the Rust crate, and by rule 2 if some whole address lies in
+// both. A lookup goes step by step or returns many entries at once. A cursor is its place between
+// two calls.
 use crate::Checked;
 use crate::Map;
 use iter::Cursor;

@@ -1,6 +1,6 @@
 // Numbers the slots anew, so that entries that follow one another in tree order stand in slots that
-// do. A plan has, at the place of each old slot, its new one. `propose` plans, and `renumber` takes a
-// plan, that one or another.
+// do. A plan has, at the place of each old slot, its new one. `propose` plans, and `renumber` takes
+// a plan, that one or another.
 use crate::Checked;
 use crate::Map;
 use crate::next_version;

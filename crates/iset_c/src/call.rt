@@ -1,5 +1,5 @@
-// A step and a drain for any query, and an unloading by any rule, with the numbers of their answers.
-// They serve the exports.
+// A step and a drain for any query, and an unloading by any rule, with the numbers of their
+// answers. They serve the exports.
 use crate::answer::put_drained;
 use crate::answer::put_step;
 use crate::answer::put_unloaded;

@@ -1,5 +1,5 @@
-// The exports that are lent nodes of eight words. Each is the call of either layout, whose name ends
-// in `_in`, with `narrow` false.
+// The exports that are lent nodes of eight words. Each is the call of either layout, whose name
+// ends in `_in`, with `narrow` false.
 use crate::build_in;
 use crate::check_in;
 use crate::find::find_all_exact_in;

@@ -9,8 +9,9 @@
 // second is BadBound, if a bound's kind is not 0, 1 or 2. If anything is refused, nothing lent has
 // changed, the answer slice included.
 //
-// A function whose name ends in `_in` does the work of an export for nodes of either layout: `narrow`
-// says that a node has six words and not eight. Crate iset_c_narrow has the exports for six words.
+// A function whose name ends in `_in` does the work of an export for nodes of either layout:
+// `narrow` says that a node has six words and not eight. Crate iset_c_narrow has the exports for
+// six words.
 pub mod answer;
 pub mod call;
 pub mod exports;

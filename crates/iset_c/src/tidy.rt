@@ -11,8 +11,8 @@ ghost use Rattle.iset.specs.Maps.{mapAt, mapOf};
 ghost use Rattle.iset.specs.Tidy.{proposeCall};
 ghost use Rattle.iset_c.specs.Replies.{exit, renumberExit};
 
-// Proposes a plan that numbers the slots in tree order: writes the place of each slot. It returns its
-// number and writes no answer.
+// Proposes a plan that numbers the slots in tree order: writes the place of each slot. It returns
+// its number and writes no answer.
 pub fn propose_in(
     count: u64,
     root: u64,

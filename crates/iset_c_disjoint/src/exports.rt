@@ -1,5 +1,5 @@
-// The exports that are lent nodes of eight words. Each is the call of either layout, whose name ends
-// in `_in`, with `narrow` false.
+// The exports that are lent nodes of eight words. Each is the call of either layout, whose name
+// ends in `_in`, with `narrow` false.
 use crate::disjoint_check_in;
 use crate::disjoint_insert_in;
 use crate::disjoint_point_in;

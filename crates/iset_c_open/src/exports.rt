@@ -1,5 +1,5 @@
-// The exports that are lent nodes of eight words. Each is the call of either layout, whose name ends
-// in `_in`, with `narrow` false.
+// The exports that are lent nodes of eight words. Each is the call of either layout, whose name
+// ends in `_in`, with `narrow` false.
 use crate::find::open_find_all_exact_in;
 use crate::find::open_find_all_in;
 use crate::lookup::open_drain_exact_in;

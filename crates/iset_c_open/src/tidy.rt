@@ -12,8 +12,8 @@ ghost use Rattle.iset.specs.Tidy.{openProposeCall};
 ghost use Rattle.iset_c.specs.Replies.{exit};
 ghost use Rattle.iset_c_open.specs.Replies.{openRenumberExit};
 
-// Proposes a plan that numbers the slots in tree order: writes the place of each slot. It returns its
-// number and writes no answer.
+// Proposes a plan that numbers the slots in tree order: writes the place of each slot. It returns
+// its number and writes no answer.
 pub fn open_propose_in(
     count: u64,
     root: u64,

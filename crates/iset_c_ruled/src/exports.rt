@@ -1,5 +1,5 @@
-// The exports that are lent nodes of eight words. Each is the call of either layout, whose name ends
-// in `_in`, with `narrow` false.
+// The exports that are lent nodes of eight words. Each is the call of either layout, whose name
+// ends in `_in`, with `narrow` false.
 use crate::closed::drain_ruled_in;
 use crate::closed::find_all_ruled_in;
 use crate::closed::plain_ruled_in;

@@ -1,5 +1,5 @@
-// Lookups and unloadings by a rule in an opened store, one that passed the check and that only the opened calls
-// have written since.
+// Lookups and unloadings by a rule in an opened store, one that passed the check and that only the
+// opened calls have written since.
 use crate::ruled;
 use iset::Cursor;
 use iset::Map;

@@ -29,7 +29,8 @@ pub enum Query {
     Exact(Interval),
 }
 
-// A query with its range as plain numbers. A lookup has one made of its query before its first move.
+// A query with its range as plain numbers. A lookup has one made of its query before its first
+// move.
 pub enum Tests {
     Within(Limits),
     Equal(Interval),
@@ -168,8 +169,8 @@ pub fn matches(nodes: &[u64], narrow: bool, count: u64, query: Query, index: u64
     }
 }
 
-// Returns the slot where an exact lookup starts: the highest node equal to the query. Returns U, the
-// undefined link, if there is none at most 32 nodes down.
+// Returns the slot where an exact lookup starts: the highest node equal to the query. Returns U,
+// the undefined link, if there is none at most 32 nodes down.
 pub fn find_index(nodes: &[u64], narrow: bool, count: u64, query: Interval, root: u64) -> u64
     requires { ⌜ HoldsIn narrow (now nodes) count ⌝ }
     ensures { λ r. ⌜ r ≡ findFrom (asEight narrow (now (nodes .entry))) count query root ⌝ }

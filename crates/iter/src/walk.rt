@@ -41,7 +41,8 @@ fn side_mark(left_side: bool) -> u64
 }
 
 impl Cursor {
-    // Reads the state of the top level. At no live slot, one below the count, there may be no level.
+    // Reads the state of the top level. At no live slot, one below the count, there may be no
+    // level.
     pub(crate) fn place(self, count: u64) -> Place
         requires { ⌜ Placed count self ⌝ }
         ensures { λ r. ⌜ (r .cursor ≡ self) × Known count r ⌝ }

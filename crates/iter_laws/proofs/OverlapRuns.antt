@@ -1,5 +1,5 @@
--- Demand 3, of overlap lookup by any rule, on a store that passes the check. The list of hits goes by
--- the rule k. The nodes entered and their bound are the same under every rule.
+-- Demand 3, of overlap lookup by any rule, on a store that passes the check. The list of hits goes
+-- by the rule k. The nodes entered and their bound are the same under every rule.
 use mathlib.Core.Path.{_≡_, refl, sym, _∙_}
 use mathlib.Core.Logic.{_↔_}
 use mathlib.Core.Bool.{Bool, cond}

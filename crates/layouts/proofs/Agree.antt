@@ -25,8 +25,8 @@ pub determined : (narrow : Bool) (o : Operation) (m : Map) (M X Y : Memory) (a b
     → (a ≡ b) × (X ≡ Y)
 determined narrow o m M X Y a b d e = (d .answers ∙ sym (e .answers), seen-injective narrow X Y (d .leaves ∙ sym (e .leaves)))
 
--- "unpacking after an operation gives the map .. that the old operation gives on the unpacked store,
--- and .. the call's other answers and outputs are the same"
+-- "unpacking after an operation gives the map .. that the old operation gives on the unpacked
+-- store, and .. the call's other answers and outputs are the same"
 pub agrees : (o : Operation) (m : Map) (N X : Memory) (a : Answer o) → Does true o m N a X → Does false o m (seen true N) a (seen true X)
 unfolding asEight
 agrees o m N X a d = record { answers = d .answers; leaves = d .leaves }

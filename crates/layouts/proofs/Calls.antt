@@ -1,5 +1,5 @@
--- Each public call of crate iset, and each opened one, in either layout and in the eight-word one, does
--- its operation: from the promise that was proved of it.
+-- Each public call of crate iset, and each opened one, in either layout and in the eight-word one,
+-- does its operation: from the promise that was proved of it.
 use mathlib.Core.Path.{_≡_, refl, ap}
 use mathlib.Core.Bool.{true, false}
 use mathlib.Core.List.{List, []}

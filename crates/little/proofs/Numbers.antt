@@ -1,4 +1,5 @@
--- Numbers in bytes: what is written is read, and what is read is written. Each law over every width.
+-- Numbers in bytes: what is written is read, and what is read is written. Each law over every
+-- width.
 use mathlib.Core.Path.{_≡_, refl, ap, _∙_}
 use mathlib.Core.List.{List, [], _∷_, _++_}
 use Prim.Native.Nat.{ℕ, zero, suc, _+_, _-_, _*_, _/_, _%_, _^_, _<_, _≤_}

@@ -1,9 +1,9 @@
 // The plain lookup visits every entry in tree order by links alone, tests each and writes the hits.
-// If the query asks for every entry, no entry needs a test. Tree order is the left subtree, then the
-// node, then the right subtree. The lookup has no stack and reads no hull, the interval that a node
-// keeps for its subtree. It ends on any words: it visits at most `count` entries, with at most 33
-// links between two of them. In a store that passes the check of crate audit no way down or up is
-// longer than 32, so neither number decides there.
+// If the query asks for every entry, no entry needs a test. Tree order is the left subtree, then
+// the node, then the right subtree. The lookup has no stack and reads no hull, the interval that a
+// node keeps for its subtree. It ends on any words: it visits at most `count` entries, with at most
+// 33 links between two of them. In a store that passes the check of crate audit no way down or up
+// is longer than 32, so neither number decides there.
 use iter::rules::Query;
 use iter::rules::matches;
 use tree_links::leftmost_from;

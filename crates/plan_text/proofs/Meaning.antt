@@ -32,8 +32,8 @@ times-set v [] s x h = absurd (omega arith)
 times-set v (a ∷ P) zero x h = omega arith
 times-set v (a ∷ P) (suc s) x h = omega (arith, times-set v P s x (omega arith))
 
--- Before any line, and after each line that is taken: no new slot is given away twice, and a new slot
--- that no line has given away is nowhere in the plan.
+-- Before any line, and after each line that is taken: no new slot is given away twice, and a new
+-- slot that no line has given away is nowhere in the plan.
 record Good (n : ℕ) (P L : List ℕ) : Type 0 where
   long : length P ≡ n
   wide : length L ≡ n

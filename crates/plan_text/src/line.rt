@@ -14,8 +14,8 @@ pub enum Before {
     Old(u64),
 }
 
-// A line so far: nothing; a number with at least one digit; or the old slot and a space, after which
-// a number must begin. A wrong line stays wrong.
+// A line so far: nothing; a number with at least one digit; or the old slot and a space, after
+// which a number must begin. A wrong line stays wrong.
 pub enum Line {
     Start,
     Number(Before, u64),

@@ -1,6 +1,6 @@
 // Reads the lines of a plan, in any order, into a plan: at the place of each old slot, its new one.
-// The plan's length is the count of slots. A place that no line has named yet holds FREE. `lines` has,
-// at the place of each new slot, the number of the line that gave it away, and 0 if none did.
+// The plan's length is the count of slots. A place that no line has named yet holds FREE. `lines`
+// has, at the place of each new slot, the number of the line that gave it away, and 0 if none did.
 use crate::line::Line;
 use crate::line::Said;
 ghost use mathlib.Core.Path.{_≡_};

@@ -1,5 +1,5 @@
-// Prints a plan, and what is wrong with one, through a lent buffer that goes out when it is full. `at`
-// is where the next byte goes. Each call returns the place after what it wrote.
+// Prints a plan, and what is wrong with one, through a lent buffer that goes out when it is full.
+// `at` is where the next byte goes. Each call returns the place after what it wrote.
 use crate::reading::Flaw;
 use lines::output::put_byte;
 use lines::output::put_next;
@@ -53,7 +53,8 @@ fn put_high(out: &mut [u8], at: usize, line: u64, slot: u64, count: u64) -> usiz
     put_number(out, d, count)
 }
 
-// Writes that a line names a slot, `which` says whether old or new, that a line before it has named.
+// Writes that a line names a slot, `which` says whether old or new, that a line before it has
+// named.
 fn put_again(out: &mut [u8], at: usize, which: &[u8], line: u64, slot: u64, before: u64) -> usize
     ensures { λ r. ⌜ page r (now (out .exit)) ≡ outText (page at (now (out .entry))) (againText (now (which .entry)) line slot before) ⌝ }
 {

@@ -1,5 +1,5 @@
-// The pieces of a DOT picture. A missing child is a node that is not drawn, and another one is right
-// below its parent, so that a child is drawn on its own side.
+// The pieces of a DOT picture. A missing child is a node that is not drawn, and another one is
+// right below its parent, so that a child is drawn on its own side.
 use crate::note;
 use lines::output::send;
 use slotshell_say::say;

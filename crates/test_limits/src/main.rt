@@ -1,15 +1,15 @@
 // Builds and checks at the limits of the memory that a map can have, with nodes of eight words and
 // then with nodes of six. Each build prints one line: the number of entries, the number of node
 // words, then the refusal's number. If there is no refusal, the count, the root and the number of
-// the check afterwards follow. Then each chain prints one line: how many nodes it has, the number of
-// node words, and the number of the check. In a chain each node is the right child of the one
-// before. Each build and each chain is in as many words as it takes, and then in one word less. Then
-// a map of as many entries as there can be prints one line: how many are gone after all of them were
-// unloaded, then 0, the count, the root and the number of the check afterwards. Then such a map is
-// renumbered, first by reversal and then, built again, by a shift, and each time back to tree order by
-// the planner's proposal. That prints one line: of either renumbering 0, the count, the root and the
-// number of the check, and the number of the proposal after it; then how many slots the second
-// proposal leaves where they are, and the version.
+// the check afterwards follow. Then each chain prints one line: how many nodes it has, the number
+// of node words, and the number of the check. In a chain each node is the right child of the one
+// before. Each build and each chain is in as many words as it takes, and then in one word less.
+// Then a map of as many entries as there can be prints one line: how many are gone after all of
+// them were unloaded, then 0, the count, the root and the number of the check afterwards. Then such
+// a map is renumbered, first by reversal and then, built again, by a shift, and each time back to
+// tree order by the planner's proposal. That prints one line: of either renumbering 0, the count,
+// the root and the number of the check, and the number of the proposal after it; then how many
+// slots the second proposal leaves where they are, and the version.
 use iset::Map;
 use iset::build::Built;
 use iset::tidy::Renumbering;
@@ -264,8 +264,8 @@ fn unload(list: &mut [u64], nodes: &mut [u64], narrow: bool, colours: &mut [u8])
     output::send(b"\n");
 }
 
-// The slot of slot k in a plan for n slots. By a shift that is the next one, and slot 0 for the last;
-// else it is the one that is as far from the other end.
+// The slot of slot k in a plan for n slots. By a shift that is the next one, and slot 0 for the
+// last; else it is the one that is as far from the other end.
 fn new_slot(n: u64, k: u64, shift: bool) -> u64
     requires { ⌜ k < n ⌝ }
 {

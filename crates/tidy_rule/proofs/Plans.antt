@@ -132,8 +132,8 @@ pub fits-by : (n : ℕ) (P : List ℕ) → length P ≡ n → ((v : ℕ) → v <
 fits-by n P e f =
     record { long = e; once = λ v h. omega (arith, f v h, counted-more n P f v h, counted-le n P) }
 
--- where all are below n, none twice, and there are n of them, each is named once: what the test of a
--- plan finds
+-- where all are below n, none twice, and there are n of them, each is named once: what the test of
+-- a plan finds
 below-one : (m a : ℕ) → a < m → below m a ≡ 1
 unfolding below
 below-one zero a h = absurd (omega arith)

@@ -111,8 +111,8 @@ module _ (i j : ℕ) (d : i ≢ j) where
         (λ e. rw (e, other-second) (bitAt-same (paint C i (red C j)) j (red C i) (rw length-setBit (omega arith))))
         (λ a b. rw (other-rest s a b) (bitAt-other (paint C i (red C j)) j (red C i) s b ∙ bitAt-other C i (red C j) s a))
 
--- Each slot below n of W and C holds what some slot below n of Y and D holds; what lies from n up is
--- as it was there.
+-- Each slot below n of W and C holds what some slot below n of Y and D holds; what lies from n up
+-- is as it was there.
 pub record Shuffled (n : ℕ) (Y D W C : List ℕ) : Type 1 where
   pub words-length : length W ≡ length Y
   pub colours-length : length C ≡ length D

@@ -1,6 +1,6 @@
 // Renumbers the map in the image on standard input by the plan in a file, and writes the new image.
-// The file's name is the program's argument. docs/MANUAL.md, 'Tidy at night', has the form of a plan
-// and the messages. Nothing is written unless the image and the whole plan are accepted.
+// The file's name is the program's argument. docs/MANUAL.md, 'Tidy at night', has the form of a
+// plan and the messages. Nothing is written unless the image and the whole plan are accepted.
 use iset::Map;
 use iset::build::Built;
 use iset::save::Written;

@@ -236,7 +236,8 @@ six-on s p = omega arith
 eight-on : (s p : ℕ) → suc s * 8 + p ≡ suc (suc (suc (suc (suc (suc (suc (suc (s * 8 + p))))))))
 eight-on s p = omega arith
 
--- reading the eight-word form is reading the fieldPut word, and writing to it is writing to the fieldPut word
+-- reading the eight-word form is reading the fieldPut word, and writing to it is writing to the
+-- fieldPut word
 abbrev ReadsAs : Field → ℕ → List ℕ → Type 0
 ReadsAs f s N = getD (unpack N) (s * 8 + place f) 0 ≡ fieldIn f (getD N (s * 6 + packedPlace f) 0)
 
@@ -430,7 +431,8 @@ pub links-none : (w : ℕ) → fieldIn (Child true) w ≡ U → fieldIn (Child f
 unfolding narrowed
 links-none w l r u = sym (whole w) ∙ rw (l, r, u) refl
 
--- "left in the lowest bits, then right, then parent, top 16 bits 0": where they are 0 the three are the 16-bit numbers, 65535 for U
+-- "left in the lowest bits, then right, then parent, top 16 bits 0": where they are 0 the three are
+-- the 16-bit numbers, 65535 for U
 pub link-plain : (k : ℕ) → k < 65536 → widened k ≡ cond (eqb k 65535) U k
 unfolding widened
 link-plain k h = go (eqb k 65535) refl

@@ -1,5 +1,5 @@
-// The words of a node, read and written by slot: eight words, or six where `narrow` holds. Only this
-// file and `links` know the place of each word in its node.
+// The words of a node, read and written by slot: eight words, or six where `narrow` holds. Only
+// this file and `links` know the place of each word in its node.
 use crate::interval::Interval;
 use crate::interval::smaller;
 use crate::ix::Link;

@@ -1,5 +1,5 @@
-// `plain QUERY ROOM` and `find QUERY ROOM`: the lookups that find all hits at once and write them to
-// an output of ROOM places. The plain one visits every entry; the fast one tests hulls.
+// `plain QUERY ROOM` and `find QUERY ROOM`: the lookups that find all hits at once and write them
+// to an output of ROOM places. The plain one visits every entry; the fast one tests hulls.
 use crate::lookups::query;
 use crate::lookups::query::Kind;
 use crate::lookups::reply::Reply;

@@ -6,8 +6,8 @@ use image_host::image_refusal;
 use image_host::image_value;
 use iset::Map;
 
-// What the calls return, in their order. The refusal's number is that of the third, so it is printed
-// last, and the count in its place.
+// What the calls return, in their order. The refusal's number is that of the third, so it is
+// printed last, and the count in its place.
 pub(crate) fn host(m: Map, numbers: &[u64], image: &[u8]) -> Reply {
     let address = given::number(numbers, 0);
     let k = given::number(numbers, 1);

@@ -57,7 +57,8 @@ fn say_none_if(none: bool) {
     }
 }
 
-// Writes each entry that the last change moved, in the order of a list of slots, and returns whether there is one.
+// Writes each entry that the last change moved, in the order of a list of slots, and returns
+// whether there is one.
 pub(crate) fn say_moves(m: Map, nodes: &[u64], bytes: &[u8], was: &[u64], order: &[u64]) -> bool {
     let mut any = false;
     let mut i = 0;
@@ -79,8 +80,8 @@ fn say_if_planned(m: Map, nodes: &[u64], bytes: &[u8], plan: &[u64], old: u64) -
     true
 }
 
-// Writes each entry that a plan would move, in the order of a list of slots. A plan has, at the place
-// of each slot, its new one.
+// Writes each entry that a plan would move, in the order of a list of slots. A plan has, at the
+// place of each slot, its new one.
 pub(crate) fn say_plan(m: Map, nodes: &[u64], bytes: &[u8], plan: &[u64], order: &[u64]) {
     let mut any = false;
     let mut i = 0;

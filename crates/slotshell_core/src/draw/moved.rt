@@ -51,8 +51,8 @@ fn put_next(was: &mut [u64], slot: u64, gone: &[u64], after: &[u64], j: usize) -
 }
 
 // Notes what a change moved that keeps the tree order: the slots in tree order before it, those of
-// them whose entries went away, and the slots in tree order after it. After its slots a list may have
-// U, which stands for none.
+// them whose entries went away, and the slots in tree order after it. After its slots a list may
+// have U, which stands for none.
 pub(crate) fn put_moves(was: &mut [u64], before: &[u64], gone: &[u64], after: &[u64]) {
     clear(was);
     let mut j = 0;

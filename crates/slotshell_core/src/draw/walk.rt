@@ -1,5 +1,5 @@
-// The moves of a walk: down to the left, down to the right, and up. At each node it is entered, then
-// back from the left, then back from the right.
+// The moves of a walk: down to the left, down to the right, and up. At each node it is entered,
+// then back from the left, then back from the right.
 use crate::draw::marks::goes;
 use crate::draw::marks::is_left;
 use crate::draw::nodes;
