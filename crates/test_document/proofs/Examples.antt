@@ -28,10 +28,17 @@ use Rattle.iter.specs.Forms.{onSide, formed, heldForm, formOf}
 use Rattle.iter.specs.Overlap.{meets, shouldGo}
 use Rattle.iter.specs.Exact.{equals, toward, shouldGoExact, find}
 use Rattle.iter.specs.Queries.{rules}
-use Rattle.first_rule.specs.Way.{wayEnd}
+use Rattle.first_rule.specs.Way.{wayEnd, wayNodes}
 use Rattle.first_rule.specs.First.{past, firstPast, firstMet, firstIn}
 use Rattle.unload_rule.specs.Sweep.{sweep}
 use Rattle.unload_rule.specs.Unload.{unloadRule}
+use Rattle.disjoint_rule.specs.Apart.{apartLeft, apartRight, apartAt, apartBelow}
+use Rattle.disjoint_rule.specs.Point.{point, pointNodes}
+use Rattle.disjoint.specs.Check.{disjointRule}
+use Rattle.disjoint.specs.Point.{pointCall}
+use Rattle.disjoint.specs.Place.{meetNumber, trialNumber, openPlaceNumber, placeNumber, placeCall}
+use Rattle.image_host.specs.Host.{hostImage, seenIn, hostCount, hostNumber, hostValue}
+use Rattle.image_rule.specs.Sought.{sought}
 use Rattle.tidy_rule.specs.Plan.{eachOnce, fits, renamed, numbered, proposed}
 use Rattle.tidy_rule.specs.Tidy.{renameKid, tagNode, tagged, tag, swapNodes, swapColours, settle, untagNode, untagged, tidied}
 use Rattle.plain_rule.specs.Tour.{ascend, nextOf, firstOf, tour, entries, plain}
@@ -55,7 +62,7 @@ use Rattle.image_rule.specs.Stored.{unpacked, painted as loadedBits, loadedWord
 use Rattle.image_rule.specs.Written.{header, pieces, shades, imageOf}
 use Rattle.iset.specs.Image.{openWriteImageNumber, writeImageNumber, writeImageCall, readImageNumber, readImageCall}
 use Rattle.test_document.specs.Rows.{Each, outcome, stepsFrom, foundFrom, leftIn, tell}
-use Rattle.test_document.specs.Table.{lone, storeA, storeA₆, storeA′, storeB, storeC, table}
+use Rattle.test_document.specs.Table.{lone, storeA, storeA₆, storeA′, storeB, storeC, storeD, table}
 use Rattle.tree_edit.specs.Rounds.{loop}
 
 -- What the rows compute with, layer by layer: to unfold one of these names is to unfold all that
@@ -109,12 +116,20 @@ unfolding shouldEnter fastRules startAt entering fastNodes fastHits findAllCall
 entering-nodes = record {}
 
 sweeping : Unit {0}
-unfolding wayEnd past firstPast firstMet firstIn sweep unloadRule unloadCall
+unfolding wayEnd wayNodes past firstPast firstMet firstIn sweep unloadRule unloadCall
 sweeping = record {}
 
 tidying : Unit {0}
 unfolding hit eachOnce fits renamed numbered proposed renameKid tagNode tagged tag swapNodes swapColours settle untagNode untagged tidied openProposeNumber proposeNumber proposeCall openRenumberNumber renumberNumber renumberCall
 tidying = record {}
+
+disjoining : Unit {0}
+unfolding apartLeft apartRight apartAt apartBelow point pointNodes disjointRule pointCall meetNumber trialNumber openPlaceNumber placeNumber placeCall
+disjoining = record {}
+
+hosting : Unit {0}
+unfolding hostImage seenIn hostCount hostNumber hostValue sought
+hosting = record {}
 
 ticketing : Unit {0}
 unfolding age ticketNumber openReadNumber readNumber readCall
@@ -129,10 +144,10 @@ unfolding buildNumber buildCall openRemoveNumber removeNumber removeCall fullNum
 changing = record {}
 
 telling : Unit {0}
-unfolding buildIn _at_ _minus_ _plus_ _by_ treeAt treeOf touched boundOf outcome stepsFrom foundFrom leftIn tell lone storeA storeA₆ storeA′ storeB storeC
+unfolding buildIn _at_ _minus_ _plus_ _by_ treeAt treeOf touched boundOf outcome stepsFrom foundFrom leftIn tell lone storeA storeA₆ storeA′ storeB storeC storeD
 telling = record {}
 
 -- one `refl` a row, in the table's order
 pub examples : Each table
-unfolding reading checking building repairing naming removing inserting reaching walking looking touring entering-nodes sweeping tidying ticketing saving changing telling
-examples = (refl, (refl, (refl, (refl, (refl, (refl, (refl, (refl, (refl, (refl, (refl, (refl, (refl, (refl, (refl, (refl, (refl, (refl, (refl, (refl, (refl, (refl, (refl, (refl, (refl, (refl, (refl, (refl, (refl, (refl, (refl, (refl, (refl, (refl, (refl, (refl, (refl, (refl, (refl, (refl, (refl, (refl, (refl, (refl, (refl, (refl, (refl, (refl, (refl, (refl, (refl, (refl, (refl, (refl, (refl, (refl, (refl, (refl, (refl, (refl, (refl, (refl, (refl, (refl, (refl, (refl, (refl, (refl, (refl, (refl, (refl, (refl, (refl, (refl, (refl, (refl, (refl, record {})))))))))))))))))))))))))))))))))))))))))))))))))))))))))))))))))))))))))))))
+unfolding reading checking building repairing naming removing inserting reaching walking looking touring entering-nodes sweeping tidying disjoining hosting ticketing saving changing telling
+examples = (refl, (refl, (refl, (refl, (refl, (refl, (refl, (refl, (refl, (refl, (refl, (refl, (refl, (refl, (refl, (refl, (refl, (refl, (refl, (refl, (refl, (refl, (refl, (refl, (refl, (refl, (refl, (refl, (refl, (refl, (refl, (refl, (refl, (refl, (refl, (refl, (refl, (refl, (refl, (refl, (refl, (refl, (refl, (refl, (refl, (refl, (refl, (refl, (refl, (refl, (refl, (refl, (refl, (refl, (refl, (refl, (refl, (refl, (refl, (refl, (refl, (refl, (refl, (refl, (refl, (refl, (refl, (refl, (refl, (refl, (refl, (refl, (refl, (refl, (refl, (refl, (refl, (refl, (refl, (refl, (refl, (refl, (refl, (refl, record {}))))))))))))))))))))))))))))))))))))))))))))))))))))))))))))))))))))))))))))))))))))

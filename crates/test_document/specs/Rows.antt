@@ -39,6 +39,9 @@ use Rattle.iset.specs.Image.{WriteAnswer, writeImageCall, readImageCall}
 use Rattle.iset.specs.declared.Map.{Map}
 use Rattle.iset.specs.declared.ticket.Ticket.{Ticket}
 use Rattle.iset.specs.Sequence.{State}
+use Rattle.disjoint.specs.Point.{PointAnswer, pointCall}
+use Rattle.disjoint.specs.Place.{placeCall}
+use Rattle.image_host.specs.Host.{hostCount, hostNumber, hostValue}
 use Rattle.test_document.specs.Stores.{buildIn, _plus_, treeOf, touched, boundOf}
 
 -- a pair (old slot, new slot)
@@ -74,7 +77,8 @@ pub data Step : Type 0 where
 -- of a number; a step is its first step; a drain is one call, from a cursor, with a limit and an
 -- output. `unload` is by the rule of a number too, `renumber` by a plan. `write` writes the image
 -- into so many places, `reload` reads what was written in the place of a map, into words and
--- colours.
+-- colours. `ask` asks an address, and the value of a number among its entries, of what was written.
+-- `point` and `place` are the lookup and the insertion of a disjoint map.
 pub data Call : Type 0 where
   build : (words bytes : ℕ) (triples : List ℕ) → Call
   remove : (store : State) (slot : ℕ) → Call
@@ -95,6 +99,9 @@ pub data Call : Type 0 where
   read : (store : State) (ticket : Ticket) → Call
   write : (store : State) (places : ℕ) → Call
   reload : (store : State) (map : Map) (words colours : List ℕ) → Call
+  ask : (store : State) (address index : ℕ) → Call
+  point : (store : State) (address : ℕ) → Call
+  place : (store : State) (entry : Entry) → Call
 
 -- what a build or an insertion leaves; the tree says which node has which children
 pub record Left : Type 0 where
@@ -121,6 +128,7 @@ pub record Limits : Type 0 where
 -- answer; of a drain, a plain lookup and a fast one: the answer and the output. Of an exact lookup:
 -- the answer of `fresh_exact`, and what is found from its cursor on. Of a reading through a ticket,
 -- and of writing an image: the whole answer. Of reading an image: the answer, and what it leaves.
+-- Of an address asked of an image: the three numbers. Of the calls of a disjoint map: the answer.
 pub data Told : Type 0 where
   built : (answer : BuildAnswer) (left : Left) → Told
   removed : (answer : RemoveAnswer) (colours : List ℕ) → Told
@@ -138,6 +146,9 @@ pub data Told : Type 0 where
   given : (answer : ReadAnswer) → Told
   saved : (answer : WriteAnswer) → Told
   loaded : (answer : BuildAnswer) (words colours : List ℕ) → Told
+  hosted : (count value number : ℕ) → Told
+  pointed : (answer : PointAnswer) → Told
+  placed : (answer : InsertAnswer) → Told
 
 infix 68 _gives_
 pub data Row : Type 0 where
@@ -212,6 +223,11 @@ tell (reload t m W C) =
     let d : Output WriteAnswer = writeImageCall (t .map) (t .words) (t .colours) (replicate (imageLength (t .map .count)) 0) in
     let r : Effect BuildAnswer = readImageCall m W C (d .output) in
     loaded (r .answer) (r .words) (r .colours)
+tell (ask t address index) =
+    let d : Output WriteAnswer = writeImageCall (t .map) (t .words) (t .colours) (replicate (imageLength (t .map .count)) 0) in
+    hosted (hostCount (d .output) address) (hostValue (d .output) address index) (hostNumber (d .output) address index)
+tell (point t address) = pointed (pointCall (t .map) (t .words) (t .colours) address)
+tell (place t e) = placed (placeCall (t .map) (t .words) (t .colours) e .answer)
 
 -- a row holds if the rules tell what it says; a table, if each of its rows holds
 abbrev pub Holds : (row : Row) → Type 0

@@ -12,7 +12,7 @@ use Rattle.words.specs.Refusals.{refusalNumber}
 use Rattle.words.specs.declared.interval.Bound.the-variants.{Included, Excluded, Unbounded}
 use Rattle.words.specs.declared.interval.Interval.{Interval}
 use Rattle.words.specs.declared.node.Entry.{Entry}
-use Rattle.words.specs.declared.refusal.Refusal.the-variants.{NoSuch, BadRange, BadInterval, ShortOutput, Stale, BadPlan}
+use Rattle.words.specs.declared.refusal.Refusal.the-variants.{NoSuch, BadRange, BadInterval, ShortOutput, Stale, Overlap as Overlapping, NotDisjoint, BadPlan}
 use Rattle.tree.specs.Tree.{Tree, leaf, node}
 use Rattle.iter.specs.Cursors.{fresh, ended}
 use Rattle.iter.specs.declared.Cursor.{Cursor}
@@ -21,7 +21,7 @@ use Rattle.iset.specs.Maps.{mapAt}
 use Rattle.iset.specs.Ticket.{ticketOf}
 use Rattle.iset.specs.Sequence.{State}
 use Rattle.test_document.specs.Stores.{buildIn, _at_, _minus_, _plus_, _by_}
-use Rattle.test_document.specs.Rows.{Row, _gives_, _to_, moved, colours, _entering_, hit, end, refused, build, remove, insert, unload, propose, renumber, rootRight, slot, sixes, overlap, ruled, step, drain, exact, plain, read, findAll, write, reload, span, built, removed, inserted, unloaded, proposed, renumbered, link, holds, found, stepped, drained, started, looked, given, saved, loaded}
+use Rattle.test_document.specs.Rows.{Row, _gives_, _to_, moved, colours, _entering_, hit, end, refused, build, remove, insert, unload, propose, renumber, rootRight, slot, sixes, overlap, ruled, step, drain, exact, plain, read, findAll, write, reload, ask, point, place, span, built, removed, inserted, unloaded, proposed, renumbered, link, holds, found, stepped, drained, started, looked, given, saved, loaded, hosted, pointed, placed}
 
 -- the entry [3,6) alone
 unfoldable pub lone : State
@@ -68,6 +68,10 @@ listB = 5 ∷ 9 ∷ 1 ∷ 5 ∷ 9 ∷ 2 ∷ 5 ∷ 9 ∷ 3 ∷ []
 
 unfoldable pub storeB : State
 storeB = buildIn 24 1 listB
+
+-- the entries [10,20) and [20,30), which are disjoint, with room for one more
+unfoldable pub storeD : State
+storeD = buildIn 24 1 (10 ∷ 20 ∷ 1 ∷ 20 ∷ 30 ∷ 2 ∷ [])
 
 -- Store C, built from the 65 entries [0,1) 0, [1,2) 1, .. [64,65) 64
 abbrev pub units : (start count : ℕ) → List ℕ
@@ -298,6 +302,19 @@ table =
     -- entries
     reload storeA (mapAt 0 U 6) (replicate 41 7) (246 ∷ []) gives
     loaded (record { no = 0; map = mapAt 5 2 7 }) (storeA .words ++ (7 ∷ [])) (233 ∷ []) ∷
+    -- document 02, item 7: "the number of entries holding an address and the value of the k-th in
+    -- tree order", "3 where k, counted from 0, is too large"
+    ask storeA 12 1 gives hosted 2 2 0 ∷
+    ask storeA 12 2 gives hosted 2 0 (refusalNumber NoSuch) ∷
+    -- document 02, item 10: "a point lookup that goes left below the start, right at or past the
+    -- end"; "14 NotDisjoint"
+    point storeD 19 gives pointed (record { no = 0; slot = 0; entered = 2 }) ∷
+    point storeD 30 gives pointed (record { no = 0; slot = U; entered = 1 }) ∷
+    point storeA 19 gives pointed (record { no = refusalNumber NotDisjoint; slot = U; entered = 0 }) ∷
+    -- "one may end where the next starts"; "refused exactly if some stored entry intersects the new
+    -- one, and names the first such slot in tree order"
+    place storeD (entry 5 10 3) gives placed (record { no = 0; slot = 2; map = mapAt 3 0 2; reach = 2 }) ∷
+    place storeD (entry 15 25 3) gives placed (record { no = refusalNumber Overlapping; slot = 0; map = mapAt 2 1 1; reach = 0 }) ∷
     -- document 02, item 12: "links (left in the lowest bits, then right, then parent, top 16 bits
     -- 0)", "16 bits each with 65535 as undefined"
     sixes sixA gives holds (storeA .words) ∷
