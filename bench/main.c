@@ -30,6 +30,7 @@ void rust_free(map *m);
 uint64_t rust_store(const map *m, uint64_t *words, uint8_t *bytes, size_t n);
 uint64_t rust_remove(map *m, uint64_t slot);
 void rust_insert(map *m, uint64_t start, uint64_t end, uint64_t value);
+uint64_t rust_unload(map *m, uint64_t start, uint64_t end);
 uint64_t rust_all(const map *m);
 uint64_t rust_point(const map *m, uint64_t p);
 uint64_t rust_window(const map *m, uint64_t start, uint64_t end);
@@ -229,6 +230,27 @@ static uint64_t remove_by_store(void) {
 static void after_store_removal(void) {
     store_close(opened);
     after_removal();
+}
+
+/* Unloading a window, beside removals of the crate's hits in it, one after the other. The slots of
+   what is left differ, so its values are compared. */
+static uint64_t window_start, window_end, left[ISET_UNLOAD_ANSWER];
+static uint64_t unload_theirs(void) { return rust_unload(victim, window_start, window_end); }
+static uint64_t unload_ours(void) {
+    iset_open_unload(n, root, 0, spare, 8 * n, spare_bytes, colour_bytes, ISET_INCLUDED, window_start, ISET_EXCLUDED, window_end, left,
+                     ISET_UNLOAD_ANSWER);
+    return left[ISET_UNLOADED_GONE];
+}
+static uint64_t all_of_spare(uint64_t count, uint64_t at) {
+    uint64_t sum = 0, answer[5] = {0};
+    iset_open_drain(count, at, spare, 8 * n, spare_bytes, colour_bytes, ISET_UNBOUNDED, 0, ISET_UNBOUNDED, 0, at, 1, 0, 0, out, n, answer, 5);
+    for (uint64_t i = 0; i < answer[0]; i++)
+        sum += spare[8 * out[i] + ISET_VALUE];
+    return sum;
+}
+static void after_unload(void) {
+    same(rust_all(victim), all_of_spare(left[ISET_UNLOADED_COUNT], left[ISET_UNLOADED_ROOT]), "the entries that are left");
+    rust_free(victim);
 }
 
 /* Insertion of every entry into the map of no entries, in one random order. The two stores are the
@@ -442,6 +464,40 @@ static uint64_t exact_by_store(void) {
 static uint64_t check_theirs(void) { return rust_check(words, 8 * n, bytes, colour_bytes, n, root); }
 SIDES(check, l->check(n, root, l->words, l->width * n, bytes, colour_bytes) == ISET_OK)
 
+/* A map whose slots are scattered: as many entries as there are were removed and added again, one
+   after the other, at random. The plan for it, its renumbering, and a drain of it before and after. */
+static uint64_t plan[MOST], tidied[ISET_RENUMBER_ANSWER];
+static void scatter(void) {
+    uint64_t gone[ISET_REMOVE_ANSWER], come[ISET_INSERT_ANSWER];
+    for (size_t k = 0; k < n; k++) {
+        uint64_t slot = any(n), entry[3];
+        memcpy(entry, words + 8 * slot, sizeof entry);
+        iset_open_remove(n, root, 0, words, 8 * n, bytes, colour_bytes, slot, gone, ISET_REMOVE_ANSWER);
+        iset_open_insert(gone[1], gone[2], 0, words, 8 * n, bytes, colour_bytes, entry[0], entry[1], entry[2], come, ISET_INSERT_ANSWER);
+        root = come[1];
+    }
+    same(check_ours(), 1, "the scattered store passes the check");
+}
+static uint64_t propose_ours(void) { return iset_propose(n, root, words, 8 * n, bytes, colour_bytes, plan, n) == ISET_OK; }
+static void before_renumbering(void) {
+    same(propose_ours(), 1, "a plan");
+    memcpy(spare, words, 64 * n);
+    memcpy(spare_bytes, bytes, colour_bytes);
+}
+static uint64_t renumber_ours(void) {
+    return iset_renumber(n, root, 0, spare, 8 * n, spare_bytes, colour_bytes, plan, n, tidied, ISET_RENUMBER_ANSWER) == ISET_OK;
+}
+static void after_renumbering(void) {
+    same(iset_propose(n, tidied[1], spare, 8 * n, spare_bytes, colour_bytes, plan, n), ISET_OK, "a plan of the tidied map");
+    for (size_t k = 0; k < n; k++)
+        same(plan[k], k, "what the tidied map has to move");
+}
+static void before_tidied(void) {
+    before_renumbering();
+    same(renumber_ours(), 1, "a renumbering");
+}
+static uint64_t all_tidied(void) { return all_of_spare(n, tidied[1]); }
+
 /* The map saved as an image and loaded back, each side into memory of its own. */
 static uint8_t image[ISET_IMAGE_LEN(MOST)], other_image[ISET_IMAGE_LEN(MOST)];
 static uint64_t write_theirs(void) { return rust_write_image(words, 8 * n, bytes, colour_bytes, n, root, other_image, ISET_IMAGE_LEN(n)); }
@@ -573,11 +629,33 @@ static void start(size_t size, uint64_t equals) {
     same(check_ours() && check_six(), 1, "the crate's store passes the check");
 }
 
+/* Half of the entries end at one address, and the other half starts there or after it. */
+static void start_touching(size_t size) {
+    n = size;
+    colour_bytes = n / 8 + 1;
+    for (size_t k = 0; k < n; k++) {
+        bool low = k < n / 2;
+        list[3 * k] = low ? k : n + 5 * (k - n / 2);
+        list[3 * k + 1] = low ? n : list[3 * k] + width;
+        list[3 * k + 2] = k;
+    }
+    crate = rust_build(list, n);
+    root = rust_store(crate, words, bytes, n);
+    pack(words, thin);
+    window_start = n, window_end = UINT64_MAX;
+}
+
 int main(int words_given, char **given) {
     if (words_given == 2 && atoi(given[1]) < LOOKUPS)
         publics = (size_t)atoi(given[1]);
     static bench_case
         removal = {"removal of every entry, opened", before_removal, remove_theirs, remove_ours, after_removal, 0},
+        unload_half = {"unloading of half of the entries, opened", before_removal, unload_theirs, unload_ours, after_unload, 0},
+        unload_all = {"unloading of every entry, opened", before_removal, unload_theirs, unload_ours, after_unload, 0},
+        unload_touching = {"unloading of half, the other half ends at the bound, opened", before_removal, unload_theirs, unload_ours, after_unload, 0},
+        propose = {"plan of a scattered map, against the check", nothing, check_ours, propose_ours, nothing, 0},
+        renumber = {"renumbering of a scattered map, against the check", before_renumbering, check_ours, renumber_ours, after_renumbering, 0},
+        tidy_all = {"drain over the tidied map at once, against the scattered one", before_tidied, all_ours, all_tidied, nothing, 0},
         insertion = {"insertion of every entry, opened", before_insertion, insert_theirs, insert_ours, after_insertion, 0},
         all = {"drain over the whole map at once, opened", nothing, all_theirs, all_ours, nothing, 0},
         pieces = {"drain over the whole map in pieces of 64, opened", nothing, all_theirs, all_in_pieces, nothing, 0},
@@ -630,6 +708,10 @@ int main(int words_given, char **given) {
     for (int k = 0; k < 3; k++) {
         start(sizes[k], 1);
         measure(&removal, n);
+        window_start = 0, window_end = 5 * (n / 2);
+        measure(&unload_half, n / 2);
+        window_end = range_end;
+        measure(&unload_all, n);
         measure(&insertion, n);
         measure(&all, n);
         measure(&pieces, n);
@@ -670,6 +752,10 @@ int main(int words_given, char **given) {
         measure(&count, n);
         measure(&count_bare, n);
         measure(&count_check, n);
+        scatter();
+        measure(&propose, n);
+        measure(&renumber, n);
+        measure(&tidy_all, n);
         rust_free(crate);
         start(sizes[k], 16);
         measure(&exact, n / 16);
@@ -687,5 +773,8 @@ int main(int words_given, char **given) {
         rust_free(crate);
         width = 12;
     }
+    start_touching(16000);
+    measure(&unload_touching, n / 2);
+    rust_free(crate);
     return 0;
 }

@@ -7,6 +7,7 @@ mod image;
 mod store;
 
 use alloc::boxed::Box;
+use alloc::vec::Vec;
 use core::slice::{from_raw_parts, from_raw_parts_mut};
 use iset::bench::{remove_at, store, Map};
 
@@ -47,6 +48,13 @@ pub unsafe extern "C" fn rust_store(map: *const Map, words: *mut u64, bytes: *mu
 #[no_mangle]
 pub unsafe extern "C" fn rust_remove(map: *mut Map, slot: u64) -> u64 {
     remove_at(&mut *map, slot as u32).unwrap()
+}
+
+/// Removes the entries that intersect a range, one after the other, by their intervals. How many there were.
+#[no_mangle]
+pub unsafe extern "C" fn rust_unload(map: *mut Map, start: u64, end: u64) -> u64 {
+    let hits: Vec<_> = (*map).intervals(start..end).collect();
+    hits.iter().filter(|hit| (*map).remove((*hit).clone()).is_some()).count() as u64
 }
 
 /// The sum of the values of all entries.

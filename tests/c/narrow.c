@@ -327,7 +327,7 @@ static void damage(void) {
 static void any_call(int apart) {
     if (apart && any(30)) disjoint_calls();
     else if (any(5) < 3) insert();
-    else if (any(5) < 3) remove_one();
+    else if (any(7) < 5) remove_one();
     else if (any(2)) unload();
     else renumber();
 }
