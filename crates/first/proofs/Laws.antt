@@ -36,22 +36,25 @@ module _ (W : List ℕ) (n : ℕ) (b : Bound) (all f k : ℕ) (e : all ≡ first
   unfolding firstPast
   past-out h = sym (e ∙ end-gone (pastWay (passed b) W n) W n f k h)
 
-  module _ (d x : ℕ) (left own : Bool) (z : 0 < f) (h : k < n) (c : d ≡ kid W true k) (p : left ≡ past (passed b) W n d) (i : x ≡ stop W k)
-      (o : own ≡ passed b x) where
-    left-is : left ≡ past (passed b) W n (kid W true k)
+  module _ (d : ℕ) (t : Bool) (z : 0 < f) (h : k < n) (c : d ≡ kid W true k) (p : t ≡ past (passed b) W n d) where
+    left-is : t ≡ past (passed b) W n (kid W true k)
     left-is = p ∙ ap (past (passed b) W n) c
 
-    ends-is : (not left && own) ≡ pastWay (passed b) W n .ends k
-    ends-is = rw (left-is, o, i)
-
-    pub past-here : not left && own ≡ true → k ≡ all
+    pub past-left : (g : ℕ) → t ≡ true → g ≡ f - 1 → all ≡ firstPast (passed b) W n g d
     unfolding firstPast
-    past-here t = sym (e ∙ end-here (pastWay (passed b) W n) W n f k (f - 1) (omega arith) h (sym ends-is ∙ t))
+    past-left g q v =
+        e ∙ end-on (pastWay (passed b) W n) W n f k g (omega arith) h d (c ∙ ap (λ (s : Bool). kid W s k) (sym q ∙ left-is)) (rw (← left-is, q) refl)
 
-    pub past-on : (w g : ℕ) → not left && own ≡ false → w ≡ kid W left k → g ≡ f - 1 → all ≡ firstPast (passed b) W n g w
-    unfolding firstPast
-    past-on w g t u v =
-        e ∙ end-on (pastWay (passed b) W n) W n f k g (omega arith) h w (u ∙ ap (λ (s : Bool). kid W s k) left-is) (sym ends-is ∙ t)
+    module _ (x : ℕ) (own : Bool) (q : t ≡ false) (i : x ≡ stop W k) (o : own ≡ passed b x) where
+      pub past-here : own ≡ true → k ≡ all
+      unfolding firstPast
+      past-here y = sym (e ∙ end-here (pastWay (passed b) W n) W n f k (f - 1) (omega arith) h (rw (← left-is, q, ← i, ← o) y))
+
+      pub past-right : (w g : ℕ) → own ≡ false → w ≡ kid W false k → g ≡ f - 1 → all ≡ firstPast (passed b) W n g w
+      unfolding firstPast
+      past-right w g y u v =
+          e ∙ end-on (pastWay (passed b) W n) W n f k g (omega arith) h w (u ∙ ap (λ (s : Bool). kid W s k) (sym q ∙ left-is))
+          (rw (← left-is, q, ← i, ← o) y)
 
 module _ (W : List ℕ) (n s : ℕ) (b : Bound) where
   pub admitted-there : (r : Bool) (x : ℕ) → s < n → x ≡ start W s → r ≡ admits b x → r ≡ (ltb s n && admits b (start W s))

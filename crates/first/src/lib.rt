@@ -41,13 +41,16 @@ fn first_past(nodes: &[u64], narrow: bool, count: u64, root: u64, lo: Bound) -> 
         if count <= at {
             return U;
         }
-        let left = is_past(nodes, narrow, count, child_of(nodes, narrow, at, true), lo);
-        let own = lo.passed_by(end_of(nodes, narrow, at));
-        if !left & own {
+        height -= 1;
+        let left = child_of(nodes, narrow, at, true);
+        if is_past(nodes, narrow, count, left, lo) {
+            at = left;
+            continue;
+        }
+        if lo.passed_by(end_of(nodes, narrow, at)) {
             return at;
         }
-        at = child_of(nodes, narrow, at, left);
-        height -= 1;
+        at = child_of(nodes, narrow, at, false);
     }
     U
 }

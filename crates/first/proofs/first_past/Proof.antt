@@ -4,7 +4,7 @@ use borrow.Author.Needs.{needs}
 use Rattle.words.specs.Layouts.{asEight}
 use Rattle.words.specs.Intervals.{passed}
 use Rattle.first_rule.specs.First.{firstPast}
-use Rattle.first.proofs.Laws.{past-spent, past-out, past-here, past-on}
+use Rattle.first.proofs.Laws.{past-spent, past-out, past-left, past-here, past-right}
 use Rattle.first.proofs.first_past.Statement.{statement}
 use Rattle.first.proofs.first_past.Tie as tie
 
@@ -22,13 +22,15 @@ first-past-spec =
     μ-loop
     (λ c. refl)
     (λ c. search past-out)
+    (λ c. omega arith)
     (λ c κs. omega arith)
     (λ c κs. search needs)
+    (λ c. omega arith)
+    (λ c. search past-left)
     (λ c κs. omega arith)
     (λ c κs. search needs)
     (λ c. search past-here)
     (λ c κs. omega arith)
     (λ c. omega arith)
-    (λ c. omega arith)
-    (λ c. search past-on)
+    (λ c. search past-right)
     (λ c. search past-spent))
