@@ -5,6 +5,7 @@
                           model; tries that trees of up to 31 entries fit 100 columns, that nothing
                           overlaps in a picture, and that every command and refusal was met; the
                           program must be built (rt check)
+    slotshell.py COMMAND  the same with the program that a command runs
     slotshell.py print    what slotshell prints for the commands on standard input
 
 The last line of a run is 'slotshell: N passed, M failed'.
@@ -565,10 +566,8 @@ help, quit
 A RANGE is [20,25), (20,25], [20,..) or the like, or .. for everything."""
 
 
-def program():
-    """The command that runs the proved program, or another one that the caller names."""
-    if len(sys.argv) > 1:
-        return sys.argv[1:]
+def built_program():
+    """The command that runs the proved program."""
     kit = pathlib.Path(subprocess.run(['rt', 'doc'], capture_output=True, text=True).stdout.strip()).parent.parent
     tools = kit / 'on' / platform.machine() / 'toolchain'
     emulator = tools / 'bin/qemu-x86_64'
@@ -685,7 +684,7 @@ def main():
     if sys.argv[1:] == ['print']:
         sys.stdout.write(answered(sys.stdin.buffer.read()))
         return
-    run, passed, failed, met = program(), 0, 0, set()
+    run, passed, failed, met = sys.argv[1:] or built_program(), 0, 0, set()
     r = random.Random(34)
     for k, talk in enumerate(list(fixed_talks()) + [some_talk(r) for _ in range(150)]):
         shell = Shell()
