@@ -5,14 +5,17 @@
                           model; tries that trees of up to 31 entries fit 100 columns, that nothing
                           overlaps in a picture, and that every command and refusal was met; the
                           program must be built (rt check)
+    slotshell.py COMMAND  the same with the program that a command runs
     slotshell.py print    what slotshell prints for the commands on standard input
 
 The last line of a run is 'slotshell: N passed, M failed'.
 """
+import os
 import pathlib
 import platform
 import random
 import re
+import select
 import subprocess
 import sys
 
@@ -541,6 +544,7 @@ def answered(data, shell=None):
     return ''.join(text + '\n' for text in shell.out)
 
 
+GREETING = 'An empty map, with room for 256 entries. help lists the commands, quit ends.'
 HELP = """\
 build START END VALUE ..   a new map of these entries, sorted
 insert START END VALUE     one entry more
@@ -565,10 +569,8 @@ help, quit
 A RANGE is [20,25), (20,25], [20,..) or the like, or .. for everything."""
 
 
-def program():
-    """The command that runs the proved program, or another one that the caller names."""
-    if len(sys.argv) > 1:
-        return sys.argv[1:]
+def built_program():
+    """The command that runs the proved program."""
     kit = pathlib.Path(subprocess.run(['rt', 'doc'], capture_output=True, text=True).stdout.strip()).parent.parent
     tools = kit / 'on' / platform.machine() / 'toolchain'
     emulator = tools / 'bin/qemu-x86_64'
@@ -681,11 +683,54 @@ def drawn_well(svg):
             and all(bottom - 8 <= start or end - 1 <= top + 8 for start, end in links for top, bottom in rows))
 
 
+# A talk, line by line
+
+def heard(source, end):
+    """What is written up to an end, or within a minute."""
+    text = b''
+    while not text.endswith(end) and select.select([source], [], [], 60)[0]:
+        piece = os.read(source, 4096)
+        text += piece
+        if not piece:
+            break
+    return text
+
+
+def answers_at_once(run):
+    """Through pipes, each line is answered before the next one is written."""
+    with subprocess.Popen(run, stdin=subprocess.PIPE, stdout=subprocess.PIPE, bufsize=0) as shell:
+        told = b''
+        for line in b'check', b'insert 1 2 3', b'tree', b'what', b'remove 1', b'find [0,9)':
+            before = answered(told).encode()
+            told += line + b'\n'
+            shell.stdin.write(line + b'\n')
+            answer = answered(told).encode()[len(before):]
+            if heard(shell.stdout.fileno(), answer) != answer:
+                return False
+        shell.stdin.close()
+        return not shell.stdout.read()
+
+
+def is_typed_to(run):
+    """On a terminal it says how to begin, asks for each line, and ends at the end of the input."""
+    ours, its = os.openpty()
+    with subprocess.Popen(run, stdin=its, stdout=its) as shell:
+        os.close(its)
+        text = heard(ours, b'> ')
+        for line in b'check\n', b'\4':
+            os.write(ours, line)
+            text += heard(ours, b'> ' if line != b'\4' else b'\n')
+        shell.wait(60)
+    os.close(ours)
+    lines = [line.strip() for line in text.decode().split('\n')]
+    return lines == [GREETING, '> check', 'sound: entries 0, root -, version 0', '>', '']
+
+
 def main():
     if sys.argv[1:] == ['print']:
         sys.stdout.write(answered(sys.stdin.buffer.read()))
         return
-    run, passed, failed, met = program(), 0, 0, set()
+    run, passed, failed, met = sys.argv[1:] or built_program(), 0, 0, set()
     r = random.Random(34)
     for k, talk in enumerate(list(fixed_talks()) + [some_talk(r) for _ in range(150)]):
         shell = Shell()
@@ -699,6 +744,10 @@ def main():
         passed, failed = passed + (not wrong), failed + bool(wrong)
         for what in wrong:
             print('slotshell: talk %d, %r ..: %s' % (k, talk[:60], what))
+    for what, good in ('an answer did not come at once', answers_at_once(run)), ('a talk on a terminal', is_typed_to(run)):
+        passed, failed = passed + good, failed + (not good)
+        if not good:
+            print('slotshell: wrong: ' + what)
     missing = [str(name) for name in list(REFUSED) + list(BARE) + list(RANGED) + list(COUNTS) if name not in met]
     if missing:
         failed += 1

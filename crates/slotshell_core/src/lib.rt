@@ -209,9 +209,14 @@ fn is_quit_name(c: Bare) -> bool {
     if let Bare::Quit = c { true } else { false }
 }
 
-// Whether standard output is still open. A failed write has closed it (lines::output).
+// Whether standard output still takes something. A failed write has closed it (lines::output). If
+// it takes not even nothing, it is closed here, so that the end of the program reports it.
 fn is_open() -> bool {
-    0 <= libc::write(STDOUT_FILENO, &[])
+    if 0 <= libc::write(STDOUT_FILENO, &[]) {
+        return true;
+    }
+    libc::close(STDOUT_FILENO);
+    false
 }
 
 // Whether somebody types, and sees the answers.
