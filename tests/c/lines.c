@@ -1,7 +1,8 @@
 // Requests of the program drive, docs/DRIVE.md, through the calls of include/iset_open.h,
 // include/iset_ruled.h, include/iset_disjoint.h and include/iset_image.h: a line in, a line out.
-// Every store passes the check. If a request has an opened call and a public one in iset_ruled.h or
-// iset_disjoint.h, both are made, and have to do the same.
+// Every store passes the check. If a request is an unloading, a plan or a renumbering, or has an
+// opened call and a public one in iset_ruled.h or iset_disjoint.h, both calls are made, and have to
+// do the same.
 #include <inttypes.h>
 #include <stdio.h>
 #include <stdlib.h>
@@ -15,6 +16,7 @@
 #define WORDS 32768
 #define BYTES 512
 #define PLACES 4096
+#define PLAN 12288
 #define IMAGE 16384
 
 // the store of the last line `store`, the copy that a request works on and another one, and the
@@ -23,6 +25,7 @@ static uint64_t nodes[WORDS], copy[WORDS], twin[WORDS], out[PLACES], out_twin[PL
 static uint32_t version;
 static uint8_t colours[BYTES], colours_copy[BYTES], colours_twin[BYTES], image[IMAGE], given[IMAGE];
 static size_t words, bytes, given_len;
+static uint64_t plan[PLAN];
 
 #define STORE count, root, copy, words, colours_copy, bytes
 #define CHANGED(nodes, colours) count, root, version, nodes, words, colours, bytes
@@ -190,6 +193,48 @@ static void write_image(void) {
     put_changes();
 }
 
+// whether two calls left the same in the copy and in its twin
+static int same_store(void) {
+    return memcmp(copy, twin, words * sizeof *copy) == 0 && memcmp(colours_copy, colours_twin, bytes) == 0;
+}
+
+static void unload(void) {
+    uint64_t q[5], a[ISET_UNLOAD_ANSWER] = {count, root}, b[ISET_UNLOAD_ANSWER] = {count, root}, no, public_no;
+    if (query(q) == 'o') {
+        no = iset_open_unload(CHANGED(copy, colours_copy), RANGE, a, ISET_UNLOAD_ANSWER);
+        public_no = iset_unload(CHANGED(twin, colours_twin), RANGE, b, ISET_UNLOAD_ANSWER);
+    } else {
+        no = iset_open_unload_ruled(CHANGED(copy, colours_copy), q[4], RANGE, a, ISET_UNLOAD_ANSWER);
+        public_no = iset_unload_ruled(CHANGED(twin, colours_twin), q[4], RANGE, b, ISET_UNLOAD_ANSWER);
+    }
+    same(public_no == no && memcmp(a, b, sizeof a) == 0 && same_store(), "unloading");
+    put(no, a, 2);
+    printf(" %" PRIu64, a[ISET_UNLOADED_GONE]);
+    put_changes();
+}
+
+static void propose(void) {
+    uint64_t places = number();
+    fill(places);
+    uint64_t no = iset_open_propose(STORE, out, places);
+    same(iset_propose(STORE, out_twin, places) == no && same_output(places), "plan");
+    put(no, NULL, 0);
+    printf(" ");
+    put(places, out, places);
+    put_changes();
+}
+
+static void renumber(void) {
+    uint64_t a[ISET_RENUMBER_ANSWER] = {count, root}, b[ISET_RENUMBER_ANSWER] = {count, root}, n = number();
+    if (n > PLAN) exit(1);
+    for (uint64_t i = 0; i < n; i++) plan[i] = number();
+    uint64_t no = iset_open_renumber(CHANGED(copy, colours_copy), plan, n, a, ISET_RENUMBER_ANSWER);
+    uint64_t public_no = iset_renumber(CHANGED(twin, colours_twin), plan, n, b, ISET_RENUMBER_ANSWER);
+    same(public_no == no && memcmp(a, b, sizeof a) == 0 && same_store(), "renumbering");
+    put(no, a, 2);
+    put_changes();
+}
+
 static void check_disjoint(void) {
     put(iset_disjoint_check(STORE), NULL, 0);
     put_changes();
@@ -197,10 +242,6 @@ static void check_disjoint(void) {
 
 // whether an opened call may be made
 static int is_disjoint(void) { return iset_disjoint_check(count, root, nodes, words, colours, bytes) == ISET_OK; }
-
-static int same_store(void) {
-    return memcmp(copy, twin, words * sizeof *copy) == 0 && memcmp(colours_copy, colours_twin, bytes) == 0;
-}
 
 static void point(void) {
     uint64_t a[ISET_POINT_ANSWER] = {ISET_U, 0}, b[ISET_POINT_ANSWER] = {ISET_U, 0}, address = number();
@@ -249,6 +290,7 @@ static const struct {
     {"store", store}, {"bytes", bytes_given}, {"remove", remove_slot}, {"insert", insert}, {"read", read_slot}, {"fresh", fresh},
     {"step", step}, {"drain", drain}, {"plain", plain}, {"find", find_all}, {"write", write_image}, {"checkd", check_disjoint},
     {"point", point}, {"insertd", insert_disjoint}, {"removed", remove_disjoint}, {"chost", host},
+    {"unload", unload}, {"propose", propose}, {"renumber", renumber},
 };
 
 int main(void) {

@@ -11,7 +11,7 @@ sys.path.insert(0, str(TOP / 'tests'))
 import drive  # noqa: E402
 import model  # noqa: E402
 
-TAKEN = 'remove ', 'insert ', 'fresh e ', 'step ', 'drain ', 'plain ', 'find ', 'read ', 'write ', 'checkd', 'point ', 'insertd ', 'removed '
+TAKEN = 'remove ', 'insert ', 'fresh e ', 'step ', 'drain ', 'plain ', 'find ', 'read ', 'write ', 'checkd', 'point ', 'insertd ', 'removed ', 'unload ', 'propose ', 'renumber '
 
 
 def store_line(store):
