@@ -32,11 +32,11 @@
  * says. An array that a call writes overlaps no other argument, and nothing else uses it during the
  * call. An array of length 0 may have any pointer, NULL included.
  *
- * A slot stays valid until the next removal, unloading or renumbering. The removal lists the entries
- * that moved: update the slots you kept with iset_slot_after, or look them up again. An unloading
- * lists none: look them up again. The plan of a renumbering has the new slot of each. An insertion
- * moves no entry: every slot stays valid. A cursor that is used after a change is tested against the
- * new store.
+ * A slot stays valid until the next removal, unloading or renumbering. The removal lists the
+ * entries that moved: update the slots you kept with iset_slot_after, or look them up again. An
+ * unloading lists none: look them up again. The plan of a renumbering has the new slot of each. An
+ * insertion moves no entry: every slot stays valid. A cursor that is used after a change is tested
+ * against the new store.
  *
  * The version goes up by one at each build, removal, insertion, renumbering and reading of an image
  * that is not refused, and at an unloading by the number of entries that went; after 4294967295
@@ -255,32 +255,32 @@ uint64_t iset_insert(uint64_t count, uint64_t root, uint32_t version, uint64_t *
     size_t nodes_len, uint8_t *colours, size_t colours_len, uint64_t start, uint64_t end,
     uint64_t value, uint64_t *answer, size_t answer_len);
 
-/* Unloads a range: removes the first entry that intersects it, in the order of the entries, over and
- * over, until none is left. What intersects a range is said at iset_step. The other entries keep
- * their order, and may change slot. The slots from the new count up to the old one are empty, as a
- * removal leaves them. The version goes up by as many as went: if none did, nothing has changed, and
- * tickets can still be read. The check is made once, at the beginning.
+/* Unloads a range: removes the first entry that intersects it, in the order of the entries, over
+ * and over, until none is left. What intersects a range is said at iset_step. The other entries
+ * keep their order, and may change slot. The slots from the new count up to the old one are empty,
+ * as a removal leaves them. The version goes up by as many as went: if none did, nothing has
+ * changed, and tickets can still be read. The check is made once, at the beginning.
  * Answer: count, root, version, how many entries went.
  * Refusals: SHORT_ANSWER, BAD_BOUND, NO_ROOM, BROKEN, BAD_RANGE. */
 uint64_t iset_unload(uint64_t count, uint64_t root, uint32_t version, uint64_t *nodes,
     size_t nodes_len, uint8_t *colours, size_t colours_len, uint64_t lo_kind, uint64_t lo,
     uint64_t hi_kind, uint64_t hi, uint64_t *answer, size_t answer_len);
 
-/* Proposes a plan that numbers the slots in the order of the entries: out[slot] is the place of that
- * slot's entry in this order, counted from 0. The plan is the first `count` places of `out`; places
- * past them are unchanged. Nothing moves. Hand the plan on to iset_renumber, with `count` for its
- * length. If it names every slot as it is, the map is tidy.
+/* Proposes a plan that numbers the slots in the order of the entries: out[slot] is the place of
+ * that slot's entry in this order, counted from 0. The plan is the first `count` places of `out`;
+ * places past them are unchanged. Nothing moves. Hand the plan on to iset_renumber, with `count`
+ * for its length. If it names every slot as it is, the map is tidy.
  * What it returns is all: there is no answer.
  * Refusals: NO_ROOM, BROKEN, SHORT_OUTPUT if `out` has fewer places than the count. */
 uint64_t iset_propose(uint64_t count, uint64_t root, const uint64_t *nodes, size_t nodes_len,
     const uint8_t *colours, size_t colours_len, uint64_t *out, size_t out_len);
 
-/* Renumbers the slots by a plan, that of iset_propose or any other: the entry of slot s moves to slot
- * plan[s], with its colour and its links. The order of the entries and the shape of the tree stay.
- * A plan has exactly `count` numbers, and each slot below the count is one of them. It is only read.
- * Slots and colour bits from the count up are unchanged. The version goes up by one, also if nothing
- * moves. The test of the plan takes 8 KiB of stack, and the whole call, with the check, at most
- * ISET_RENUMBER_STACK bytes.
+/* Renumbers the slots by a plan, that of iset_propose or any other: the entry of slot s moves to
+ * slot plan[s], with its colour and its links. The order of the entries and the shape of the tree
+ * stay. A plan has exactly `count` numbers, and each slot below the count is one of them. It is
+ * only read. Slots and colour bits from the count up are unchanged. The version goes up by one,
+ * also if nothing moves. The test of the plan takes 8 KiB of stack, and the whole call, with the
+ * check, at most ISET_RENUMBER_STACK bytes.
  * Answer: count, root, version.
  * Refusals: SHORT_ANSWER, NO_ROOM, BROKEN, BAD_PLAN. */
 uint64_t iset_renumber(uint64_t count, uint64_t root, uint32_t version, uint64_t *nodes,

@@ -40,8 +40,8 @@ typedef struct iset_ticket {
     uint32_t version;
 } iset_ticket;
 
-/* The two lent arrays. Only builds, removals, insertions, unloadings, renumberings and readings of an
- * image write them. */
+/* The two lent arrays. Only builds, removals, insertions, unloadings, renumberings and readings of
+ * an image write them. */
 typedef struct iset_memory {
     uint64_t *nodes;
     size_t nodes_len;

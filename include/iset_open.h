@@ -1,9 +1,9 @@
 /* The calls of iset.h without the check of the store, for a host that keeps its arrays to itself.
  *
  * These calls may be used if three things hold. The store passed iset_check once, or iset_build
- * or iset_read_image made it, or it is the map of no entries. Since then nobody has written its two arrays but these
- * calls and those of iset.h. The count and the root passed in are those of the last answer, and so
- * is the version.
+ * or iset_read_image made it, or it is the map of no entries. Since then nobody has written its two
+ * arrays but these calls and those of iset.h. The count and the root passed in are those of the
+ * last answer, and so is the version.
  *
  * Then each call returns, answers and leaves exactly what the call of iset.h does that has its name
  * without `open_`, and the store still passes the check. Otherwise answers may be wrong and a call
@@ -12,8 +12,9 @@
  * The calls of iset.h check the whole store each time. These do not: the time of an insertion, a
  * removal and a step grows with the height of the tree, that of an unloading with the height for
  * each entry that goes, that of a drain and of iset_open_find_all with the nodes that they enter,
- * that of a plain lookup, a plan and a renumbering with the count. A step or a drain that continues from a cursor tests that
- * cursor first, one link a level: to fetch many slots, ask for 64 at a time.
+ * that of a plain lookup, a plan and a renumbering with the count. A step or a drain that continues
+ * from a cursor tests that cursor first, one link a level: to fetch many slots, ask for 64 at a
+ * time.
  *
  * Arguments, answers, refusals and their order are those of iset.h, except that these calls never
  * return ISET_BROKEN. Link libiset_open.a beside libiset.a; `./archive` writes both:

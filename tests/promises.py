@@ -28,8 +28,8 @@ BODIES, EXPORTS, NARROW = {'iset_c', 'iset_c_open', 'iset_c_disjoint', 'iset_c_r
 # Here the public calls are those that return one of these types, and `new`. The others are inner
 # functions, as in all other crates.
 ANSWERS = {'bitvec': {'Answer'}, 'stack': {'Answer', 'Outcome', 'After'}}
-# What these return and leave is what the system gives them, so no rule can say it. Their promise is a
-# bound. docs/DECISIONS.md lists them too.
+# What these return and leave is what the system gives them, so no rule can say it. Their promise is
+# a bound. docs/DECISIONS.md lists them too.
 GIVEN = {('lines', 'read_all')}
 # The whole tree has more; a reading that finds fewer has gone wrong.
 FEWEST_FUNCTIONS, FEWEST_CALLS = 100, 50

@@ -214,8 +214,8 @@ impl<'m> DisjointStore<'m> {
         self.lent.read().point(&OPENED, address)
     }
 
-    /// Adds an entry, if no stored entry intersects it, and returns its slot. No other entry changes
-    /// slot.
+    /// Adds an entry, if no stored entry intersects it, and returns its slot. No other entry
+    /// changes slot.
     ///
     /// # Errors
     ///
@@ -246,9 +246,10 @@ impl<'m> DisjointStore<'m> {
         Ok(self.lent.unload(&OPENED, rule, range)?.gone)
     }
 
-    /// Moves the entry of each slot s to slot `plan[s]`: as [`Store::renumber`](super::Store::renumber).
-    /// [`StoreRef::propose`] of [`DisjointStore::read`] makes a plan. What is left is disjoint too
-    /// (the theorem `renumber-keeps` of crate disjoint).
+    /// Moves the entry of each slot s to slot `plan[s]`: as
+    /// [`Store::renumber`](super::Store::renumber). [`StoreRef::propose`] of
+    /// [`DisjointStore::read`] makes a plan. What is left is disjoint too (the theorem
+    /// `renumber-keeps` of crate disjoint).
     ///
     /// # Errors
     ///

@@ -246,7 +246,8 @@ pairs! {
         answer: *mut u64, answer_len: usize,
     );
 
-    /// Finds the next entry after a cursor that intersects a range by a rule. The answer has 5 numbers.
+    /// Finds the next entry after a cursor that intersects a range by a rule. The answer has 5
+    /// numbers.
     step_ruled: iset_step_ruled, iset_open_step_ruled,
         iset_narrow_step_ruled, iset_narrow_open_step_ruled;
     StepRuled: fn(
@@ -309,7 +310,8 @@ pairs! {
         out: *mut u64, out_len: usize, answer: *mut u64, answer_len: usize,
     );
 
-    /// Finds all entries that intersect a range by a rule, without pruning. The answer has 2 numbers.
+    /// Finds all entries that intersect a range by a rule, without pruning. The answer has 2
+    /// numbers.
     plain_ruled: iset_plain_ruled, iset_open_plain_ruled,
         iset_narrow_plain_ruled, iset_narrow_open_plain_ruled;
     PlainRuled: fn(

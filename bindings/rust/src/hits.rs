@@ -56,8 +56,8 @@ impl<'m, B: AsRef<[u64]> + AsMut<[u64]>> Hits<'m, B> {
         }
     }
 
-    /// The lookup of an address, by one call that finds all hits. If the buffer does not hold them, it
-    /// is fetched from its beginning in pieces.
+    /// The lookup of an address, by one call that finds all hits. If the buffer does not hold them,
+    /// it is fetched from its beginning in pieces.
     pub(crate) fn at(store: StoreRef<'m>, address: u64, mut buffer: B) -> Hits<'m, B> {
         let query = Query::at(address);
         let out = buffer.as_mut();

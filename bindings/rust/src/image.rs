@@ -1,7 +1,8 @@
 //! Looking up an address in an image, a saved map, without loading it: over the bytes where they
-//! are, for example in a mapped file. Each call tests the whole image and goes over all its entries,
-//! twice. Whoever asks often loads the image, by [`Map::read_image`](crate::Map::read_image) or
-//! [`Store::read_image`](crate::Store::read_image), and looks up in the map.
+//! are, for example in a mapped file. Each call tests the whole image and goes over all its
+//! entries, twice. Whoever asks often loads the image, by
+//! [`Map::read_image`](crate::Map::read_image) or [`Store::read_image`](crate::Store::read_image),
+//! and looks up in the map.
 //!
 //! An entry holds an address if `start <= address < end`. An image is refused with
 //! [`Refusal::BadImage`], [`Refusal::NoRoom`] if it has more than 65,535 entries, or

@@ -366,8 +366,8 @@ impl Lent<'_> {
         )
     }
 
-    /// A lookup that finds all hits at once, by a call for each kind of query. The plain one and the
-    /// fast one have the same arguments.
+    /// A lookup that finds all hits at once, by a call for each kind of query. The plain one and
+    /// the fast one have the same arguments.
     fn at_once(
         self,
         overlap: ffi::Plain,

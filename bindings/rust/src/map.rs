@@ -13,8 +13,9 @@ pub struct Map {
     pub count: u64,
     /// The slot of the root, [`U`] if there are no entries.
     pub root: u64,
-    /// How often it was changed, modulo 2^32: each build, removal, insertion, renumbering and reading
-    /// of an image that is not refused counts, and an unloading counts once for each entry that went.
+    /// How often it was changed, modulo 2^32: each build, removal, insertion, renumbering and
+    /// reading of an image that is not refused counts, and an unloading counts once for each entry
+    /// that went.
     pub version: u32,
 }
 
@@ -53,9 +54,9 @@ impl Map {
         self.over(nodes, colours).check()
     }
 
-    /// Builds the map of a sorted list of triples start, end, value, in the place of this map. Entry
-    /// k goes to slot k. Of this map only the version is read: the new map has the next one. So
-    /// build on the map that you have, and on [`Map::new`] only if there is none.
+    /// Builds the map of a sorted list of triples start, end, value, in the place of this map.
+    /// Entry k goes to slot k. Of this map only the version is read: the new map has the next one.
+    /// So build on the map that you have, and on [`Map::new`] only if there is none.
     ///
     /// # Errors
     ///
@@ -86,8 +87,8 @@ impl Map {
     }
 
     /// Writes the map as an image to the front of `out`, and returns the image's length, which is
-    /// [`image_len`](crate::image_len) of the count. Bytes past the image are unchanged. The version
-    /// is not in the image.
+    /// [`image_len`](crate::image_len) of the count. Bytes past the image are unchanged. The
+    /// version is not in the image.
     ///
     #[cfg_attr(iset_linked, doc = "```")]
     #[cfg_attr(not(iset_linked), doc = "```no_run")]
@@ -122,8 +123,8 @@ impl Map {
     }
 
     /// Reads the map of an image, in the place of this map: the map that was written, in the same
-    /// slots. Of this map only the version is read: the new map has the next one. The image may come
-    /// from anywhere. It is tested as a whole before anything is written.
+    /// slots. Of this map only the version is read: the new map has the next one. The image may
+    /// come from anywhere. It is tested as a whole before anything is written.
     ///
     /// # Errors
     ///
@@ -216,9 +217,9 @@ impl Map {
         self.over_mut(nodes, colours).unload(&PUBLIC, rule, range)
     }
 
-    /// Proposes a plan that numbers the slots in order: `out[slot]` becomes the place of that slot's
-    /// entry, counted from 0. The plan is the first `count` places; those past it are unchanged.
-    /// Nothing moves: [`Map::renumber`] takes the plan.
+    /// Proposes a plan that numbers the slots in order: `out[slot]` becomes the place of that
+    /// slot's entry, counted from 0. The plan is the first `count` places; those past it are
+    /// unchanged. Nothing moves: [`Map::renumber`] takes the plan.
     ///
     #[cfg_attr(iset_linked, doc = "```")]
     #[cfg_attr(not(iset_linked), doc = "```no_run")]
@@ -247,9 +248,9 @@ impl Map {
     }
 
     /// Moves the entry of each slot s to slot `plan[s]`, with its colour and its links. The plan is
-    /// that of [`Map::propose`] or any other: it has `count` numbers, and each slot below the count is
-    /// one of them. The entries keep their order. The new map has the next version, also if nothing
-    /// moved. The call takes up to 24 KiB of stack.
+    /// that of [`Map::propose`] or any other: it has `count` numbers, and each slot below the count
+    /// is one of them. The entries keep their order. The new map has the next version, also if
+    /// nothing moved. The call takes up to 24 KiB of stack.
     ///
     /// # Errors
     ///
@@ -368,8 +369,8 @@ impl Map {
     }
 
     /// Finds all hits at once, and writes the slots of the first of them to `out`: as many as it
-    /// holds. They are the slots that [`Map::hits`] hands out. The number of hits includes those that
-    /// were not written. It enters no node that [`Map::drain`] does not enter.
+    /// holds. They are the slots that [`Map::hits`] hands out. The number of hits includes those
+    /// that were not written. It enters no node that [`Map::drain`] does not enter.
     ///
     #[cfg_attr(iset_linked, doc = "```")]
     #[cfg_attr(not(iset_linked), doc = "```no_run")]

@@ -8,8 +8,8 @@ pub enum Rule {
     /// Rule 1, that of the crate iset: it ends after the lower bound, and starts before the upper
     /// one, or at it if it is included. Suits any ordered key.
     Any = 1,
-    /// Rule 2: some whole address lies in both. A range in which no whole address lies is refused as
-    /// [`BadRange`](crate::Refusal::BadRange).
+    /// Rule 2: some whole address lies in both. A range in which no whole address lies is refused
+    /// as [`BadRange`](crate::Refusal::BadRange).
     Whole = 2,
 }
 

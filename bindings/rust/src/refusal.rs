@@ -34,9 +34,9 @@ pub enum Refusal {
     BadCursor,
     /// The length of the list to build is not a multiple of 3.
     BadList,
-    /// The drain's limit is above the output's length, the output of a plain lookup or of a plan has
-    /// fewer places than there are entries, an image is longer than the output, or a buffer for hits
-    /// is empty.
+    /// The drain's limit is above the output's length, the output of a plain lookup or of a plan
+    /// has fewer places than there are entries, an image is longer than the output, or a buffer for
+    /// hits is empty.
     ShortOutput,
     /// Of bit vectors and stacks. None of these calls returns it.
     BadBit,

@@ -465,8 +465,8 @@ impl<'m> Store<'m> {
         self.read().propose(out)
     }
 
-    /// Moves the entry of each slot s to slot `plan[s]`: as [`Map::renumber`]. Tickets of before are
-    /// stale, also if nothing moved. If it is refused, the store is unchanged.
+    /// Moves the entry of each slot s to slot `plan[s]`: as [`Map::renumber`]. Tickets of before
+    /// are stale, also if nothing moved. If it is refused, the store is unchanged.
     ///
     /// # Errors
     ///
