@@ -202,7 +202,7 @@ class Shell:
         self.changed({new: old for old, new in pairs})
 
     def unload(self, *bounds):
-        """Removes the first hit, over and over; those that stay keep their order."""
+        """Those that stay keep their order."""
         q = ('o',) + bounds
         no, gone, _, _ = model.lookup(self.s, q, (model.first(self.s, q), 1, 0), 0)
         if no:
@@ -210,8 +210,7 @@ class Shell:
         for slot in gone:
             self.say('gone: slot %d  ' % slot + self.entry(slot))
         before = [slot for slot in self.order() if slot not in gone]
-        for _ in gone:
-            model.remove(self.s, [slot for slot in self.order() if model.hit(self.s, q, slot)][0])
+        model.unload(self.s, q)
         self.moves(before)
         self.say('unloaded %d, version %d', len(gone), self.s.version)
 
@@ -227,19 +226,10 @@ class Shell:
         self.renumber(*map(order.index, range(self.s.count)))
 
     def renumber(self, *plan):
-        if sorted(plan) != list(range(self.s.count)):
-            return self.refuse(15)
-        before, new = self.order(), dict(enumerate(plan))
-        old, reds = self.s.copy(), [self.s.red(slot) for slot in new]
-        for slot in new:
-            words = [old.get(slot, k) for k in range(8)]
-            for k in (LEFT, RIGHT, PARENT):
-                words[k] = new.get(words[k], U)
-            for k, word in enumerate(words):
-                self.s.set(new[slot], k, word)
-            self.s.paint(new[slot], reds[slot])
-        self.s.root = new.get(old.root, U)
-        self.s.version = (old.version + 1) % 2**32
+        before = self.order()
+        no = int(model.renumber(self.s, list(plan)).split()[0])
+        if no:
+            return self.refuse(no)
         self.moves(before)
         self.say('version %d', self.s.version)
 

@@ -1,5 +1,6 @@
-// A map in a classroom: a command a line, and an answer to each. Everything that is said of the map
-// comes from the public calls (crates iset, disjoint).
+// A map in a classroom: a command a line, and an answer to each. Entries, hits, nodes entered,
+// versions and refusals come from the public calls (crates iset, disjoint). Links, hulls and
+// colours are read from the map's own memory (draw), by the functions that the calls use.
 mod apart;
 mod asked;
 mod changes;
@@ -37,7 +38,8 @@ use slotshell_text::help;
 use slotshell_text::refusal::say_refused;
 use words::numbers::least;
 
-fn number(numbers: &[u64], k: usize) -> u64 {
+// The number at a place, or 0 if there is none.
+pub(crate) fn number(numbers: &[u64], k: usize) -> u64 {
     if k < numbers.len() { numbers[k] } else { 0 }
 }
 

@@ -1,15 +1,12 @@
 // The commands that take a ticket, and read through one. A ticket is a slot and a version, in two
 // places of the tickets.
+use crate::number;
 use crate::state::State;
 use iset::Entry;
 use iset::ticket::Reading;
 use iset::ticket::Ticket;
 use slotshell_say::say;
 use slotshell_text::refusal::say_refused;
-
-fn word(tickets: &[u64], at: usize) -> u64 {
-    if at < tickets.len() { tickets[at] } else { 0 }
-}
 
 // Keeps a ticket after n others, and returns how many there are then: n if there is no room.
 fn keep(tickets: &mut [u64], n: usize, t: Ticket) -> usize {
@@ -46,8 +43,8 @@ fn version(x: u64) -> u32 {
 fn ticket_at(tickets: &[u64], k: usize) -> Ticket {
     if k < tickets.len() / 2 {
         return Ticket {
-            slot: word(tickets, k * 2),
-            version: version(word(tickets, k * 2 + 1)),
+            slot: number(tickets, k * 2),
+            version: version(number(tickets, k * 2 + 1)),
         };
     }
     Ticket {
