@@ -7,6 +7,8 @@
 // damaged store could lead to the same slot. Without the second, one slot could lead to another
 // twice. Each level would then double the calls, up to 2^32 of them. The remaining height, which
 // falls from 33, would only make the pass end.
+#![tactic(auto)]
+
 ghost use Rattle.std.specs.Prelude.{◌≡◌, true, false, ◌+◌, ◌≤◌, ◌<◌};
 ghost use Rattle.words.specs.Layouts.{as_eight, HoldsIn, HasIn};
 ghost use Rattle.tree.specs.RedBlack.{black_of};
@@ -19,7 +21,7 @@ use words::ix::U;
 use words::node::{child_of, hull_at, interval_of, parent_of};
 
 // What the check reads of a slot.
-#[derive(Drop)]
+#[derive(Clone, Copy)]
 pub struct Node {
     pub interval: Interval,
     pub hull: Interval,
@@ -30,7 +32,7 @@ pub struct Node {
 }
 
 // What the check finds of a subtree.
-#[derive(Drop)]
+#[derive(Clone, Copy)]
 pub struct Found {
     // every clause of the check holds in the subtree
     pub ok: bool,

@@ -1,6 +1,8 @@
 // A vector of bits in lent bytes: a port of src/bitvec.rs. Bit i is bit i mod 8 of byte i div 8.
 // The vector is its length, which is passed by value. A call that changes the length returns the
 // new vector.
+#![tactic(auto)]
+
 pub mod colours;
 
 ghost use Rattle.std.specs.Prelude.{◌≡◌, cond, ◌+◌, ◌/◌, ◌%◌, ◌^◌, ◌≤◌, ◌<◌, length, leb};
@@ -10,14 +12,14 @@ ghost use Rattle.words.specs.Nodes.{HoldsBits, bits_of};
 
 use words::refusal::Refusal;
 
-#[derive(Drop)]
+#[derive(Clone, Copy)]
 pub struct BitVec {
     pub len: usize,
 }
 
 // What a call returns: the bit that it read and the vector after the call, or the refusal. The bit
 // is false if the call reads no bit.
-#[derive(Drop)]
+#[derive(Clone, Copy)]
 pub enum Answer {
     Done(bool, BitVec),
     Refused(Refusal),

@@ -1,6 +1,8 @@
 // Builds the store of a map from a sorted list, by recursion over its spans. A span is the slots
 // [start, end). It is built in its own part of the node words. The colours are lent whole, because
 // a colour is a bit among others of its byte.
+#![tactic(auto)]
+
 pub mod list;
 
 ghost use Rattle.std.specs.Prelude.{◌≡◌, true, ◌+◌, ◌*◌, ◌-◌, ◌/◌, ◌≤◌, ◌<◌, length};

@@ -16,14 +16,14 @@ use words::refusal::Refusal;
 
 // What an insertion returns. If it is refused, the map is unchanged. With Overlap comes the slot of
 // the first entry in tree order that intersects the new one, and with any other refusal U.
-#[derive(Drop)]
+#[derive(Clone, Copy)]
 pub enum Placement {
     Done(Inserted),
     Refused(Refusal, u64),
 }
 
 // What the tests before the insertion return: a refusal, and the slot that it names.
-#[derive(Drop)]
+#[derive(Clone, Copy)]
 enum Trial {
     Free,
     Refused(Refusal, u64),

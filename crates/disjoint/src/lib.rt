@@ -8,6 +8,8 @@
 // not run the check. Apart from that they do exactly what the public calls do. They require
 // nothing. On any words each of them ends and stays inside what was lent. But what it returns may
 // mean nothing if the store is not opened.
+#![tactic(auto)]
+
 pub mod eight;
 pub mod insert;
 pub mod point;
@@ -28,7 +30,7 @@ pub use words::refusal::Refusal;
 
 // A map of which its calls demand that no two entries intersect. Any map may stand in it: each call
 // tests it.
-#[derive(Drop)]
+#[derive(Clone, Copy)]
 pub struct DisjointMap {
     pub map: Map,
 }

@@ -11,7 +11,7 @@ use words::refusal::Refusal;
 
 // What a point lookup returns: the slot of the entry that holds the address, or U if there is none,
 // and how many nodes it entered.
-#[derive(Drop)]
+#[derive(Clone, Copy)]
 pub enum Pointed {
     Done(Spot),
     Refused(Refusal),

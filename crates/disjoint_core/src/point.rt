@@ -9,7 +9,7 @@ use words::node::{child_of, end_of, start_of};
 
 // The slot of the entry that holds an address, or U, the undefined link, if there is none; and how
 // many nodes the lookup entered. A node is entered if the address is compared with its interval.
-#[derive(Drop)]
+#[derive(Clone, Copy)]
 pub struct Spot {
     pub slot: u64,
     pub entered: u64,

@@ -6,7 +6,7 @@ use bitvec::{Answer, BitVec};
 use lines::output;
 use words::numbers::least;
 
-#[derive(Drop)]
+#[derive(Clone, Copy)]
 pub enum Call {
     Get,
     Set,
@@ -29,7 +29,7 @@ pub(crate) fn call_at(place: usize) -> Call {
 }
 
 // A call's length, and its place and its bit if it has them.
-#[derive(Drop)]
+#[derive(Clone, Copy)]
 struct Given {
     len: usize,
     at: usize,
@@ -37,7 +37,7 @@ struct Given {
 }
 
 // What is printed of an answer: the refusal's number, the bit and the length.
-#[derive(Drop)]
+#[derive(Clone, Copy)]
 struct Shown {
     no: u64,
     bit: bool,

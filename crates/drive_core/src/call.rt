@@ -6,7 +6,7 @@ use lines::input::Line;
 use words::numbers::least;
 
 // Nothing is a comment or an empty line. Unknown is an invalid line.
-#[derive(Drop)]
+#[derive(Clone, Copy)]
 pub enum Call {
     Nothing,
     Unknown,

@@ -10,7 +10,7 @@ use words::numbers::least;
 const LINE_END: u8 = 10;
 
 // What is in the buffer: the place of the next byte, and where the bytes end.
-#[derive(Drop)]
+#[derive(Clone, Copy)]
 pub struct Place {
     pub at: usize,
     pub end: usize,
@@ -18,7 +18,7 @@ pub struct Place {
 
 // A byte of the input, and where the next one is. At the end of the input, and if a read fails, the
 // byte is a line's end, and `last` is true.
-#[derive(Drop)]
+#[derive(Clone, Copy)]
 struct Byte {
     byte: u8,
     at: usize,
@@ -29,7 +29,7 @@ struct Byte {
 
 // A line that was read: what it asks for, where the next one begins, whether it is the last, and
 // whether it is the last because a read failed.
-#[derive(Drop)]
+#[derive(Clone, Copy)]
 pub struct Asked {
     pub call: Call,
     pub at: usize,

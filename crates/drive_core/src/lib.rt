@@ -1,5 +1,7 @@
 // Every public call by its numbers: one line in, one line out. docs/DRIVE.md says what it reads and
 // writes.
+#![tactic(auto)]
+
 mod answer;
 mod arena;
 mod bits;
@@ -60,7 +62,7 @@ fn answered(s: State, call: Call, numbers: &[u64], words: &mut [u64], out: &mut 
 }
 
 // How much output is still in the buffer, and whether to stop.
-#[derive(Drop)]
+#[derive(Clone, Copy)]
 struct Sent {
     to: usize,
     stop: bool,

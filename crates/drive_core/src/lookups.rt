@@ -18,7 +18,7 @@ use crate::{answer, arena, copy};
 use iset::Map;
 use words::numbers::least;
 
-#[derive(Drop)]
+#[derive(Clone, Copy)]
 pub enum Call {
     Fresh,
     Step,

@@ -23,7 +23,7 @@ use crate::{answer, arena, copy};
 use iset::Map;
 use words::numbers::least;
 
-#[derive(Drop)]
+#[derive(Clone, Copy)]
 pub enum Call {
     Store(store::Call),
     Apart(apart::Call),

@@ -7,7 +7,7 @@ use crate::state::{Left, State};
 use crate::{arena, given};
 use iset::Map;
 
-#[derive(Drop)]
+#[derive(Clone, Copy)]
 pub enum Call {
     Store,
     Bytes,

@@ -6,7 +6,7 @@ use stack::lending::After;
 use stack::lent::Outcome;
 use stack::{ActionStack, Answer, lending};
 
-#[derive(Drop)]
+#[derive(Clone, Copy)]
 pub enum Call {
     Push,
     Pop,
@@ -35,7 +35,7 @@ pub(crate) fn call_at(place: usize) -> Call {
 }
 
 // What is printed of an answer: the refusal's number, the result of a test, and the stack.
-#[derive(Drop)]
+#[derive(Clone, Copy)]
 struct Shown {
     no: u64,
     test: bool,

@@ -4,7 +4,7 @@ use iset::Map;
 // What the last request left in the arena's copy, for `commit`: a map with its node words and
 // colour bytes, or the bytes of the bit calls or of an image, by their number. `reach` is how many
 // hulls changed, for `last`.
-#[derive(Drop)]
+#[derive(Clone, Copy)]
 pub enum Left {
     Nothing,
     Store {
@@ -28,7 +28,7 @@ impl Left {
 // The store's map, how many node words and colour bytes it has, whether its nodes have six words
 // (`narrow`) or eight, how many bytes the line `bytes` gave, what the last request left, and the
 // place of the next byte in the output's buffer.
-#[derive(Drop)]
+#[derive(Clone, Copy)]
 pub struct State {
     pub map: Map,
     pub words: usize,

@@ -3,6 +3,8 @@
 // the intervals of its subtree. The lookup ends on any words: it goes down at most 32 nodes. In a
 // store that passes the check of crate audit no way down is longer, so that number never decides
 // there.
+#![tactic(auto)]
+
 ghost use Rattle.std.specs.Prelude.{◌≡◌, true, false, [], ◌∷◌, ◌+◌, ◌<◌, length, set};
 ghost use Rattle.std.proofs.lemmas.List.Edits.{sets};
 ghost use Rattle.words.specs.Layouts.{as_eight, HoldsIn, HasIn};

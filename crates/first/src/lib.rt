@@ -1,6 +1,8 @@
 // The search for the first entry in tree order that intersects a range. It follows one way down the
 // tree, so it visits at most as many nodes as the tree is high. At each node it also reads the hull
 // of the left child. A hull is the least interval that contains the intervals of a subtree.
+#![tactic(auto)]
+
 ghost use Rattle.std.specs.Prelude.{◌≡◌, ◌&&◌, ltb};
 ghost use Rattle.words.specs.Layouts.{as_eight, HoldsIn};
 ghost use Rattle.words.specs.Intervals.{passed, admits};

@@ -2,6 +2,8 @@
 // them. Nothing is copied, and nothing is written. Each call takes any bytes and any numbers. It
 // tests the whole image first, as a reader of the image does (docs/IMAGE.md), and then visits every
 // entry in tree order.
+#![tactic(auto)]
+
 mod seek;
 
 ghost use Rattle.std.specs.Prelude.{◌≡◌, true, ◌≤◌};

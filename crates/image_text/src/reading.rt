@@ -27,7 +27,7 @@ const RED: u64 = 24274276;
 const BLACK: u64 = 1522236744555;
 
 // The word so far, its number in the text, the count, and the first refusal's number, or 0.
-#[derive(Drop)]
+#[derive(Clone, Copy)]
 pub struct State {
     word: Word,
     place: u64,
@@ -36,7 +36,7 @@ pub struct State {
 }
 
 // What a text came to: the length of its image, or the number of its refusal.
-#[derive(Drop)]
+#[derive(Clone, Copy)]
 pub enum Outcome {
     Done(usize),
     Refused(u64),

@@ -13,7 +13,7 @@ pub(crate) const NONE: u64 = 4294967296;
 const DASH: u64 = 301;
 
 // A word so far. The letters of a name are digits of base 256, after a 1. A wrong word stays wrong.
-#[derive(Drop)]
+#[derive(Clone, Copy)]
 pub enum Word {
     Empty,
     Number(u64),

@@ -1,5 +1,7 @@
 // Prints, by slot, the map in the image on standard input, or the image's refusal. docs/IMAGE.md
 // has the form of the text. At most 14,000 entries fit.
+#![tactic(auto)]
+
 use image_text::memory;
 use image_text::writing::{put_image, put_refusal};
 use lines::output;

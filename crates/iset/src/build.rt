@@ -12,7 +12,7 @@ use words::node::capacity;
 use words::refusal::Refusal;
 
 // What a build returns.
-#[derive(Drop)]
+#[derive(Clone, Copy)]
 pub enum Built {
     Done(Map),
     Refused(Refusal),

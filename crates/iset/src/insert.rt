@@ -13,7 +13,7 @@ use words::refusal::Refusal;
 
 // The map with the entry, the entry's slot, and how many hulls changed. A slot's hull is the least
 // range that holds all entries of its subtree.
-#[derive(Drop)]
+#[derive(Clone, Copy)]
 pub struct Inserted {
     pub map: Map,
     pub slot: u64,
@@ -21,7 +21,7 @@ pub struct Inserted {
 }
 
 // What an insertion returns. If it is refused, the map is unchanged.
-#[derive(Drop)]
+#[derive(Clone, Copy)]
 pub enum Insertion {
     Done(Inserted),
     Refused(Refusal),

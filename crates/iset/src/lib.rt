@@ -7,6 +7,8 @@
 // check. Apart from that they do exactly what the public calls do: a public call is the check, and
 // then the call that begins with `open_`. They require nothing. On any words each of them ends and
 // stays inside what was lent. But what it returns may mean nothing if the store is not opened.
+#![tactic(auto)]
+
 pub mod build;
 pub mod eight;
 pub mod find;
@@ -42,7 +44,7 @@ pub use words::refusal::Refusal;
 // A map: how many entries it holds, in slots 0 .. count - 1, the slot of its root, or U if it has
 // none, and how often it was changed, modulo 2^32. Its nodes and colours are in the slices that are
 // lent beside it.
-#[derive(Drop)]
+#[derive(Clone, Copy)]
 pub struct Map {
     pub count: u64,
     pub root: u64,
@@ -57,7 +59,7 @@ pub fn next_version(version: u32) -> u32
 }
 
 // What the check returns.
-#[derive(Drop)]
+#[derive(Clone, Copy)]
 pub enum Checked {
     Sound,
     Refused(Refusal),

@@ -25,19 +25,19 @@ use words::interval::{Bound, Interval, Span};
 use words::refusal::Refusal;
 
 // What the calls return.
-#[derive(Drop)]
+#[derive(Clone, Copy)]
 pub enum Started {
     Done(Cursor),
     Refused(Refusal),
 }
 
-#[derive(Drop)]
+#[derive(Clone, Copy)]
 pub enum Stepped {
     Done(Step),
     Refused(Refusal),
 }
 
-#[derive(Drop)]
+#[derive(Clone, Copy)]
 pub enum Drain {
     Done(Drained),
     Refused(Refusal),

@@ -14,7 +14,7 @@ use words::refusal::Refusal;
 
 // The map without the entry, the entry's value, the other entries that changed slot, and how many
 // hulls changed. A slot's hull is the least range that holds all entries of its subtree.
-#[derive(Drop)]
+#[derive(Clone, Copy)]
 pub struct Removed {
     pub map: Map,
     pub value: u64,
@@ -45,7 +45,7 @@ impl Removed {
 }
 
 // What a removal returns. If it is refused, the map is unchanged.
-#[derive(Drop)]
+#[derive(Clone, Copy)]
 pub enum Removal {
     Done(Removed),
     Refused(Refusal),

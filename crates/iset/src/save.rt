@@ -16,7 +16,7 @@ use words::node::capacity;
 use words::refusal::Refusal;
 
 // What writing an image returns: how many bytes the image has.
-#[derive(Drop)]
+#[derive(Clone, Copy)]
 pub enum Written {
     Done(u64),
     Refused(Refusal),

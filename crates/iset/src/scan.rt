@@ -13,7 +13,7 @@ use plain::{Tally, scan};
 use words::refusal::Refusal;
 
 // What this lookup and `find_all` return.
-#[derive(Drop)]
+#[derive(Clone, Copy)]
 pub enum Looked {
     Done(Tally),
     Refused(Refusal),

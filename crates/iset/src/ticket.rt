@@ -10,14 +10,14 @@ use words::node::{Entry, entry_of};
 use words::refusal::Refusal;
 
 // A slot and the version that the map had when the ticket was taken.
-#[derive(Drop)]
+#[derive(Clone, Copy)]
 pub struct Ticket {
     pub slot: u64,
     pub version: u32,
 }
 
 // What reading through a ticket returns.
-#[derive(Drop)]
+#[derive(Clone, Copy)]
 pub enum Reading {
     Done(Entry),
     Refused(Refusal),

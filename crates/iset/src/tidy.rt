@@ -16,7 +16,7 @@ use tidy_core::planner::number_all;
 use words::refusal::Refusal;
 
 // What a renumbering returns. If it is refused, the map is unchanged.
-#[derive(Drop)]
+#[derive(Clone, Copy)]
 pub enum Renumbering {
     Done(Map),
     Refused(Refusal),

@@ -14,14 +14,14 @@ use words::interval::Span;
 use words::refusal::Refusal;
 
 // The map without the entries that went, and how many these were.
-#[derive(Drop)]
+#[derive(Clone, Copy)]
 pub struct Unloaded {
     pub map: Map,
     pub gone: u64,
 }
 
 // What an unloading returns. If it is refused, the map is unchanged.
-#[derive(Drop)]
+#[derive(Clone, Copy)]
 pub enum Unloading {
     Done(Unloaded),
     Refused(Refusal),

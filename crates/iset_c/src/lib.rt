@@ -12,6 +12,8 @@
 // A function whose name ends in `_in` does the work of an export for nodes of either layout:
 // `narrow` says that a node has six words and not eight. Crate iset_c_narrow has the exports for
 // six words.
+#![tactic(auto)]
+
 pub mod answer;
 pub mod call;
 pub mod exports;

@@ -5,6 +5,8 @@
 //
 // The exports are in exports.rt. A function whose name ends in `_in` does the work of an export for
 // nodes of either layout: `narrow` says that a node has six words and not eight.
+#![tactic(auto)]
+
 pub mod answer;
 pub mod exports;
 pub mod open;

@@ -1,6 +1,8 @@
 // Looking up an address in an image, for hosts in C and Rust: the calls of crate image_host as
 // include/iset_image.h declares them. Over extern "C" the image is two scalars, its pointer and its
 // length.
+#![tactic(auto)]
+
 ghost use Rattle.std.specs.Prelude.{◌≡◌};
 ghost use Rattle.image_host.specs.Host.{host_count, host_number, host_value};
 

@@ -5,6 +5,8 @@
 //
 // They are a crate of their own, and so an archive of their own. In an archive that has both
 // layouts each access to a node would test which one it is.
+#![tactic(auto)]
+
 pub mod apart;
 pub mod closed;
 pub mod opened;

@@ -13,7 +13,7 @@ use crate::seek::Step;
 
 // What a drain returns: how many hits it wrote, how many nodes its steps entered, and the next
 // cursor.
-#[derive(Drop)]
+#[derive(Clone, Copy)]
 pub struct Drained {
     pub hits: u64,
     pub entered: u64,

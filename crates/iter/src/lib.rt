@@ -1,5 +1,7 @@
 // Lookups: a port of src/iter.rs. A cursor is the place of a walk: the slot that the walk is at,
 // and its stack.
+#![tactic(auto)]
+
 pub mod drain;
 pub mod exact;
 pub mod forms;
@@ -9,7 +11,7 @@ pub mod rules;
 pub mod seek;
 pub mod walk;
 
-#[derive(Drop)]
+#[derive(Clone, Copy)]
 pub struct Cursor {
     pub slot: u64,
     pub levels: u64,
@@ -17,7 +19,7 @@ pub struct Cursor {
 }
 
 // The forms of a cursor. A cursor that has none of the first three is `Bad`.
-#[derive(Drop)]
+#[derive(Clone, Copy)]
 pub enum Form {
     Fresh,
     Held,

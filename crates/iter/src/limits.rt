@@ -10,7 +10,7 @@ use words::interval::{Bound, Span};
 // The range from `low` up to `top`, without `top` itself. It has no lower bound if `below` is true,
 // and no upper bound if `above` is true. An entry that is looked for ends after `past`: that is
 // `low`, or by rule 2 the first whole address of the range.
-#[derive(Drop)]
+#[derive(Clone, Copy)]
 pub struct Limits {
     pub low: u64,
     pub past: u64,

@@ -14,7 +14,7 @@ use words::node::{child_of, end_of, hull_at, hull_end_of, hull_start_of, interva
 
 // What is looked for: the entries that intersect a range by rule 1, those that intersect it by the
 // rule of a number (ranges.rt), or those equal to an interval.
-#[derive(Drop)]
+#[derive(Clone, Copy)]
 pub enum Query {
     Overlap(Span),
     Ruled(u64, Span),
@@ -23,7 +23,7 @@ pub enum Query {
 
 // A query with its range as plain numbers. A lookup has one made of its query before its first
 // move.
-#[derive(Drop)]
+#[derive(Clone, Copy)]
 pub enum Tests {
     Within(Limits),
     Equal(Interval),

@@ -13,7 +13,7 @@ use crate::walk::Place;
 
 // What a step returns: a hit with its cursor, which is also the next one, or the end. Both come
 // with the number of nodes entered in this call.
-#[derive(Drop)]
+#[derive(Clone, Copy)]
 pub enum Step {
     Hit(Cursor, u64),
     End(u64),

@@ -19,7 +19,7 @@ use words::ix::U;
 use words::node::{child_of, parent_of};
 
 // A cursor, and the state of its top level.
-#[derive(Drop)]
+#[derive(Clone, Copy)]
 pub struct Place {
     pub cursor: Cursor,
     pub state: u64,

@@ -11,7 +11,7 @@ const SPACE: u8 = 32;
 
 // What the next byte may be. At Start a number may begin, or the name continues. A wrong line stays
 // wrong.
-#[derive(Drop)]
+#[derive(Clone, Copy)]
 pub enum Part {
     Start,
     Name,
@@ -22,7 +22,7 @@ pub enum Part {
 
 // A line so far: the length of its name, how many numbers are complete, and the value of the number
 // that is being read.
-#[derive(Drop)]
+#[derive(Clone, Copy)]
 pub struct Line {
     pub part: Part,
     pub name: usize,
@@ -30,14 +30,14 @@ pub struct Line {
     pub value: u64,
 }
 
-#[derive(Drop)]
+#[derive(Clone, Copy)]
 pub enum Digit {
     Is(u64),
     Not,
 }
 
 // A number with one digit more, or Over if it is above 2^64 - 1.
-#[derive(Drop)]
+#[derive(Clone, Copy)]
 pub enum Value {
     Is(u64),
     Over,

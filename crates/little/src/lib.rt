@@ -1,6 +1,8 @@
 // Numbers in lent bytes, the least byte first ("little-endian"). A slice must have the bytes that
 // are asked for. The arithmetic says which byte is where. The compiler makes one load or one store
 // of it.
+#![tactic(auto)]
+
 ghost use Rattle.std.specs.Prelude.{◌≡◌, ◌+◌, ◌≤◌, ◌<◌, length};
 ghost use Rattle.std.proofs.lemmas.List.Edits.{sets};
 ghost use Rattle.little.specs.Numbers.{number, digits};

@@ -4,6 +4,8 @@
 // node keeps for its subtree. It ends on any words: it visits at most `count` entries, with at most
 // 33 links between two of them. In a store that passes the check of crate audit no way down or up
 // is longer than 32, so neither number decides there.
+#![tactic(auto)]
+
 ghost use Rattle.std.specs.Prelude.{◌≡◌, cond, ◌&&◌, ◌+◌, ◌<◌, ◌≤◌, length, set};
 ghost use Rattle.words.specs.Layouts.{as_eight, HoldsIn};
 ghost use Rattle.iter.specs.Drains.{filled};
@@ -20,7 +22,7 @@ use words::node::{child_of, parent_of};
 
 // What a lookup that finds all hits at once returns: how many hits there are, and how many nodes it
 // entered.
-#[derive(Drop)]
+#[derive(Clone, Copy)]
 pub struct Tally {
     pub hits: u64,
     pub entered: u64,

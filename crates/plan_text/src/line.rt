@@ -7,7 +7,7 @@ use lines::input::{Digit, Value, append_digit, digit_of};
 const SPACE: u8 = 32;
 
 // What a line has before the number that is being read: nothing, or the old slot.
-#[derive(Drop)]
+#[derive(Clone, Copy)]
 pub enum Before {
     Nothing,
     Old(u64),
@@ -15,7 +15,7 @@ pub enum Before {
 
 // A line so far: nothing; a number with at least one digit; or the old slot and a space, after
 // which a number must begin. A wrong line stays wrong.
-#[derive(Drop)]
+#[derive(Clone, Copy)]
 pub enum Line {
     Start,
     Number(Before, u64),
@@ -24,7 +24,7 @@ pub enum Line {
 }
 
 // What a complete line says.
-#[derive(Drop)]
+#[derive(Clone, Copy)]
 pub enum Said {
     Move { old: u64, new: u64 },
     Other,

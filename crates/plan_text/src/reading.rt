@@ -13,7 +13,7 @@ const LINE_END: u8 = 10;
 const FREE: u64 = 4294967295;
 
 // What is wrong with a plan, first in the order of its lines. Lines are counted from 1, up to FREE.
-#[derive(Drop)]
+#[derive(Clone, Copy)]
 pub enum Flaw {
     Nothing,
     // the line is not two numbers with one space between them
@@ -28,7 +28,7 @@ pub enum Flaw {
 }
 
 // The line so far, how many lines came before it, and what is wrong with them.
-#[derive(Drop)]
+#[derive(Clone, Copy)]
 pub struct State {
     line: Line,
     number: u64,

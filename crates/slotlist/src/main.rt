@@ -1,11 +1,13 @@
 // Prints, by slot, the map of the entries and removals on standard input, or the first refusal.
 // docs/RULES.md has the rule of its input and output.
+#![tactic(auto)]
+
 use libc::STDIN_FILENO;
 use lines::output;
 use slotlist_core::{State, memory};
 
 // What was read, and whether a read failed.
-#[derive(Drop)]
+#[derive(Clone, Copy)]
 struct Fed {
     state: State,
     failed: bool,

@@ -1,6 +1,8 @@
 // What the program `slotlist` does, as functions on slices. The bytes of its input go in, in pieces
 // of any length. At the end, what it prints is written into a lent buffer. The lent memory holds
 // the entries, then the map.
+#![tactic(auto)]
+
 pub mod memory;
 mod reading;
 mod working;
@@ -17,7 +19,7 @@ use working::Work;
 const LINE_END: u8 = 10;
 
 // The line so far, and what the lines before it have led to.
-#[derive(Drop)]
+#[derive(Clone, Copy)]
 pub struct State {
     line: Line,
     work: Work,

@@ -7,7 +7,7 @@ use lines::input::{Digit, Value, append_digit, digit_of};
 const SPACE: u8 = 32;
 
 // What a line has before the number that is being read: the numbers of an entry, or `remove`.
-#[derive(Drop)]
+#[derive(Clone, Copy)]
 pub enum Before {
     Nothing,
     One(u64),
@@ -17,7 +17,7 @@ pub enum Before {
 
 // A line so far: nothing; the first letters of `remove`; a number with at least one digit; or a
 // space, after which a number must begin. A wrong line stays wrong.
-#[derive(Drop)]
+#[derive(Clone, Copy)]
 pub enum Line {
     Start,
     Name(usize),
@@ -27,7 +27,7 @@ pub enum Line {
 }
 
 // What a complete line says.
-#[derive(Drop)]
+#[derive(Clone, Copy)]
 pub enum Said {
     Entry { start: u64, end: u64, value: u64 },
     Remove(u64),

@@ -14,7 +14,7 @@ use words::numbers::least;
 
 // What the lines so far have led to: the number of entries in the list, the map that was built, or
 // the first refusal's number.
-#[derive(Drop)]
+#[derive(Clone, Copy)]
 pub enum Work {
     Listing(usize),
     Mapped(Map),

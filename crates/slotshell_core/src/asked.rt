@@ -40,7 +40,7 @@ pub(crate) fn word_end(line: &[u8], at: usize) -> usize {
 
 // A number that was read: its value, and the place after it. `fine` is false if there is none, or
 // if it is above 2^64 - 1.
-#[derive(Drop)]
+#[derive(Clone, Copy)]
 struct Number {
     fine: bool,
     value: u64,
@@ -115,7 +115,7 @@ pub(crate) fn numbers(line: &[u8], from: usize, out: &mut [u64]) -> usize {
 }
 
 // A bound that was read: unbounded if it is `..`, and the place after it.
-#[derive(Drop)]
+#[derive(Clone, Copy)]
 struct Side {
     fine: bool,
     unbounded: bool,
@@ -153,7 +153,7 @@ fn side_at(line: &[u8], from: usize) -> Side {
 }
 
 // A range that was read.
-#[derive(Drop)]
+#[derive(Clone, Copy)]
 pub struct Asked {
     pub fine: bool,
     pub range: Range,

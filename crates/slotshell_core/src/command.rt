@@ -3,7 +3,7 @@ use crate::asked;
 use slotshell_text::Range;
 
 // The commands without numbers.
-#[derive(Drop)]
+#[derive(Clone, Copy)]
 pub enum Bare {
     Tree,
     Slots,
@@ -20,7 +20,7 @@ pub enum Bare {
 }
 
 // The commands with a range.
-#[derive(Drop)]
+#[derive(Clone, Copy)]
 pub enum Ranged {
     Find,
     Trace,
@@ -29,7 +29,7 @@ pub enum Ranged {
 }
 
 // The commands with numbers.
-#[derive(Drop)]
+#[derive(Clone, Copy)]
 pub enum Numbered {
     Build,
     Insert,
@@ -45,7 +45,7 @@ pub enum Numbered {
 
 // Nothing is an empty line or a comment. Misused is a command with other things after its name than
 // it takes. Of a numbered command, the number is how many numbers there are.
-#[derive(Drop)]
+#[derive(Clone, Copy)]
 pub enum Command {
     Nothing,
     Unknown,

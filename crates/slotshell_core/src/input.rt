@@ -5,7 +5,7 @@ use words::numbers::least;
 const LINE_END: u8 = 10;
 
 // What is in the buffer: the place of the next byte, and where the bytes end.
-#[derive(Drop)]
+#[derive(Clone, Copy)]
 pub struct Place {
     pub at: usize,
     pub end: usize,
@@ -13,7 +13,7 @@ pub struct Place {
 
 // A byte of the input, and where the next one is. At the end of the input, and if a read fails, the
 // byte is a line's end, and `last` is true.
-#[derive(Drop)]
+#[derive(Clone, Copy)]
 struct Byte {
     byte: u8,
     at: usize,
@@ -24,7 +24,7 @@ struct Byte {
 
 // A line that was read: how many bytes it has, whether it has more than there is room for, where
 // the next one begins, whether it is the last, and whether it is the last because a read failed.
-#[derive(Drop)]
+#[derive(Clone, Copy)]
 pub struct Line {
     pub size: usize,
     pub over: bool,

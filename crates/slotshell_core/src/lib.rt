@@ -3,6 +3,8 @@
 // and refusals are what the calls return. Links and colours are those of the image that the call
 // `write_image` writes. Hulls, the height, the number of entries that touch a range and the walk of
 // a lookup are worked out from that image (crate slotshell_view), and drawn (crate slotshell_draw).
+#![tactic(auto)]
+
 mod apart;
 mod asked;
 mod changes;
@@ -254,7 +256,7 @@ fn asked_by(line: input::Line, bytes: &[u8], numbers: &mut [u64]) -> Command {
 
 // What a line leads to: the next state, where the next line begins, whether to stop, and whether
 // that is because a read failed.
-#[derive(Drop)]
+#[derive(Clone, Copy)]
 struct Round {
     state: State,
     at: usize,

@@ -6,7 +6,7 @@ use words::ix::U;
 
 // The map, what a picture of it marks, how many tickets were taken, and how many bytes the saved
 // image has, 0 if none was saved.
-#[derive(Drop)]
+#[derive(Clone, Copy)]
 pub struct State {
     pub map: Map,
     pub marks: Marks,

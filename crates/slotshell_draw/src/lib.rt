@@ -2,6 +2,8 @@
 // the walk of a lookup, and its work. They are made from an image of the map (docs/IMAGE.md), which
 // crate slotshell_view reads, and from what the caller knows besides. Each of them is written to
 // standard output before its function returns.
+#![tactic(auto)]
+
 mod depth;
 pub mod dot;
 pub mod lists;
@@ -15,7 +17,7 @@ pub mod walk;
 pub mod work;
 
 // A map's own numbers.
-#[derive(Drop)]
+#[derive(Clone, Copy)]
 pub struct Head {
     pub count: u64,
     pub root: u64,

@@ -9,7 +9,7 @@ use words::ix::U;
 // lookup: where its walk starts, or U if there was none, and its query. Two lists are beside it.
 // `was` has, at the place of each slot, the old slot of its entry, or U if the entry did not move.
 // `entered` has the nodes that the lookup entered.
-#[derive(Drop)]
+#[derive(Clone, Copy)]
 pub struct Marks {
     pub moved: bool,
     pub added: u64,
@@ -19,7 +19,7 @@ pub struct Marks {
 
 // What is marked at one slot: its entry's old slot or U, whether the entry is new, and whether the
 // node was entered.
-#[derive(Drop)]
+#[derive(Clone, Copy)]
 pub struct Note {
     pub old: u64,
     pub is_new: bool,

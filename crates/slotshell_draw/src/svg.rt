@@ -21,7 +21,7 @@ const GAP: u64 = 44;
 
 // The measures of a picture: how wide and how high a box is, how far two places are apart, whether
 // a range takes two lines, and whether there is a line for changes and for lookups.
-#[derive(Drop)]
+#[derive(Clone, Copy)]
 struct Sheet {
     width: u64,
     height: u64,

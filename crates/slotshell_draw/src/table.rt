@@ -5,7 +5,7 @@ use slotshell_view::nodes::{child, entry_at, hull_at, is_red, parent};
 use words::interval::{Interval, larger};
 
 // How wide the columns are whose numbers may be long.
-#[derive(Drop)]
+#[derive(Clone, Copy)]
 struct Widths {
     start: u64,
     end: u64,

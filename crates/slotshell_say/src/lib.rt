@@ -1,6 +1,8 @@
 // A text with numbers in it, on standard output. Each public function writes before it returns, and
 // returns nothing. If a write fails, standard output is closed, and nothing is written after the
 // missing part (lines::output).
+#![tactic(auto)]
+
 ghost use Rattle.std.specs.Prelude.{◌≡◌, ◌≤◌, length, get_or};
 ghost use Rattle.lines.specs.Output.{page};
 ghost use Rattle.slotshell_say.specs.Said.{out_link, out_other, out_piece, taken, out_said};

@@ -4,5 +4,7 @@
 //
 // Every function takes any bytes and any numbers. If the bytes have no such slot, it has no links,
 // and its entry and its hull are zeros.
+#![tactic(auto)]
+
 pub mod lookups;
 pub mod nodes;

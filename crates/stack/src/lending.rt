@@ -8,7 +8,7 @@ use crate::lent::Outcome;
 use crate::{ActionStack, lent};
 
 // What the call returned, and the record after it.
-#[derive(Drop)]
+#[derive(Clone, Copy)]
 pub struct After {
     pub outcome: Outcome,
     pub stack: ActionStack,

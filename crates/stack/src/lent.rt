@@ -8,7 +8,7 @@ use crate::{ActionStack, Answer};
 use words::refusal::Refusal;
 
 // What such a call returns. The stack after it is the record.
-#[derive(Drop)]
+#[derive(Clone, Copy)]
 pub enum Outcome {
     Done,
     Refused(Refusal),

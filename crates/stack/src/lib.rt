@@ -2,6 +2,8 @@
 // Level j uses the bits 2j and 2j + 1 of one number. Here the stack is passed by value, and a call
 // that changes it returns the new stack. `lent` has those calls on the record itself. `lending`
 // lends them a stack that is held by value.
+#![tactic(auto)]
+
 pub mod lending;
 pub mod lent;
 
@@ -22,7 +24,7 @@ pub const RETURNED: u64 = 1;
 
 pub const WAS_RIGHT: u64 = 3;
 
-#[derive(Drop)]
+#[derive(Clone, Copy)]
 pub struct ActionStack {
     pub levels: u64,
     pub bits: u64,
@@ -30,7 +32,7 @@ pub struct ActionStack {
 
 // What a call returns: the result of its test and the stack after the call, or the refusal. The
 // result is false if the call tests nothing.
-#[derive(Drop)]
+#[derive(Clone, Copy)]
 pub enum Answer {
     Done(bool, ActionStack),
     Refused(Refusal),

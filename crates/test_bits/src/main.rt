@@ -1,6 +1,8 @@
 // Runs the bit calls at their limits. Each call prints one line. Before the colon are the number of
 // bytes lent and the call with its length, place and bit. After it are the refusal's number, the
 // bit read, the length, and the three bytes afterwards.
+#![tactic(auto)]
+
 use bitvec::{Answer, BitVec};
 use lines::output;
 use words::numbers::wide;

@@ -1,1 +1,2 @@
 // One table of the examples that document 01 marks as proved. It has no code.
+#![tactic(auto)]

@@ -5,6 +5,8 @@
 // The five numbers are how many were refused with 12, with 1 and with 2, how many were accepted and
 // written back to the same bytes, and how many were accepted and written back to other bytes. The
 // memory to read into has room for 64 entries.
+#![tactic(auto)]
+
 ghost use Rattle.std.specs.Prelude.{◌≡◌, true, false, ◌+◌, ◌≤◌, ◌<◌, length};
 ghost use Rattle.words.specs.Layouts.{HoldsIn};
 ghost use Rattle.words.specs.Nodes.{HoldsBits};
@@ -35,7 +37,7 @@ fn image_space() -> [u8; 4096]
 }
 
 // What became of a number of damaged images.
-#[derive(Drop)]
+#[derive(Clone, Copy)]
 struct Tally {
     layout: u64,
     room: u64,
@@ -247,7 +249,7 @@ fn byte_of(high: u8, low: u8) -> u64
 }
 
 // How many bytes were decoded, and the place after the line.
-#[derive(Drop)]
+#[derive(Clone, Copy)]
 struct Line {
     bytes: usize,
     after: usize,

@@ -10,6 +10,8 @@
 // tree order by the planner's proposal. That prints one line: of either renumbering 0, the count,
 // the root and the number of the check, and the number of the proposal after it; then how many
 // slots the second proposal leaves where they are, and the version.
+#![tactic(auto)]
+
 ghost use Rattle.std.specs.Prelude.{◌≡◌, true, ◌*◌, ◌<◌, ◌≤◌, length};
 ghost use Rattle.words.specs.Layouts.{HoldsIn, kid_fits};
 

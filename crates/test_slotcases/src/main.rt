@@ -1,5 +1,7 @@
 // Runs many inputs of `slotlist`, and prints for each what slotlist prints. An input is a line
 // `LENGTH PIECE`, then LENGTH bytes, which are fed in pieces of PIECE bytes.
+#![tactic(auto)]
+
 ghost use Rattle.std.specs.Prelude.{◌≡◌, ◌<◌, ◌≤◌, length};
 
 use libc::STDIN_FILENO;
@@ -18,7 +20,7 @@ fn cases_space() -> [u8; 131072]
 }
 
 // A number, and the place after the byte that ends it.
-#[derive(Drop)]
+#[derive(Clone, Copy)]
 struct Number {
     value: usize,
     after: usize,

@@ -1,5 +1,7 @@
 // Writes the image of the map whose text is on standard input, or the text's refusal. docs/IMAGE.md
 // has the form of the text. At most 14,000 entries fit.
+#![tactic(auto)]
+
 use image_text::memory;
 use image_text::reading::{Outcome, State};
 use image_text::writing::put_refusal;
@@ -7,7 +9,7 @@ use libc::STDIN_FILENO;
 use lines::output;
 
 // What was read, and whether a read failed.
-#[derive(Drop)]
+#[derive(Clone, Copy)]
 struct Fed {
     state: State,
     failed: bool,

@@ -1,6 +1,8 @@
 // Renumbers the map in the image on standard input by the plan in a file, and writes the new image.
 // The file's name is the program's argument. docs/MANUAL.md, 'Tidy at night', has the form of a
 // plan and the messages. Nothing is written unless the image and the whole plan are accepted.
+#![tactic(auto)]
+
 ghost use Rattle.std.specs.Prelude.{◌≤◌, length};
 
 use iset::Map;
@@ -17,7 +19,7 @@ use plan_text::writing::put_flaw;
 use words::numbers::least;
 
 // What was read of the plan, and whether a read failed.
-#[derive(Drop)]
+#[derive(Clone, Copy)]
 struct Fed {
     state: State,
     failed: bool,

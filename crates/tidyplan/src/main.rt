@@ -1,6 +1,8 @@
 // Prints a plan for the image on standard input: for each slot, its place in tree order.
 // docs/MANUAL.md, 'Tidy at night', says what an operator does with it. At most 65,535 entries fit,
 // which is the most that a map can have.
+#![tactic(auto)]
+
 use iset::build::Built;
 use iset::{Checked, Map};
 use lines::output;

@@ -1,1 +1,2 @@
 // The theory of a store's tree: what it is, and its laws, with no code.
+#![tactic(auto)]

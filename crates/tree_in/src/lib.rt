@@ -1,6 +1,8 @@
 // The insertion of one entry: the Rust crate's `force_insert` and what it calls. Each function
 // works on any words. In a store that passes the check of crate audit a way down is never longer
 // than 32.
+#![tactic(auto)]
+
 pub mod descent;
 pub mod repair;
 

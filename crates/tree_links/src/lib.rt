@@ -1,6 +1,8 @@
 // What insertion and removal both write: links between slots, the rotation made of them, and the
 // hulls up to the root. A hull is the least interval that contains the intervals of a subtree. What
 // the repairs return is here too.
+#![tactic(auto)]
+
 ghost use Rattle.std.specs.Prelude.{◌≡◌, true, ◌+◌, ◌<◌};
 ghost use Rattle.words.specs.Layouts.{as_eight, kid_fits, HoldsIn, HasIn};
 ghost use Rattle.words.specs.Ix.{on_link};
@@ -13,7 +15,7 @@ use words::ix::{Link, U};
 use words::node::{child_of, parent_of, put_child, put_parent, update_subtree_interval};
 
 // What a round of a repair returns: the root, and how many hulls changed in the round.
-#[derive(Drop)]
+#[derive(Clone, Copy)]
 pub enum Next {
     // The repair is done.
     Done { root: u64, reach: u64 },
@@ -22,7 +24,7 @@ pub enum Next {
 }
 
 // The root after a repair, and how many hulls changed in it.
-#[derive(Drop)]
+#[derive(Clone, Copy)]
 pub struct Repaired {
     pub root: u64,
     pub reach: u64,

@@ -139,7 +139,7 @@ fn least_child(nodes: &[u64], narrow: bool, rm: u64) -> u64
 
 // The slot that is vacated, the root, and how many hulls changed. A hull is the least interval that
 // contains the intervals of a subtree.
-#[derive(Drop)]
+#[derive(Clone, Copy)]
 struct Cut {
     slot: u64,
     root: u64,
@@ -189,7 +189,7 @@ fn cut_off(nodes: &mut [u64], narrow: bool, count: u64, root: u64, rm: u64, chil
 }
 
 // The removed value, the root, the moved pairs, and how many hulls changed.
-#[derive(Drop)]
+#[derive(Clone, Copy)]
 pub struct Removed {
     pub value: u64,
     pub root: u64,

@@ -1,4 +1,6 @@
 // The entries that a removal moved to another slot.
+#![tactic(auto)]
+
 ghost use Rattle.std.specs.Prelude.{◌≡◌, cond, ◌<◌};
 ghost use Rattle.tree_rm_rule.specs.Pairs.{none, moved_to, emptied, home, named, lower, upper, by_old_slot, moved};
 

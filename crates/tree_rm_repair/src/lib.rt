@@ -1,6 +1,8 @@
 // The repair before a removal: the root test and the five cases of `restructure_rm_complex_cases`,
 // in the order of src/tree_rm.rs. The nephews are the sibling's children. The close nephew is on
 // the node's side of the sibling, the distant one on the other side.
+#![tactic(auto)]
+
 ghost use Rattle.std.specs.Prelude.{◌≡◌, true, not, ◌+◌, ◌<◌};
 ghost use Rattle.words.specs.Layouts.{as_eight, HoldsIn};
 ghost use Rattle.bitvec.specs.Colours.{red, red_at};
@@ -23,7 +25,7 @@ use tree_links::{Next, Repaired, replace_children, rework_both, rotate_up, set_c
 use words::ix::Link;
 use words::node::{child_of, parent_of};
 
-#[derive(Drop)]
+#[derive(Clone, Copy)]
 pub enum Case {
     // Node has black parent and black sibling, both nephews are black.
     One,
@@ -55,7 +57,7 @@ fn case_of(parent: bool, sibling: bool, close: bool, distant: bool) -> Case
 
 // The relatives of the node that a round is at: the slots of its parent and its sibling, the link
 // words of its close and its distant nephew, and whether it is the left child.
-#[derive(Drop)]
+#[derive(Clone, Copy)]
 struct Kin {
     parent: u64,
     sibling: u64,

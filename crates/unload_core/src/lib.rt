@@ -1,4 +1,6 @@
 // Unloading: the first entry that intersects a range goes, over and over, until none is left.
+#![tactic(auto)]
+
 ghost use Rattle.std.specs.Prelude.{◌≡◌, ◌<◌};
 ghost use Rattle.words.specs.Layouts.{as_eight, HoldsIn};
 ghost use Rattle.words.specs.Nodes.{HoldsBits};
@@ -11,7 +13,7 @@ use tree_rm::remove::remove_at;
 use words::interval::Span;
 
 // How many entries are left, and where their root is.
-#[derive(Drop)]
+#[derive(Clone, Copy)]
 pub struct Left {
     pub count: u64,
     pub root: u64,

@@ -3,7 +3,7 @@ ghost use Rattle.std.specs.Prelude.{◌≡◌, min, max};
 ghost use Rattle.words.specs.Intervals.{passed, reached, admits, bound_of, proper, le, eq, contains, extended, intersects};
 
 // One bound of a range.
-#[derive(Drop)]
+#[derive(Clone, Copy)]
 pub enum Bound {
     Included(u64),
     Excluded(u64),
@@ -11,14 +11,14 @@ pub enum Bound {
 }
 
 // A range: from `lo` to `hi`.
-#[derive(Drop)]
+#[derive(Clone, Copy)]
 pub struct Span {
     pub lo: Bound,
     pub hi: Bound,
 }
 
 // The addresses from `start` up to `end`, without `end` itself.
-#[derive(Drop)]
+#[derive(Clone, Copy)]
 pub struct Interval {
     pub start: u64,
     pub end: u64,

@@ -6,7 +6,7 @@ ghost use Rattle.words.specs.Ix.{link_of};
 pub const U: u64 = 4294967295;
 
 // Where a link word leads: to a slot, or to no slot.
-#[derive(Drop)]
+#[derive(Clone, Copy)]
 pub enum Link {
     Slot(u64),
     Nil,

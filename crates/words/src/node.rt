@@ -17,7 +17,7 @@ pub fn words_of(slots: usize, narrow: bool) -> usize
 }
 
 // What a slot holds for its user: an interval and a value.
-#[derive(Drop)]
+#[derive(Clone, Copy)]
 pub struct Entry {
     pub start: u64,
     pub end: u64,
@@ -48,7 +48,7 @@ pub fn capacity(words: usize, narrow: bool, bytes: usize) -> u64
 
 // The words of a node. The hull of a slot is the least interval that contains the intervals of its
 // subtree. A child link is the left one if its bool is true, else the right one.
-#[derive(Drop)]
+#[derive(Clone, Copy)]
 pub enum Field {
     Start,
     End,

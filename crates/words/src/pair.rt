@@ -1,7 +1,7 @@
 // The entries that a removal moved to another slot.
 
 // An entry's old slot and its new one.
-#[derive(Drop)]
+#[derive(Clone, Copy)]
 pub struct Pair {
     pub old: u64,
     pub new: u64,
@@ -9,7 +9,7 @@ pub struct Pair {
 
 // The pairs of a removal, sorted by old slot. At most three entries move. An unused pair is (U, U).
 // U is the undefined link.
-#[derive(Drop)]
+#[derive(Clone, Copy)]
 pub struct Pairs {
     pub first: Pair,
     pub second: Pair,

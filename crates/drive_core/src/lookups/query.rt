@@ -7,7 +7,7 @@ use iter::rules::Query;
 use words::interval::{Bound, Interval, Span};
 
 // `o BOUND BOUND`, `r RULE BOUND BOUND` or `e START END`; or every entry, which takes no numbers.
-#[derive(Drop)]
+#[derive(Clone, Copy)]
 pub enum Kind {
     Overlap,
     Ruled,

@@ -7,7 +7,7 @@ use disjoint::DisjointMap;
 use disjoint::insert::Placement;
 use iset::Map;
 
-#[derive(Drop)]
+#[derive(Clone, Copy)]
 pub enum Call {
     Check,
     Point,

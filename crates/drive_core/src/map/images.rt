@@ -5,7 +5,7 @@ use crate::map::reply::Reply;
 use crate::map::{host, load, write};
 use iset::Map;
 
-#[derive(Drop)]
+#[derive(Clone, Copy)]
 pub enum Call {
     Write,
     Load,
@@ -14,7 +14,7 @@ pub enum Call {
 
 // The bytes that a call has beside the store: how many, whether they are those that `bytes` gave,
 // and whether they are an output.
-#[derive(Drop)]
+#[derive(Clone, Copy)]
 pub struct Beside {
     pub size: usize,
     pub given: bool,

@@ -4,7 +4,7 @@ use iset::Map;
 // The refusal's number, 0 if there is none; the map after the call; how many hulls changed; and n
 // numbers, which are printed after the refusal's. A slot's hull is the least range that holds all
 // entries of its subtree.
-#[derive(Drop)]
+#[derive(Clone, Copy)]
 pub struct Reply {
     pub no: u64,
     pub map: Map,

@@ -6,7 +6,7 @@ use crate::map::{build, check, insert, read, remove, renumber, unload};
 use iset::Map;
 use words::numbers::least;
 
-#[derive(Drop)]
+#[derive(Clone, Copy)]
 pub enum Call {
     Check,
     Build,
