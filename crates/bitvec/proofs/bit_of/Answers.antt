@@ -1,0 +1,6 @@
+use Rattle.bitvec.proofs.Laws.{read}
+use borrow.Author.Rules.{rules}
+use Rattle.bitvec.proofs.bit_of.Goals as goal
+
+pub returns : goal.returns
+returns c = search read

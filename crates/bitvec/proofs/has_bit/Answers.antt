@@ -1,0 +1,7 @@
+use Rattle.bitvec.specs.Calls.{allowed}
+use borrow.Author.Rules.{rules}
+use Rattle.bitvec.proofs.has_bit.Goals as goal
+
+pub returns : goal.returns
+unfolding allowed
+returns c = rw c.holds.ensures

@@ -1,0 +1,8 @@
+use Rattle.bitvec.proofs.Laws.{byte_put}
+use Rattle.bitvec.specs.Bits.{set_bit}
+use borrow.Author.Rules.{rules}
+use Rattle.bitvec.proofs.put_bit.Goals as goal
+
+pub returns : goal.returns
+unfolding set_bit
+returns c = search byte_put

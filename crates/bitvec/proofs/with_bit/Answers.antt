@@ -1,0 +1,16 @@
+use Rattle.bitvec.proofs.Laws.{written_set, written_clear, written_fits}
+use borrow.Author.Rules.{rules}
+use lib.Bits.{and_le_l}
+use Rattle.bitvec.proofs.with_bit.Goals as goal
+
+pub overflow_sub-rest : goal.overflow_sub-rest
+overflow_sub-rest c = search and_le_l
+
+pub overflow_add-result : goal.overflow_add-result
+overflow_add-result c = search written_fits
+
+pub returns-then-v : goal.returns-then-v
+returns-then-v c = search written_set
+
+pub returns-else-v : goal.returns-else-v
+returns-else-v c = search written_clear

@@ -1,9 +1,0 @@
-use Rattle.lines.proofs.Laws.{digit_taken, digit_missed}
-use borrow.Author.Rules.{rules}
-use Rattle.lines.proofs.input.Line.in_gap.Statement.{statement}
-use Rattle.lines.proofs.input.Line.in_gap.Tie as tie
-
-pub in-gap-spec : {M : Type 1} → statement M
-in-gap-spec =
-    tie.close
-    (tie.spec (λ c κs. search rules) (λ c. search rules) (λ c κs. search rules) (λ c. search rules) (λ c κs. search rules) (λ c. search digit_taken) (λ c. search digit_missed))

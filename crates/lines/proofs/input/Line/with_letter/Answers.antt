@@ -1,0 +1,18 @@
+use Rattle.lines.specs.Input.{with_letter_lem}
+use Rattle.lines.proofs.Laws.{past_end}
+use Rattle.words.proofs.Tests.{equal, unequal}
+use Rattle.words.proofs.Laws.{there, missing}
+use borrow.Author.Rules.{rules}
+use Rattle.lines.proofs.input.Line.with_letter.Goals as goal
+
+pub returns-then-name-n : goal.returns-then-name-n
+unfolding with_letter_lem
+returns-then-name-n c = (search missing, search past_end)
+
+pub overflow_add-result-2 : goal.overflow_add-result-2
+unfolding with_letter_lem
+overflow_add-result-2 c = (search (there, equal), search rules)
+
+pub returns : goal.returns
+unfolding with_letter_lem
+returns c = (search (there, unequal), search rules)

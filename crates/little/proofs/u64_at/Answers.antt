@@ -1,0 +1,6 @@
+use Rattle.little.proofs.Laws.{read_eight}
+use borrow.Author.Rules.{rules}
+use Rattle.little.proofs.u64_at.Goals as goal
+
+pub returns : goal.returns
+returns c = search read_eight

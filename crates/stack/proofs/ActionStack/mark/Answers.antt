@@ -1,0 +1,7 @@
+use Rattle.stack.specs.States.{marked}
+use borrow.Author.Rules.{rules}
+use Rattle.stack.proofs.ActionStack.mark.Goals as goal
+
+pub returns : goal.returns
+unfolding marked
+returns c = rw c.put_state.ensures

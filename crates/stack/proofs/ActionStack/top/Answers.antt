@@ -1,0 +1,7 @@
+use Rattle.stack.specs.States.{top}
+use borrow.Author.Rules.{rules}
+use Rattle.stack.proofs.ActionStack.top.Goals as goal
+
+pub returns : goal.returns
+unfolding top
+returns c = c.state_at.ensures
