@@ -1,5 +1,5 @@
 -- What the code's arithmetic and tests say of a rule, in the form that `search` takes.
-use mathlib.Core.Path.{◌≡◌, refl, sym, ◌∙◌}
+use mathlib.Core.Path.{◌≡◌, refl, sym, ap, subst, ◌∙◌}
 use mathlib.Core.Bool.{Bool, true, false, cond, ◌&&◌, true≢false}
 use Prim.Native.Nat.{ℕ, ◌+◌, ◌-◌, ◌*◌, ◌/◌, ◌%◌, ◌^◌, ◌<◌, ◌≤◌}
 use native.Mathlib.Omega.{arith}
@@ -10,8 +10,10 @@ use lib.Dec.{leb}
 use borrow.Author.Tests.{leb-true}
 use Rattle.bitvec.proofs.Weights.{and_weight, digit_put, digit_le}
 use Rattle.stack.specs.States.{state_at_lem, put_state_lem, top, marked, pushed, popped}
-use Rattle.stack.specs.Calls.{Told, done, bad_bit, some, mark_rule, push_rule, pop_rule, just_entered, not_returned, not_right, went_left}
+use Rattle.stack.specs.Calls.{Told, numbers, lent, outcome_of, done, bad_bit, some, mark_rule, push_rule, pop_rule, just_entered, not_returned, not_right, went_left}
 use Rattle.stack.specs.declared.ActionStack.{ActionStack}
+use Rattle.stack.specs.declared.Answer.{Answer}
+use Rattle.stack.specs.declared.Answer.TheVariants.{Done, Refused}
 use Rattle.stack.proofs.Levels.{four_two, put_low, state_low}
 
 -- the weight of a level's first bit, from that in its byte
@@ -100,3 +102,8 @@ pop_quiet s = both_quiet (some s) (done false (popped s)) (bad_bit s) refl refl
 pub mark_quiet : (gives : ℕ → ℕ) (s : ActionStack) → (mark_rule gives s).yes ≡ false
 unfolding mark_rule
 mark_quiet gives s = both_quiet (some s) (done false (marked (gives (top s)) s)) (bad_bit s) refl refl
+
+-- what a call on the record itself returns, by what the call by value returned
+pub lent_back : (given : ActionStack) (a : Answer) (r : Told) → numbers given a ≡ r → r.yes ≡ false → lent (outcome_of a) (numbers given a).stack ≡ r
+lent_back given (Done b s) r e q = let z : b ≡ false = ap (λ (t : Told). t.yes) e ∙ q in subst (λ (x : Bool). done x s ≡ r) z e
+lent_back given (Refused y) r e q = e

@@ -1,7 +1,7 @@
 -- A tree, and a way up, stay where the words that they name stay; and the way from a place to the
 -- root and back.
 use lib.ListN.{length}
-use mathlib.Core.Path.{◌≡◌, refl, sym, ◌∙◌}
+use mathlib.Core.Path.{◌≡◌, refl, sym, subst, ◌∙◌}
 use mathlib.Core.Logic.{◌≢◌}
 use mathlib.Core.Bool.{Bool, true, false, not}
 use mathlib.Core.List.{List, [], ◌∷◌}
@@ -82,7 +82,7 @@ module _ (W X : List ℕ) (n : ℕ) where
   move p q k leaf f u o h = h
   move p q k (node l a r) f u o h =
       let e : k ≡ a = h.here in
-      let one : occ a (node l a r) ≤ 1 = rw e at o in
+      let one : occ a (node l a r) ≤ 1 = subst (λ (x : ℕ). occ x (node l a r) ≤ 1) e o in
       let z : (occ a l ≡ 0) × (occ a r ≡ 0) = omega (arith, hit_same a) in
       let fl : (s : ℕ) → 0 < occ s l → Same W X s = λ s y. f s (omega arith) (rw e (apart s a l z.0 y)) in
       let fr : (s : ℕ) → 0 < occ s r → Same W X s = λ s y. f s (omega arith) (rw e (apart s a r z.1 y)) in
