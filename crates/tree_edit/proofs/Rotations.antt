@@ -1,6 +1,6 @@
 -- Shape and slots: the sibling S of a place comes up into the place of its parent P, and the words
 -- that the repair writes hold the rotated tree.
-use mathlib.Core.Path.{◌≡◌, refl, sym, ◌∙◌}
+use mathlib.Core.Path.{◌≡◌, subst, refl, sym, ◌∙◌}
 use mathlib.Core.Logic.{◌≢◌}
 use mathlib.Core.Bool.{Bool, true, false, not}
 use mathlib.Core.List.{List, [], ◌∷◌}
@@ -44,7 +44,7 @@ swing W X n r (frame b a far ∷ c) P S m q z one f g h =
     let sd : eqb (kid W true (par W P)) P ≡ b = rw at (side_of W n a P b far m q (omega arith) h.here h.far) in
     let ff : (s : ℕ) → 0 < occ s far → Same W X s = λ s y. f s (omega arith) (rw at (apart s a far zf.0 y)) in
     let fc : (s : ℕ) → 0 < occs s c → Same W X s = λ s y. f s (omega arith) (rw at (apart_way s a c zf.1 y)) in
-    rw (on_slot n (par W P) (omega (arith, h.live))) (record {
+    subst (λ (q : ℕ). Above X n q (frame b a far ∷ c) (par W P) S) (sym (on_slot n (par W P) (omega (arith, h.live)) (λ (s : ℕ). r) S)) (record {
       at = at;
       here = sym (rw at at (o.1 b sd));
       live = h.live;
@@ -57,7 +57,7 @@ pub off_parent : (W : List ℕ) (n r : ℕ) (c : List Frame) (g P s : ℕ) → n
 off_parent W n r [] g P s m h q z e = omega (arith, h.0)
 off_parent W n r (frame b a far ∷ c) g P s m h q z e =
     let x : s ≡ a = e ∙ h.at in
-    let y : occs a (frame b a far ∷ c) ≡ 0 = rw x at z in
+    let y : occs a (frame b a far ∷ c) ≡ 0 = subst (λ (v : ℕ). occs v (frame b a far ∷ c) ≡ 0) x z in
     omega (arith, hit_same a)
 
 -- The words X come from W by this rotation: the sibling S, on the far side of P, goes up over P,

@@ -1,6 +1,6 @@
 -- Hulls: where a hull is worked out from its children's, and the walk up to the root that leaves
 -- every hull right.
-use mathlib.Core.Path.{◌≡◌, refl, ap, fun_ext, ◌∙◌, sym}
+use mathlib.Core.Path.{◌≡◌, refl, ap, subst, fun_ext, ◌∙◌, sym}
 use mathlib.Core.Bool.{Bool, true, false, not}
 use mathlib.Core.List.{List, [], ◌∷◌, ◌++◌}
 use Prim.Native.Nat.{ℕ, zero, suc, ◌+◌, ◌<◌, ◌≤◌, min, max}
@@ -14,7 +14,7 @@ use Rattle.words.specs.declared.interval.Interval.{Interval}
 use Rattle.words.specs.declared.node.Field.TheVariants.{Start, End, Value, Child, Parent}
 use Rattle.tree.specs.Tree.{Tree, hit, occ, Shape, leaf, node}
 use Rattle.tree.specs.Zipper.{bin, Frame, plug, occs, Above, frame}
-use Rattle.tree.specs.Hulls.{Hulls, lowest, highest}
+use Rattle.tree.specs.Hulls.{Hulls, least, most, lowest, highest}
 use Rattle.tree.proofs.Slots.{hit_same, apart, occ_bin}
 use Rattle.tree.proofs.Frames.{Same, open_bin, keep, above_keep, go_up}
 use Rattle.tree.proofs.Hulls.{low_node, high_node}
@@ -80,8 +80,8 @@ module _ (W : List ℕ) (n : ℕ) (small : n ≤ 65535) where
       let e : hull (fix n W s) s ≡ record { start = lowest W r (lowest W l (start W s)); end = highest W r (highest W l (stop W s)) } =
       hull_fix n W s (omega arith) ∙ join_node p k l s r h in
       record {
-        low = rw (start_fix n W s) (ap (λ (i : Interval). i.start) e ∙ lowest_swap W l r (start W s) ∙ low_node W l s r hl hr);
-        high = rw (stop_fix n W s) (ap (λ (i : Interval). i.end) e ∙ highest_swap W l r (stop W s) ∙ high_node W l s r hl hr);
+        low = subst (λ (g : ℕ → ℕ). lo (fix n W s) s ≡ least g (node l s r) (g s)) (sym (start_fix n W s)) (ap (λ (i : Interval). i.start) e ∙ lowest_swap W l r (start W s) ∙ low_node W l s r hl hr);
+        high = subst (λ (g : ℕ → ℕ). hi (fix n W s) s ≡ most g (node l s r) (g s)) (sym (stop_fix n W s)) (ap (λ (i : Interval). i.end) e ∙ highest_swap W l r (stop W s) ∙ high_node W l s r hl hr);
         left = hulls_fix n W s l zl hl;
         right = hulls_fix n W s r zr hr;
       }
