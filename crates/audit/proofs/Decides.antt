@@ -10,8 +10,7 @@ use borrow.Author.Tests.{eq-eqb, ne_eqb, eqb-true, eqb-false}
 use Rattle.words.specs.Ix.{U}
 use Rattle.words.specs.Nodes.{kid, interval}
 use Rattle.words.specs.declared.interval.Interval.{Interval}
-use Rattle.bitvec.specs.Colours.{red}
-use Rattle.tree.specs.Tree.{Tree, leaf, node, occ, size, height, Shape}
+use Rattle.tree.specs.Tree.{Tree, leaf, node, occ, height, Shape}
 use Rattle.tree.specs.Passes.{Passes}
 use Rattle.tree.proofs.Frames.{shape_live, shape_root}
 use Rattle.tree.proofs.Sizes.{full}

@@ -3,10 +3,10 @@
 -- words.
 use mathlib.Core.Path.{◌≡◌, refl, sym, ap, ◌∙◌}
 use mathlib.Core.Bool.{Bool, true, false}
-use mathlib.Core.List.{List, [], ◌∷◌, ◌++◌, append-nil}
+use mathlib.Core.List.{List, [], ◌++◌, append-nil}
 use Prim.Native.Nat.{ℕ, ◌+◌, ◌-◌, ◌*◌, ◌/◌, ◌<◌, ◌≤◌}
 use native.Mathlib.Omega.{arith}
-use lib.ListN.{length, take, drop, length-take, length-drop, drop_of_length-le}
+use lib.ListN.{length, take, drop, length-drop, drop_of_length-le}
 use lib.Seq.{length-take-le, length_front}
 use lib.Dec.{leb}
 use borrow.Author.Tests.{leb-false}
@@ -17,7 +17,6 @@ use Rattle.words.specs.declared.interval.Interval.{Interval}
 use Rattle.words.proofs.Layouts.{length_unpack, slot_fits, none_fits, kid_up, eight_take, eight_drop, eight_append, eight_whole, eight_holds}
 use Rattle.builder.specs.Input.{interval_of_lem, entry_of}
 use Rattle.builder.specs.Build.{center, root_of_lem, span_hull, span_words, levels, build_words, Lent}
-use Rattle.builder.proofs.Spans.{root_none, root_some}
 use Rattle.builder.proofs.Parts.{rest, rest_is, back, back_both, half, span_left, span_right, span_back, words_whole, span_all, words_all}
 
 -- so many whole nodes, and fewer of them

@@ -1,12 +1,12 @@
 -- The hulls that are worked out below a link are right, and nothing else is written. In a tree each
 -- slot is entered once.
-use mathlib.Core.Path.{◌≡◌, refl, ◌∙◌}
+use mathlib.Core.Path.{◌≡◌, refl, sym, subst, ◌∙◌}
 use mathlib.Core.Bool.{true, false}
 use mathlib.Core.List.{List}
 use Prim.Native.Nat.{ℕ, zero, suc, ◌+◌, ◌*◌, ◌≤◌}
 use native.Mathlib.Omega.{arith}
 use lib.ListN.{length}
-use Rattle.words.specs.Ix.{U, on_link}
+use Rattle.words.specs.Ix.{U}
 use Rattle.words.specs.Nodes.{word, kid, fix, Holds}
 use Rattle.words.proofs.Nodes.{in_hull, length_fix, word_fix, word_fix_slot}
 use Rattle.words.specs.declared.node.Field.{Field}
@@ -76,7 +76,8 @@ module _ (n : ℕ) (small : n ≤ 65535) where
       fix_bin Y n small (rw (length_worked n h X (kid W false s), length_worked n h W (kid W true s)) room) p k true l s r z.0 z.1 sh_y hl_y hr in
       let e : worked n (suc h) W k ≡ fix n Y s =
       rw sh.here (on_slot n s sh.live (λ s. fix n (worked n h (worked n h W (kid W true s)) (kid W false s)) s) W) in
-      rw e (all, λ a o g. word_fix_slot n Y s g a (hit_zero a s (omega arith)) ∙ fr a (omega arith) g ∙ fl a (omega arith) g)
+      subst (λ (Z : List ℕ). Hulls Z (node l s r) × ((a : ℕ) → occ a (node l s r) ≡ 0 → (g : Field) → word Z g a ≡ word W g a)) (sym e)
+      (all, λ a o g. word_fix_slot n Y s g a (hit_zero a s (omega arith)) ∙ fr a (omega arith) g ∙ fl a (omega arith) g)
 
 -- in a tree, at most two calls for each slot and one
 module _ (n : ℕ) where

@@ -1,0 +1,4 @@
+use Rattle.image.proofs.stored.interval_in.Goals as goal
+
+pub returns : goal.returns
+returns c = rw (← c.u64_at.ensures, ← c.u64_at-2.ensures)
