@@ -1,6 +1,6 @@
 -- The last slot moves into the vacated one: the tree of a store that has one slot less, with all
 -- data and colours.
-use mathlib.Core.Path.{◌≡◌, refl, sym, ap, ◌∙◌}
+use mathlib.Core.Path.{◌≡◌, subst, refl, sym, ap, ◌∙◌}
 use mathlib.Core.Logic.{◌≢◌}
 use mathlib.Core.Bool.{Bool, true, false, cond}
 use mathlib.Core.List.{List, [], ◌∷◌}
@@ -51,7 +51,7 @@ unfolding root_after
 root_moves W n r [] z v m o h =
     rw (← h.1) (moved_to_here z v ∙ sym (on_none n (par W z) (omega (arith, h.0)) (λ s. z) v))
 root_moves W n r (frame b s far ∷ c) z v m o h =
-    let d : r ≢ z = λ e. let y : 0 < occs z (frame b s far ∷ c) = rw e at (way_root W n r b s far c (par W z) z h) in omega arith in
+    let d : r ≢ z = λ e. let y : 0 < occs z (frame b s far ∷ c) = subst (λ (k : ℕ). 0 < occs k (frame b s far ∷ c)) e (way_root W n r b s far c (par W z) z h) in omega arith in
     moved_to_other z v r d ∙ sym (on_slot n (par W z) (omega (arith, h.live, h.at)) (λ s. r) v)
 
 module _ (n z v : ℕ) (W C : List ℕ) (r : ℕ) (t : Tree) (small : n ≤ 65535) (last : suc z ≡ n) (lv : v < n)

@@ -1,5 +1,5 @@
 -- Shape and slots: a slot is cut off, and the last slot moves into the vacated one.
-use mathlib.Core.Path.{◌≡◌, refl, sym, ◌∙◌}
+use mathlib.Core.Path.{◌≡◌, subst, refl, sym, ◌∙◌}
 use mathlib.Core.Logic.{◌≢◌}
 use mathlib.Core.Bool.{Bool, true, false, not}
 use mathlib.Core.List.{List}
@@ -53,7 +53,7 @@ module _ (W X : List ℕ) (n r : ℕ) (c : List Frame) (l r' : Tree) (z x : ℕ)
     (once : (s : ℕ) → occs s c + occ s (node l z r') ≤ 1) (zx : occs x c + occ x (node l z r') ≡ 0)
     (h : Above W n r c (par W z) z) (t : Shape W n (par W z) z (node l z r')) (v : Moved n W X z x) where
   off : (s : ℕ) → 0 < occs s c + occ s (node l z r') → s ≢ x
-  off s o e = let w : 0 < occs x c + occ x (node l z r') = rw e at o in omega arith
+  off s o e = let w : 0 < occs x c + occ x (node l z r') = subst (λ (k : ℕ). 0 < occs k c + occ k (node l z r')) e o in omega arith
 
   not_g : (s : ℕ) → s < n → occs s c ≡ 0 → s ≢ par W z
   not_g s = off_parent W n r c (par W z) z s small h

@@ -1,0 +1,7 @@
+use Rattle.tree_edit.specs.Links.{set_child_lem}
+use borrow.Author.Rules.{rules}
+use Rattle.tree_links.proofs.set_child.Goals as goal
+
+pub returns : goal.returns
+unfolding set_child_lem
+returns c = rw (← c.adopt_child.ensures) c.put_child.ensures

@@ -1,0 +1,6 @@
+use Rattle.tree_rm_repair.proofs.Rounds.{four_is, four_changes}
+use borrow.Author.Rules.{rules}
+use Rattle.tree_rm_repair.proofs.case_four.Goals as goal
+
+pub returns : goal.returns
+returns c = (search four_is, search four_changes)
