@@ -1,16 +1,16 @@
 -- The planner and the test of a plan against their rules, in the form that `search` takes.
-use mathlib.Core.Path.{◌≡◌, refl, sym, ap, ◌∙◌}
+use mathlib.Core.Path.{◌≡◌, refl, sym, ◌∙◌}
 use mathlib.Core.Bool.{Bool, true, false, cond, not, ◌&&◌}
 use mathlib.Core.List.{List, [], ◌∷◌}
 use Prim.Native.Nat.{ℕ, zero, suc, ◌+◌, ◌-◌, ◌*◌, ◌<◌, ◌≤◌}
 use native.Mathlib.Omega.{arith}
-use native.Mathlib.Numerals.{add-one, sub-one}
+use native.Mathlib.Numerals.{add-one}
 use native.Mathlib.Nat.{sub-zero}
-use lib.Dec.{ltb, leb}
+use lib.Dec.{ltb}
 use lib.ListN.{length, get_or, set, drop, replicate}
 use lib.Seq.{drop-cons, drop-length}
 use borrow.Author.Tests.{lt-ltb, le-ltb}
-use Rattle.words.specs.Ix.{link_of, on_link}
+use Rattle.words.specs.Ix.{link_of}
 use Rattle.words.specs.declared.ix.Link.{Link}
 use Rattle.words.specs.declared.ix.Link.TheVariants.{Slot, Nil}
 use Rattle.words.proofs.Laws.{slot_live}
@@ -18,7 +18,7 @@ use Rattle.bitvec.specs.Bits.{bit_at, set_bit}
 use Rattle.tree_links.proofs.LinkLaws.{read_linked, read_unlinked, slot_is}
 use Rattle.plain_rule.specs.Tour.{next_of, first_of, tour, entries}
 use Rattle.tidy_rule.specs.Plan.{fits, all_new, numbered, proposed}
-use Rattle.tidy_rule.proofs.Marks.{new_fits, not_long}
+use Rattle.tidy_rule.proofs.Marks.{new_fits}
 
 -- a slot is a place of what has so many
 module _ (n k s : ℕ) (l : Link) (e : l ≡ link_of n k) (q : l ≡ Slot s) where

@@ -1,13 +1,13 @@
 -- Tags against their rule, in the form that `search` takes.
-use mathlib.Core.Path.{◌≡◌, refl, sym, ap, ◌∙◌}
+use mathlib.Core.Path.{◌≡◌, refl, ap, ◌∙◌}
 use mathlib.Core.Bool.{Bool, true, false}
 use mathlib.Core.List.{List}
-use Prim.Native.Nat.{ℕ, zero, suc, ◌+◌, ◌-◌, ◌*◌, ◌/◌, ◌%◌, ◌<◌, ◌≤◌}
+use Prim.Native.Nat.{ℕ, ◌+◌, ◌*◌, ◌/◌, ◌%◌, ◌<◌, ◌≤◌}
 use native.Mathlib.Omega.{arith}
 use native.Mathlib.Numerals.{add-one}
 use lib.ListN.{length, get_or}
 use borrow.Author.Tests.{le-ltb}
-use Rattle.words.specs.Ix.{U, link_of}
+use Rattle.words.specs.Ix.{link_of}
 use Rattle.words.specs.Layouts.{narrowed, widened, kid_fits, up_fits_lem}
 use Rattle.words.specs.Nodes.{kid, par, put_kid, put_par}
 use Rattle.words.specs.declared.ix.Link.{Link}

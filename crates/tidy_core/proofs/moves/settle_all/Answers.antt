@@ -1,10 +1,5 @@
-use mathlib.Core.Path.{◌≡◌, refl}
-use Prim.Native.Nat.{◌*◌}
+use mathlib.Core.Path.{refl}
 use native.Mathlib.Omega.{arith}
-use borrow.Author.Rules.{rules}
-use lib.ListN.{length}
-use Rattle.words.specs.Layouts.{as_eight}
-use Rattle.tidy_rule.specs.Tidy.{settle}
 use Rattle.tidy_core.proofs.Moving.{end_words, end_colours, past_words, past_colours, onward}
 use Rattle.tidy_core.proofs.moves.settle_all.Goals as goal
 

@@ -1,11 +1,8 @@
-use mathlib.Core.Path.{◌≡◌, refl}
+use mathlib.Core.Path.{◌≡◌}
 use Prim.Native.Nat.{◌*◌}
-use native.Mathlib.Omega.{arith}
-use borrow.Author.Rules.{rules}
 use lib.ListN.{length}
 use Rattle.words.specs.Layouts.{as_eight}
 use Rattle.tidy_rule.specs.Tidy.{settle}
-use Rattle.tidy_core.proofs.Moving.{end_words, end_colours, past_words, past_colours, onward}
 use Rattle.tidy_core.proofs.moves.settle_all.Given as goal
 
 abbrev pub invariant-loop-turns : goal.invariant-loop-turns

@@ -1,4 +1,3 @@
-use borrow.Author.Rules.{rules}
 use Rattle.tidy_core.proofs.Moving.{swapped_is}
 use Rattle.tidy_core.proofs.moves.swap_nodes.Goals as goal
 

@@ -1,5 +1,4 @@
 use native.Mathlib.Omega.{arith}
-use borrow.Author.Rules.{rules}
 use Rattle.tidy_core.proofs.Moving.{rests, goes, goes_nodes, goes_colours, below}
 use Rattle.tidy_core.proofs.moves.turn.Goals as goal
 

@@ -1,9 +1,4 @@
-use mathlib.Core.Path.{◌≡◌, refl}
-use Prim.Native.Nat.{◌-◌, ◌≤◌}
 use native.Mathlib.Omega.{arith}
-use borrow.Author.Rules.{rules}
-use lib.ListN.{length, drop}
-use Rattle.tidy_rule.specs.Plan.{fits, all_new}
 use Rattle.tidy_rule.proofs.Marks.{not_long}
 use Rattle.tidy_core.proofs.Planning.{test_begin, test_on, test_stops, test_ends}
 use Rattle.tidy_core.proofs.plan.names_each.Goals as goal

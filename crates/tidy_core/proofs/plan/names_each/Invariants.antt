@@ -1,11 +1,7 @@
-use mathlib.Core.Path.{◌≡◌, refl}
+use mathlib.Core.Path.{◌≡◌}
 use Prim.Native.Nat.{◌-◌, ◌≤◌}
-use native.Mathlib.Omega.{arith}
-use borrow.Author.Rules.{rules}
 use lib.ListN.{length, drop}
 use Rattle.tidy_rule.specs.Plan.{fits, all_new}
-use Rattle.tidy_rule.proofs.Marks.{not_long}
-use Rattle.tidy_core.proofs.Planning.{test_begin, test_on, test_stops, test_ends}
 use Rattle.tidy_core.proofs.plan.names_each.Given as goal
 
 abbrev pub invariant-loop-s : goal.invariant-loop-s

@@ -1,13 +1,9 @@
-use mathlib.Core.Path.{◌≡◌, refl}
+use mathlib.Core.Path.{◌≡◌}
 use Prim.Native.Nat.{◌-◌, ◌≤◌}
-use native.Mathlib.Omega.{arith}
-use borrow.Author.Rules.{rules}
 use lib.ListN.{length}
 use Rattle.words.specs.Layouts.{as_eight}
-use Rattle.words.proofs.Laws.{slot_live}
 use Rattle.plain_rule.specs.Tour.{tour}
 use Rattle.tidy_rule.specs.Plan.{numbered, proposed}
-use Rattle.tidy_core.proofs.Planning.{slot_bytes, slot_place, number_begin, number_none, number_full, number_on}
 use Rattle.tidy_core.proofs.planner.number_all.Given as goal
 
 abbrev pub invariant-loop-place : goal.invariant-loop-place

@@ -1,5 +1,3 @@
-use native.Mathlib.Omega.{arith}
-use borrow.Author.Rules.{rules}
 use Rattle.words.proofs.Laws.{linked, unlinked}
 use Rattle.tidy_rule.specs.Plan.{renamed}
 use Rattle.tidy_core.proofs.Planning.{slot_bytes}

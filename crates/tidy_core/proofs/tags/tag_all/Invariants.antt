@@ -1,11 +1,8 @@
-use mathlib.Core.Path.{◌≡◌, refl}
+use mathlib.Core.Path.{◌≡◌}
 use Prim.Native.Nat.{◌-◌, ◌≤◌}
-use native.Mathlib.Omega.{arith}
-use borrow.Author.Rules.{rules}
 use lib.ListN.{length}
 use Rattle.words.specs.Layouts.{as_eight}
 use Rattle.tidy_rule.specs.Tidy.{tagged}
-use Rattle.tidy_core.proofs.Tagging.{tagged_none, tagged_on, tagged_done}
 use Rattle.tidy_core.proofs.tags.tag_all.Given as goal
 
 abbrev pub invariant-loop-s : goal.invariant-loop-s

@@ -1,4 +1,3 @@
-use native.Mathlib.Omega.{arith}
 use borrow.Author.Rules.{rules}
 use Rattle.tidy_core.proofs.Tagging.{plan_has, plan_small, link_short, up_any, tag_node_is}
 use Rattle.tidy_core.proofs.tags.tag_node.Goals as goal

@@ -1,4 +1,3 @@
-use borrow.Author.Rules.{rules}
 use Rattle.tidy_core.proofs.Tagging.{tag_is}
 use Rattle.tidy_core.proofs.tags.tag_of.Goals as goal
 

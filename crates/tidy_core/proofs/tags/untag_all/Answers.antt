@@ -1,10 +1,5 @@
-use mathlib.Core.Path.{◌≡◌, refl}
-use Prim.Native.Nat.{◌-◌, ◌≤◌}
+use mathlib.Core.Path.{refl}
 use native.Mathlib.Omega.{arith}
-use borrow.Author.Rules.{rules}
-use lib.ListN.{length}
-use Rattle.words.specs.Layouts.{as_eight}
-use Rattle.tidy_rule.specs.Tidy.{untagged}
 use Rattle.tidy_core.proofs.Tagging.{untagged_none, untagged_on, untagged_done}
 use Rattle.tidy_core.proofs.tags.untag_all.Goals as goal
 

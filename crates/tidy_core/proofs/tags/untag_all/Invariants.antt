@@ -1,11 +1,8 @@
-use mathlib.Core.Path.{◌≡◌, refl}
+use mathlib.Core.Path.{◌≡◌}
 use Prim.Native.Nat.{◌-◌, ◌≤◌}
-use native.Mathlib.Omega.{arith}
-use borrow.Author.Rules.{rules}
 use lib.ListN.{length}
 use Rattle.words.specs.Layouts.{as_eight}
 use Rattle.tidy_rule.specs.Tidy.{untagged}
-use Rattle.tidy_core.proofs.Tagging.{untagged_none, untagged_on, untagged_done}
 use Rattle.tidy_core.proofs.tags.untag_all.Given as goal
 
 abbrev pub invariant-loop-s : goal.invariant-loop-s

@@ -1,4 +1,3 @@
-use native.Mathlib.Omega.{arith}
 use borrow.Author.Rules.{rules}
 use Rattle.tidy_core.proofs.Tagging.{up_any, untag_node_is}
 use Rattle.tidy_core.proofs.tags.untag_node.Goals as goal

@@ -1,4 +1,3 @@
-use borrow.Author.Rules.{rules}
 use Rattle.words.proofs.Layouts.{low_widened, high_widened, low_up, widened_fits}
 use Rattle.tidy_core.proofs.tags.widened.Goals as goal
 
