@@ -65,26 +65,26 @@ pub is-wrong-determined :
 is-wrong-determined κs a r r' s s' p q = p ∙ sym q
 
 pub flush-determined :
-    (κs : Lfts 1) (a : K.Dens κs flush-kinds.ps) (r r' : (K.res_t flush-kinds.r κs).Denot) (s s' : AtExit (K.ended_of 1 flush-kinds.ps flush-kinds.r) κs)
+    (κs : Lfts 2) (a : K.Dens κs flush-kinds.ps) (r r' : (K.res_t flush-kinds.r κs).Denot) (s s' : AtExit (K.ended_of 2 flush-kinds.ps flush-kinds.r) κs)
     → flush-reads.Post κs a r s → flush-reads.Post κs a r' s' → r ≡ r'
 flush-determined κs a r r' s s' p q = p ∙ sym q
 
 pub put-byte-determined :
-    (κs : Lfts 1) (a : K.Dens κs put-byte-kinds.ps) (r r' : (K.res_t put-byte-kinds.r κs).Denot) (s s' : AtExit (K.ended_of 1 put-byte-kinds.ps put-byte-kinds.r) κs)
-    → put-byte-reads.Post κs a r s → put-byte-reads.Post κs a r' s' → (r ≡ r') × (s.0.now ≡ s'.0.now)
+    (κs : Lfts 2) (a : K.Dens κs put-byte-kinds.ps) (r r' : (K.res_t put-byte-kinds.r κs).Denot) (s s' : AtExit (K.ended_of 2 put-byte-kinds.ps put-byte-kinds.r) κs)
+    → put-byte-reads.Post κs a r s → put-byte-reads.Post κs a r' s' → (r ≡ r') × (s.1.0.now ≡ s'.1.0.now)
 put-byte-determined κs a r r' s s' p q = same_page _ r r' _ _ p q
 
 pub put-text-determined :
-    (κs : Lfts 2) (a : K.Dens κs put-text-kinds.ps) (r r' : (K.res_t put-text-kinds.r κs).Denot) (s s' : AtExit (K.ended_of 2 put-text-kinds.ps put-text-kinds.r) κs)
-    → put-text-reads.Post κs a r s → put-text-reads.Post κs a r' s' → (r ≡ r') × (s.0.now ≡ s'.0.now)
+    (κs : Lfts 3) (a : K.Dens κs put-text-kinds.ps) (r r' : (K.res_t put-text-kinds.r κs).Denot) (s s' : AtExit (K.ended_of 3 put-text-kinds.ps put-text-kinds.r) κs)
+    → put-text-reads.Post κs a r s → put-text-reads.Post κs a r' s' → (r ≡ r') × (s.1.0.now ≡ s'.1.0.now)
 put-text-determined κs a r r' s s' p q = same_page _ r r' _ _ p q
 
 pub put-number-determined :
-    (κs : Lfts 1) (a : K.Dens κs put-number-kinds.ps) (r r' : (K.res_t put-number-kinds.r κs).Denot) (s s' : AtExit (K.ended_of 1 put-number-kinds.ps put-number-kinds.r) κs)
-    → put-number-reads.Post κs a r s → put-number-reads.Post κs a r' s' → (r ≡ r') × (s.0.now ≡ s'.0.now)
+    (κs : Lfts 2) (a : K.Dens κs put-number-kinds.ps) (r r' : (K.res_t put-number-kinds.r κs).Denot) (s s' : AtExit (K.ended_of 2 put-number-kinds.ps put-number-kinds.r) κs)
+    → put-number-reads.Post κs a r s → put-number-reads.Post κs a r' s' → (r ≡ r') × (s.1.0.now ≡ s'.1.0.now)
 put-number-determined κs a r r' s s' p q = same_page _ r r' _ _ p q
 
 pub put-next-determined :
-    (κs : Lfts 1) (a : K.Dens κs put-next-kinds.ps) (r r' : (K.res_t put-next-kinds.r κs).Denot) (s s' : AtExit (K.ended_of 1 put-next-kinds.ps put-next-kinds.r) κs)
-    → put-next-reads.Post κs a r s → put-next-reads.Post κs a r' s' → (r ≡ r') × (s.0.now ≡ s'.0.now)
+    (κs : Lfts 2) (a : K.Dens κs put-next-kinds.ps) (r r' : (K.res_t put-next-kinds.r κs).Denot) (s s' : AtExit (K.ended_of 2 put-next-kinds.ps put-next-kinds.r) κs)
+    → put-next-reads.Post κs a r s → put-next-reads.Post κs a r' s' → (r ≡ r') × (s.1.0.now ≡ s'.1.0.now)
 put-next-determined κs a r r' s s' p q = same_page _ r r' _ _ p q

@@ -3,45 +3,42 @@
 ghost use Rattle.std.specs.Prelude.{◌≡◌};
 ghost use Rattle.lines.specs.Output.{page, front, out_byte, out_text, number, next};
 
-use libc::{STDERR_FILENO, STDOUT_FILENO};
+use crate::streams::Streams;
 
-// Writes a text to standard output. If that fails, it closes standard output. Then nothing is
-// written after the missing part, and `close` reports that a write failed.
-pub fn send(text: &[u8]) {
-    if io::write_all(STDOUT_FILENO, text) {
-        return;
-    }
-    libc::close(STDOUT_FILENO);
+// Writes a text to standard output. If that fails, nothing is written after the missing part, and
+// `close` reports that a write failed.
+pub fn send(streams: &Streams, text: &[u8]) {
+    streams.write(text);
 }
 
-pub fn send_number(x: u64) {
+pub fn send_number(streams: &Streams, x: u64) {
     let mut text = [0u8; 20];
     let k = io::decimal(x, &mut text);
-    send(&text[..k]);
+    send(streams, &text[..k]);
 }
 
 // Writes a line to standard error: the program's name, and what the program cannot do.
-pub fn complain(name: &[u8], what: &[u8]) {
-    io::write_all(STDERR_FILENO, name);
-    io::write_all(STDERR_FILENO, b": cannot ");
-    io::write_all(STDERR_FILENO, what);
-    io::write_all(STDERR_FILENO, b"\n");
+pub fn complain(streams: &Streams, name: &[u8], what: &[u8]) {
+    streams.tell(name);
+    streams.tell(b": cannot ");
+    streams.tell(what);
+    streams.tell(b"\n");
 }
 
-// Closes standard output, as a program's last act. It complains if an earlier write failed, or if
-// the system reports only now that one did.
-pub fn close(name: &[u8]) {
-    if libc::close(STDOUT_FILENO) < 0 {
-        complain(name, b"write");
+// Ends standard output, as a program's last act. It complains if an earlier write failed, or if
+// standard output takes not even nothing.
+pub fn close(streams: &Streams, name: &[u8]) {
+    if !streams.is_open() {
+        complain(streams, name, b"write");
     }
 }
 
 // Writes out what is in the buffer. Then the buffer is empty.
-pub fn flush(out: &[u8], at: usize) -> usize
+pub fn flush(streams: &Streams, out: &[u8], at: usize) -> usize
     ensures { result ≡ 0 }
 {
     if at <= out.len() {
-        send(&out[..at]);
+        send(streams, &out[..at]);
     }
     0
 }
@@ -56,18 +53,18 @@ fn first_byte(out: &mut [u8], b: u8) -> usize
     1
 }
 
-pub fn put_byte(out: &mut [u8], at: usize, b: u8) -> usize
+pub fn put_byte(streams: &Streams, out: &mut [u8], at: usize, b: u8) -> usize
     ensures { page result out.new ≡ out_byte (page at out.old) b }
 {
     if at < out.len() {
         out[at] = b;
         return at + 1;
     }
-    flush(out, at);
+    flush(streams, out, at);
     first_byte(out, b)
 }
 
-pub fn put_text(out: &mut [u8], at: usize, text: &[u8]) -> usize
+pub fn put_text(streams: &Streams, out: &mut [u8], at: usize, text: &[u8]) -> usize
     ensures { page result out.new ≡ out_text (page at out.old) text.now }
 {
     let mut to = at;
@@ -75,23 +72,23 @@ pub fn put_text(out: &mut [u8], at: usize, text: &[u8]) -> usize
     while i < text.len() {
         let b = text[i];
         i += 1;
-        to = put_byte(out, to, b);
+        to = put_byte(streams, out, to, b);
     }
     to
 }
 
-pub fn put_number(out: &mut [u8], at: usize, x: u64) -> usize
+pub fn put_number(streams: &Streams, out: &mut [u8], at: usize, x: u64) -> usize
     ensures { page result out.new ≡ out_text (page at out.old) (number x) }
 {
     let mut text = [0u8; 20];
     let k = io::decimal(x, &mut text);
-    put_text(out, at, &text[..k])
+    put_text(streams, out, at, &text[..k])
 }
 
 // Writes a space and a number.
-pub fn put_next(out: &mut [u8], at: usize, x: u64) -> usize
+pub fn put_next(streams: &Streams, out: &mut [u8], at: usize, x: u64) -> usize
     ensures { page result out.new ≡ out_text (page at out.old) (next x) }
 {
-    let to = put_byte(out, at, b' ');
-    put_number(out, to, x)
+    let to = put_byte(streams, out, at, b' ');
+    put_number(streams, out, to, x)
 }

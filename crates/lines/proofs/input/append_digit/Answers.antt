@@ -1,5 +1,4 @@
 use Rattle.lines.proofs.Laws.{too_great, too_great_sum, one_more}
-use borrow.Author.Rules.{rules}
 use Rattle.lines.proofs.input.append_digit.Goals as goal
 
 pub returns-then-value-gt1844674407370955161 : goal.returns-then-value-gt1844674407370955161

@@ -1,7 +1,6 @@
 use Rattle.lines.proofs.Laws.{digit_is}
 use Rattle.lines.specs.Input.{digit_of_lem}
 use Rattle.words.proofs.Tests.{less, not_less}
-use borrow.Author.Rules.{rules}
 use Rattle.lines.proofs.input.digit_of.Goals as goal
 
 pub returns-then-b-lt48 : goal.returns-then-b-lt48

@@ -1,5 +1,4 @@
 use Rattle.lines.proofs.Laws.{front_empty, front_byte}
-use borrow.Author.Rules.{rules}
 use Rattle.lines.proofs.output.first_byte.Goals as goal
 
 pub returns-then-out-eq0 : goal.returns-then-out-eq0

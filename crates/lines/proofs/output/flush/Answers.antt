@@ -1,6 +1,5 @@
 use native.Mathlib.Omega.{arith}
 use lib.ListN.{length-take}
-use borrow.Author.Rules.{rules}
 use Rattle.lines.proofs.output.flush.Goals as goal
 
 pub slice_bounds-send-end : goal.slice_bounds-send-end

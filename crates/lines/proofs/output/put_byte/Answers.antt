@@ -1,5 +1,4 @@
 use Rattle.lines.proofs.Laws.{byte_fits, byte_full}
-use borrow.Author.Rules.{rules}
 use Rattle.lines.proofs.output.put_byte.Goals as goal
 
 pub returns-then-at-out : goal.returns-then-at-out

@@ -1,5 +1,4 @@
 use Rattle.lines.proofs.Laws.{then_text}
-use borrow.Author.Rules.{rules}
 use Rattle.lines.proofs.output.put_next.Goals as goal
 
 pub returns : goal.returns

@@ -1,7 +1,6 @@
 use Prim.Native.Nat.{◌^◌, ◌<◌}
 use native.Mathlib.Omega.{arith}
 use Rattle.lines.proofs.Numbers.{number_is}
-use borrow.Author.Rules.{rules}
 use Rattle.lines.proofs.output.put_number.Goals as goal
 
 pub returns : goal.returns

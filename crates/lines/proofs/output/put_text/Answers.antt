@@ -1,8 +1,6 @@
-use mathlib.Core.Path.{◌≡◌, refl}
-use Prim.Native.Nat.{◌≤◌, ◌-◌}
-use lib.ListN.{length, drop}
+use mathlib.Core.Path.{refl}
 use native.Mathlib.Omega.{arith}
-use Rattle.lines.specs.Output.{page, out_text}
+use Rattle.lines.specs.Output.{out_text}
 use Rattle.lines.proofs.Folds.{fold_on, fold_end}
 use Rattle.lines.proofs.output.put_text.Goals as goal
 

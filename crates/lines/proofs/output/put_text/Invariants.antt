@@ -1,9 +1,7 @@
-use mathlib.Core.Path.{◌≡◌, refl}
+use mathlib.Core.Path.{◌≡◌}
 use Prim.Native.Nat.{◌≤◌, ◌-◌}
 use lib.ListN.{length, drop}
-use native.Mathlib.Omega.{arith}
 use Rattle.lines.specs.Output.{page, out_text}
-use Rattle.lines.proofs.Folds.{fold_on, fold_end}
 use Rattle.lines.proofs.output.put_text.Given as goal
 
 abbrev pub invariant-loop-i : goal.invariant-loop-i

@@ -1,7 +1,6 @@
 use mathlib.Core.Path.{◌≡◌}
 use Prim.Native.Nat.{◌≤◌, ◌-◌}
 use lib.ListN.{length}
-use native.Mathlib.Omega.{arith}
 use Rattle.lines.proofs.whole.read_all.Given as goal
 
 abbrev pub invariant-loop-at : goal.invariant-loop-at

@@ -1,5 +1,4 @@
 use Rattle.lines.proofs.Laws.{byte_line_lem, byte_name_lem, byte_numbers_lem}
-use borrow.Author.Rules.{rules}
 use Rattle.lines.proofs.input.Line.byte.Goals as goal
 
 pub returns-in-Name : goal.returns-in-Name

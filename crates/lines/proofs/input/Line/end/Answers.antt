@@ -1,5 +1,4 @@
 use Rattle.lines.proofs.Laws.{end_line, end_numbers_lem}
-use borrow.Author.Rules.{rules}
 use Rattle.lines.proofs.input.Line.end.Goals as goal
 
 pub returns-in-Gap : goal.returns-in-Gap

@@ -1,5 +1,4 @@
 use Rattle.lines.proofs.Laws.{digit_taken, digit_missed}
-use borrow.Author.Rules.{rules}
 use Rattle.lines.proofs.input.Line.in_name.Goals as goal
 
 pub returns-in-Is : goal.returns-in-Is

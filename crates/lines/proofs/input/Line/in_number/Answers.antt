@@ -1,6 +1,5 @@
 use Rattle.lines.proofs.Laws.{digit_taken, digit_missed}
 use Rattle.words.proofs.Tests.{equal, unequal}
-use borrow.Author.Rules.{rules}
 use Rattle.lines.proofs.input.Line.in_number.Goals as goal
 
 pub returns-in-Is : goal.returns-in-Is

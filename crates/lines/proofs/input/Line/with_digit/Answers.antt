@@ -1,5 +1,4 @@
 use Rattle.lines.proofs.Laws.{value_is, value_over}
-use borrow.Author.Rules.{rules}
 use Rattle.lines.proofs.input.Line.with_digit.Goals as goal
 
 pub returns-in-Is : goal.returns-in-Is

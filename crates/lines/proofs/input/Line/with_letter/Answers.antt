@@ -9,9 +9,9 @@ pub returns-then-name-n : goal.returns-then-name-n
 unfolding with_letter_lem
 returns-then-name-n c = (search missing, search past_end)
 
-pub overflow_add-result-2 : goal.overflow_add-result-2
+pub returns-then-b-eq-SPACE : goal.returns-then-b-eq-SPACE
 unfolding with_letter_lem
-overflow_add-result-2 c = (search (there, equal), search rules)
+returns-then-b-eq-SPACE c = (search (there, equal), search rules)
 
 pub returns : goal.returns
 unfolding with_letter_lem
