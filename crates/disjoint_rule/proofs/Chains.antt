@@ -1,6 +1,6 @@
 -- A chain of intervals: each ends at or before the start of the next. On a store that passes the
 -- check no two entries intersect exactly if they are a chain in tree order.
-use mathlib.Core.Path.{◌≡◌, refl, sym, ◌∙◌}
+use mathlib.Core.Path.{◌≡◌, refl, sym, ◌∙◌, subst}
 use mathlib.Core.Logic.{◌≢◌}
 use mathlib.Core.Bool.{Bool, true, false, ◌&&◌, true≢false}
 use mathlib.Core.List.{List, [], ◌∷◌, ◌++◌, map, map-append}
@@ -141,7 +141,7 @@ module _ (W C : List ℕ) (n r : ℕ) (P : Passes W C n r) where
   disjoint_row (a ∷ b ∷ l) h d live one =
       let la : a < n = live a (omega (arith, hit_same a)) in
       let lb : b < n = live b (omega (arith, hit_same b)) in
-      let ne : a ≢ b = λ e. let q : times b (b ∷ b ∷ l) ≤ 1 = rw e at (one a) in omega (arith, hit_same b) in (
+      let ne : a ≢ b = λ e. let q : times b (b ∷ b ∷ l) ≤ 1 = subst (λ (x : ℕ). times x (x ∷ b ∷ l) ≤ 1) e (one a) in omega (arith, hit_same b) in (
         before_apart W (interval W b) a (omega (arith, h.0.starts, P.proper b lb)) (d a b la lb ne),
         disjoint_row (b ∷ l) h.1 d (λ c o. live c (omega arith)) (λ c. omega (arith, one c)),
       )

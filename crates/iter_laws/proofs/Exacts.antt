@@ -158,7 +158,7 @@ module _ (W : List ℕ) (n : ℕ) (key : Interval) (small : n ≤ 65535) where
         rw (h.here, lt-ltb s n h.live)
         (go (equals W key s) (toward W key true s) refl refl
         (λ i j. find_is l (frame true s r ∷ way) fuel s (kid W true s) h.left (omega arith) e (down_left W l s r o) u
-        (rw (i, filter_append, no_hits (exact W n key) r (right_none l s r o i j)) v))
+        (rw (i, filter_append (equals W key) (slots r) (later way), no_hits (exact W n key) r (right_none l s r o i j)) v))
         (λ i j. find_is r (frame false s l ∷ way) fuel s (kid W false s) h.right (omega arith) e (down_right W l s r o)
         (rw (filter_append, u, filter_append, no_hits (exact W n key) l (left_none l s r o i j), i)) v))
       where

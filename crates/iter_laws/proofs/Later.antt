@@ -106,7 +106,7 @@ module _ (Q : Rules) where
   later_all : (way : List Frame) (u : Tree) → Fairs Q (plug way u) → later_finds Q way ≡ filter Q.match (later way)
   later_all [] u h = refl
   later_all (frame true a far ∷ c) u h =
-      rw (later_all c (node u a far) h, right_finds u a far (fairs_plug c (node u a far) h), filter_append) (go (Q.match a))
+      rw (later_all c (node u a far) h, right_finds u a far (fairs_plug c (node u a far) h), filter_append Q.match (slots far) (later c)) (go (Q.match a))
     where
       go : (i : Bool) → when i (a ∷ []) ++ (filter Q.match (slots far) ++ filter Q.match (later c))
           ≡ cond i (a ∷ (filter Q.match (slots far) ++ filter Q.match (later c))) (filter Q.match (slots far) ++ filter Q.match (later c))

@@ -1,5 +1,5 @@
 -- What a walk through a tree finds and enters, and in how many moves.
-use mathlib.Core.Path.{◌≡◌, refl, ◌∙◌}
+use mathlib.Core.Path.{◌≡◌, refl, sym, subst, ◌∙◌}
 use mathlib.Core.Bool.{Bool, true, false, cond}
 use mathlib.Core.List.{List, [], ◌∷◌, ◌++◌, append_assoc}
 use Prim.Native.Nat.{ℕ, suc, ◌+◌, ◌*◌, ◌<◌, ◌≤◌}
@@ -73,7 +73,9 @@ times_filter p s [] = go (p s)
     go : (b : Bool) → ◌≡◌ {A = ℕ} 0 (cond b 0 0)
     go true = refl
     go false = refl
-times_filter p s (a ∷ l) = hit_cases s a (λ e. rw e (same (p a) (rw e at (times_filter p s l)))) (λ z. other (p a) (p s) z (times_filter p s l))
+times_filter p s (a ∷ l) = hit_cases s a (λ e. subst (λ (x : ℕ). times x (cond (p a) (a ∷ filter p l) (filter p l)) ≡ cond (p x) (hit x a + times x l) 0) (sym e)
+    (same (p a) (subst (λ (x : ℕ). times x (filter p l) ≡ cond (p x) (times x l) 0) e (times_filter p s l))))
+    (λ z. other (p a) (p s) z (times_filter p s l))
   where
     same : (b : Bool) → times a (filter p l) ≡ cond b (times a l) 0
         → times a (cond b (a ∷ filter p l) (filter p l)) ≡ cond b (hit a a + times a l) 0

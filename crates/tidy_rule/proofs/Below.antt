@@ -13,7 +13,6 @@ use Rattle.tree.proofs.Frames.{keep}
 use Rattle.tree.proofs.Once.{one_tree}
 use Rattle.tree.proofs.Checked.{slot_live}
 use Rattle.tree_edit.proofs.Below.{same_entry, same_hull}
-use Rattle.plain_rule.specs.Tour.{entries}
 use Rattle.plain_rule.proofs.Tours.{entries_are}
 use Rattle.tidy_rule.specs.Plan.{renamed, numbered, proposed}
 use Rattle.tidy_rule.specs.Tidied.{Tidied}

@@ -1,11 +1,11 @@
 -- The test of a plan by marks says yes exactly to a plan that names each slot once.
-use mathlib.Core.Path.{◌≡◌, refl, sym}
+use mathlib.Core.Path.{◌≡◌, refl, sym, subst}
 use mathlib.Core.Logic.{◌≢◌}
-use mathlib.Core.Bool.{Bool, true, false, cond, not, ◌&&◌, true≢false, false≢true}
+use mathlib.Core.Bool.{Bool, true, false, cond, not, ◌&&◌}
 use mathlib.Core.List.{List, [], ◌∷◌}
 use Prim.Native.Nat.{ℕ, zero, suc, ◌+◌, ◌*◌, ◌/◌, ◌%◌, ◌<◌, ◌≤◌}
 use native.Mathlib.Omega.{arith}
-use lib.Dec.{eqb, ltb}
+use lib.Dec.{ltb}
 use lib.ListN.{length, get_or, replicate, length-replicate, get_or-replicate}
 use borrow.Author.Tests.{ltb-true, lt-ltb, not-true, ne_eqb}
 use Rattle.bitvec.specs.Bits.{bit, bit_at, set_bit}
@@ -13,8 +13,8 @@ use Rattle.bitvec.proofs.Bytes.{length_set_bit, bit_at_same, bit_at_other}
 use Rattle.tree.specs.Tree.{times}
 use Rattle.tree.proofs.Slots.{hit_same, hit_cases, hit_zero}
 use Rattle.iter.proofs.Bools.{and_left, and_right}
-use Rattle.tidy_rule.specs.Plan.{each_once, fits, all_new}
-use Rattle.tidy_rule.proofs.Plans.{Fits, fits_is, is_fits, fits_one, plan_low}
+use Rattle.tidy_rule.specs.Plan.{fits, all_new}
+use Rattle.tidy_rule.proofs.Plans.{fits_is, is_fits, fits_one, plan_low}
 
 -- a mark as a number
 unfoldable held : List ℕ → ℕ → ℕ
@@ -63,7 +63,7 @@ module _ (n : ℕ) where
         record {
           low = place;
           few = λ v h. hit_cases v a
-              (λ q. rw q (omega (arith, hit_same a, marked, r.few a la, held_no M a free)))
+              (λ q. subst (λ (x : ℕ). times x (a ∷ P) + held M x ≤ 1) (sym q) (omega (arith, hit_same a, marked, r.few a la, held_no M a free)))
               (λ z. omega (arith, held_other M a v (hit_zero v a z), r.few v h));
         }
       where
@@ -77,7 +77,7 @@ module _ (n : ℕ) where
       record {
         low = λ s h. r.low (suc s) (omega arith);
         few = λ v h. hit_cases v a
-            (λ q. rw q (omega (arith, hit_same a, marked, r.few a la)))
+            (λ q. subst (λ (x : ℕ). times x P + held (set_bit M a true) x ≤ 1) (sym q) (omega (arith, hit_same a, marked, r.few a la)))
             (λ z. omega (arith, held_other M a v (hit_zero v a z), r.few v h));
       },
     )

@@ -1,10 +1,10 @@
 -- An accepted plan: it is one to one on the slots below the count.
-use mathlib.Core.Path.{◌≡◌, refl, sym, ap, ◌∙◌}
-use mathlib.Core.Bool.{Bool, true, false, cond, ◌&&◌}
+use mathlib.Core.Path.{◌≡◌, refl, sym, ap, subst}
+use mathlib.Core.Bool.{true}
 use mathlib.Core.List.{List, [], ◌∷◌}
 use Prim.Native.Nat.{ℕ, zero, suc, ◌+◌, ◌<◌, ◌≤◌}
 use native.Mathlib.Omega.{arith}
-use lib.Dec.{eqb, leb}
+use lib.Dec.{eqb}
 use lib.ListN.{length, get_or}
 use borrow.Author.Tests.{eqb-true, eq-eqb, lt-leb, le-leb}
 use Rattle.words.specs.Ix.{U, on_link}
@@ -37,7 +37,7 @@ one_place (a ∷ P) zero (suc u) h i e m =
     absurd (omega (arith, hit_same a))
 one_place (a ∷ P) (suc s) zero h i e m =
     let q : 0 < times a P = rw (← e) (named_at P s (omega arith)) in
-    let m' : hit a a + times a P ≤ 1 = rw e at m in
+    let m' : hit a a + times a P ≤ 1 = subst (λ (x : ℕ). times x (a ∷ P) ≤ 1) e m in
     absurd (omega (arith, hit_same a))
 one_place (a ∷ P) (suc s) (suc u) h i e m = ap suc (one_place P s u (omega arith) (omega arith) e (omega arith))
 

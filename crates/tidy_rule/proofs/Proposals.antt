@@ -3,12 +3,12 @@
 use mathlib.Core.Path.{◌≡◌, refl, sym, ap, ◌∙◌}
 use mathlib.Core.Logic.{◌≢◌}
 use mathlib.Core.List.{List, [], ◌∷◌, map}
-use Prim.Native.Nat.{ℕ, zero, suc, ◌+◌, ◌*◌, ◌<◌, ◌≤◌}
+use Prim.Native.Nat.{ℕ, zero, suc, ◌+◌, ◌<◌, ◌≤◌}
 use native.Mathlib.Omega.{arith}
 use native.Mathlib.Nat.{zero-add}
 use lib.ListN.{length, get_or, set, take, length-set}
-use lib.Seq.{get_or-set_same, get_or-set_other, length-take-le}
-use Rattle.tree.specs.Tree.{Tree, leaf, node, slots, times}
+use lib.Seq.{get_or-set_same, get_or-set_other}
+use Rattle.tree.specs.Tree.{slots, times}
 use Rattle.tree.specs.Passes.{Passes}
 use Rattle.tree.proofs.Slots.{hit_same, hit_ne, hit_cases, hit_zero, times_slots}
 use Rattle.tree.proofs.Checked.{slot_live, slot_once}

@@ -13,7 +13,7 @@ use Rattle.tree.specs.Tree.{hit}
 use Rattle.tree_edit.specs.Links.{leftmost}
 use Rattle.plain_rule.specs.Tour.{ascend, next_of, first_of, tour, entries}
 use Rattle.tidy_rule.specs.Plan.{each_once, fits, renamed, numbered, proposed}
-use Rattle.tidy_rule.specs.Tidy.{rename_kid, tag_node_lem, tagged, tag, swap_nodes_lem, swap_colours_lem, Both, settle, untag_node_lem, untagged, tidied}
+use Rattle.tidy_rule.specs.Tidy.{rename_kid, tag_node_lem, tagged, tag, swap_nodes_lem, swap_colours_lem, settle, untag_node_lem, untagged, tidied}
 
 -- a node in front of others, by its interval and hull, and its left, right and parent word
 abbrev slot : ℕ → ℕ → ℕ → ℕ → ℕ → ℕ → ℕ → List ℕ → List ℕ
