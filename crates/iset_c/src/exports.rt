@@ -19,15 +19,13 @@ use crate::tidy::{propose_in, renumber_in};
 use crate::unload::unload_in;
 use crate::{build_in, check_in, insert_in, remove_in};
 
-#[unsafe(no_mangle)]
-pub extern "C" fn iset_check(count: u64, root: u64, nodes: &[u64], colours: &[u8]) -> u64
+pub fn iset_check(count: u64, root: u64, nodes: &[u64], colours: &[u8]) -> u64
     ensures { result ≡ check_rule (map_of count root) nodes.now colours.now }
 {
     check_in(count, root, nodes, false, colours)
 }
 
-#[unsafe(no_mangle)]
-pub extern "C" fn iset_build(
+pub fn iset_build(
     version: u32,
     nodes: &mut [u64],
     colours: &mut [u8],
@@ -40,8 +38,7 @@ pub extern "C" fn iset_build(
     build_in(version, nodes, false, colours, list, answer)
 }
 
-#[unsafe(no_mangle)]
-pub extern "C" fn iset_remove(
+pub fn iset_remove(
     count: u64,
     root: u64,
     version: u32,
@@ -56,8 +53,7 @@ pub extern "C" fn iset_remove(
     remove_in(count, root, version, nodes, false, colours, slot, answer)
 }
 
-#[unsafe(no_mangle)]
-pub extern "C" fn iset_insert(
+pub fn iset_insert(
     count: u64,
     root: u64,
     version: u32,
@@ -76,8 +72,7 @@ pub extern "C" fn iset_insert(
     )
 }
 
-#[unsafe(no_mangle)]
-pub extern "C" fn iset_unload(
+pub fn iset_unload(
     count: u64,
     root: u64,
     version: u32,
@@ -97,8 +92,7 @@ pub extern "C" fn iset_unload(
     )
 }
 
-#[unsafe(no_mangle)]
-pub extern "C" fn iset_propose(
+pub fn iset_propose(
     count: u64,
     root: u64,
     nodes: &[u64],
@@ -110,8 +104,7 @@ pub extern "C" fn iset_propose(
     propose_in(count, root, nodes, false, colours, out)
 }
 
-#[unsafe(no_mangle)]
-pub extern "C" fn iset_renumber(
+pub fn iset_renumber(
     count: u64,
     root: u64,
     version: u32,
@@ -126,8 +119,7 @@ pub extern "C" fn iset_renumber(
     renumber_in(count, root, version, nodes, false, colours, plan, answer)
 }
 
-#[unsafe(no_mangle)]
-pub extern "C" fn iset_read(
+pub fn iset_read(
     count: u64,
     root: u64,
     version: u32,
@@ -145,8 +137,7 @@ pub extern "C" fn iset_read(
     )
 }
 
-#[unsafe(no_mangle)]
-pub extern "C" fn iset_write_image(
+pub fn iset_write_image(
     count: u64,
     root: u64,
     nodes: &[u64],
@@ -160,8 +151,7 @@ pub extern "C" fn iset_write_image(
     write_image_in(count, root, nodes, false, colours, out, answer)
 }
 
-#[unsafe(no_mangle)]
-pub extern "C" fn iset_read_image(
+pub fn iset_read_image(
     version: u32,
     nodes: &mut [u64],
     colours: &mut [u8],
@@ -174,8 +164,7 @@ pub extern "C" fn iset_read_image(
     read_image_in(version, nodes, false, colours, image, answer)
 }
 
-#[unsafe(no_mangle)]
-pub extern "C" fn iset_fresh_exact(
+pub fn iset_fresh_exact(
     count: u64,
     root: u64,
     nodes: &[u64],
@@ -190,8 +179,7 @@ pub extern "C" fn iset_fresh_exact(
     fresh_exact_in(count, root, nodes, false, colours, start, end, answer)
 }
 
-#[unsafe(no_mangle)]
-pub extern "C" fn iset_step(
+pub fn iset_step(
     count: u64,
     root: u64,
     nodes: &[u64],
@@ -213,8 +201,7 @@ pub extern "C" fn iset_step(
     )
 }
 
-#[unsafe(no_mangle)]
-pub extern "C" fn iset_step_exact(
+pub fn iset_step_exact(
     count: u64,
     root: u64,
     nodes: &[u64],
@@ -234,8 +221,7 @@ pub extern "C" fn iset_step_exact(
     )
 }
 
-#[unsafe(no_mangle)]
-pub extern "C" fn iset_drain(
+pub fn iset_drain(
     count: u64,
     root: u64,
     nodes: &[u64],
@@ -260,8 +246,7 @@ pub extern "C" fn iset_drain(
     )
 }
 
-#[unsafe(no_mangle)]
-pub extern "C" fn iset_drain_exact(
+pub fn iset_drain_exact(
     count: u64,
     root: u64,
     nodes: &[u64],
@@ -283,8 +268,7 @@ pub extern "C" fn iset_drain_exact(
     )
 }
 
-#[unsafe(no_mangle)]
-pub extern "C" fn iset_plain(
+pub fn iset_plain(
     count: u64,
     root: u64,
     nodes: &[u64],
@@ -304,8 +288,7 @@ pub extern "C" fn iset_plain(
     )
 }
 
-#[unsafe(no_mangle)]
-pub extern "C" fn iset_plain_exact(
+pub fn iset_plain_exact(
     count: u64,
     root: u64,
     nodes: &[u64],
@@ -321,8 +304,7 @@ pub extern "C" fn iset_plain_exact(
     plain_exact_in(count, root, nodes, false, colours, start, end, out, answer)
 }
 
-#[unsafe(no_mangle)]
-pub extern "C" fn iset_find_all(
+pub fn iset_find_all(
     count: u64,
     root: u64,
     nodes: &[u64],
@@ -342,8 +324,7 @@ pub extern "C" fn iset_find_all(
     )
 }
 
-#[unsafe(no_mangle)]
-pub extern "C" fn iset_find_all_exact(
+pub fn iset_find_all_exact(
     count: u64,
     root: u64,
     nodes: &[u64],

@@ -125,8 +125,7 @@ pub fn remove_in(
 
 // Takes the answer of a removal of slot `removed`. Returns the slot of the entry that was in slot
 // `kept` before it, or U if `kept` is `removed`.
-#[unsafe(no_mangle)]
-pub extern "C" fn iset_slot_after(answer: &[u64; 11], removed: u64, kept: u64) -> u64
+pub fn iset_slot_after(answer: &[u64; 11], removed: u64, kept: u64) -> u64
     ensures { result ≡ slot_after_lem (pairs_of answer.now) removed kept }
 {
     let done = Removed {

@@ -16,8 +16,7 @@ use iset::{Cursor, Interval, Map, Query};
 
 // The fresh cursor of an overlap lookup. Answer: slot, levels, bits. The calls that take the cursor
 // test the map.
-#[unsafe(no_mangle)]
-pub extern "C" fn iset_fresh(count: u64, root: u64, answer: &mut [u64]) -> u64
+pub fn iset_fresh(count: u64, root: u64, answer: &mut [u64]) -> u64
     ensures { exit result answer.new []
         ≡ answer_exit true answer.old (fresh_reply (fresh root)) }
 {

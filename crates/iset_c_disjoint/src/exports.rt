@@ -10,15 +10,13 @@ ghost use Rattle.iset_c_disjoint.specs.Replies.{open_place_exit, open_point_exit
 use crate::open::{open_disjoint_insert_in, open_disjoint_point_in, open_disjoint_remove_in};
 use crate::{disjoint_check_in, disjoint_insert_in, disjoint_point_in, disjoint_remove_in};
 
-#[unsafe(no_mangle)]
-pub extern "C" fn iset_disjoint_check(count: u64, root: u64, nodes: &[u64], colours: &[u8]) -> u64
+pub fn iset_disjoint_check(count: u64, root: u64, nodes: &[u64], colours: &[u8]) -> u64
     ensures { result ≡ disjoint_rule_lem (map_of count root) nodes.now colours.now }
 {
     disjoint_check_in(count, root, nodes, false, colours)
 }
 
-#[unsafe(no_mangle)]
-pub extern "C" fn iset_disjoint_point(
+pub fn iset_disjoint_point(
     count: u64,
     root: u64,
     nodes: &[u64],
@@ -32,8 +30,7 @@ pub extern "C" fn iset_disjoint_point(
     disjoint_point_in(count, root, nodes, false, colours, address, answer)
 }
 
-#[unsafe(no_mangle)]
-pub extern "C" fn iset_disjoint_insert(
+pub fn iset_disjoint_insert(
     count: u64,
     root: u64,
     version: u32,
@@ -52,8 +49,7 @@ pub extern "C" fn iset_disjoint_insert(
     )
 }
 
-#[unsafe(no_mangle)]
-pub extern "C" fn iset_disjoint_remove(
+pub fn iset_disjoint_remove(
     count: u64,
     root: u64,
     version: u32,
@@ -68,8 +64,7 @@ pub extern "C" fn iset_disjoint_remove(
     disjoint_remove_in(count, root, version, nodes, false, colours, slot, answer)
 }
 
-#[unsafe(no_mangle)]
-pub extern "C" fn iset_open_disjoint_point(
+pub fn iset_open_disjoint_point(
     count: u64,
     root: u64,
     nodes: &[u64],
@@ -83,8 +78,7 @@ pub extern "C" fn iset_open_disjoint_point(
     open_disjoint_point_in(count, root, nodes, false, colours, address, answer)
 }
 
-#[unsafe(no_mangle)]
-pub extern "C" fn iset_open_disjoint_insert(
+pub fn iset_open_disjoint_insert(
     count: u64,
     root: u64,
     version: u32,
@@ -103,8 +97,7 @@ pub extern "C" fn iset_open_disjoint_insert(
     )
 }
 
-#[unsafe(no_mangle)]
-pub extern "C" fn iset_open_disjoint_remove(
+pub fn iset_open_disjoint_remove(
     count: u64,
     root: u64,
     version: u32,

@@ -20,8 +20,7 @@ use crate::tidy::{open_propose_in, open_renumber_in};
 use crate::unload::open_unload_in;
 use crate::{open_insert_in, open_remove_in};
 
-#[unsafe(no_mangle)]
-pub extern "C" fn iset_open_remove(
+pub fn iset_open_remove(
     count: u64,
     root: u64,
     version: u32,
@@ -36,8 +35,7 @@ pub extern "C" fn iset_open_remove(
     open_remove_in(count, root, version, nodes, false, colours, slot, answer)
 }
 
-#[unsafe(no_mangle)]
-pub extern "C" fn iset_open_insert(
+pub fn iset_open_insert(
     count: u64,
     root: u64,
     version: u32,
@@ -56,8 +54,7 @@ pub extern "C" fn iset_open_insert(
     )
 }
 
-#[unsafe(no_mangle)]
-pub extern "C" fn iset_open_unload(
+pub fn iset_open_unload(
     count: u64,
     root: u64,
     version: u32,
@@ -77,8 +74,7 @@ pub extern "C" fn iset_open_unload(
     )
 }
 
-#[unsafe(no_mangle)]
-pub extern "C" fn iset_open_propose(
+pub fn iset_open_propose(
     count: u64,
     root: u64,
     nodes: &[u64],
@@ -90,8 +86,7 @@ pub extern "C" fn iset_open_propose(
     open_propose_in(count, root, nodes, false, colours, out)
 }
 
-#[unsafe(no_mangle)]
-pub extern "C" fn iset_open_renumber(
+pub fn iset_open_renumber(
     count: u64,
     root: u64,
     version: u32,
@@ -106,8 +101,7 @@ pub extern "C" fn iset_open_renumber(
     open_renumber_in(count, root, version, nodes, false, colours, plan, answer)
 }
 
-#[unsafe(no_mangle)]
-pub extern "C" fn iset_open_read(
+pub fn iset_open_read(
     count: u64,
     root: u64,
     version: u32,
@@ -125,8 +119,7 @@ pub extern "C" fn iset_open_read(
     )
 }
 
-#[unsafe(no_mangle)]
-pub extern "C" fn iset_open_write_image(
+pub fn iset_open_write_image(
     count: u64,
     root: u64,
     nodes: &[u64],
@@ -140,8 +133,7 @@ pub extern "C" fn iset_open_write_image(
     open_write_image_in(count, root, nodes, false, colours, out, answer)
 }
 
-#[unsafe(no_mangle)]
-pub extern "C" fn iset_open_fresh_exact(
+pub fn iset_open_fresh_exact(
     count: u64,
     root: u64,
     nodes: &[u64],
@@ -156,8 +148,7 @@ pub extern "C" fn iset_open_fresh_exact(
     open_fresh_exact_in(count, root, nodes, false, colours, start, end, answer)
 }
 
-#[unsafe(no_mangle)]
-pub extern "C" fn iset_open_step(
+pub fn iset_open_step(
     count: u64,
     root: u64,
     nodes: &[u64],
@@ -179,8 +170,7 @@ pub extern "C" fn iset_open_step(
     )
 }
 
-#[unsafe(no_mangle)]
-pub extern "C" fn iset_open_step_exact(
+pub fn iset_open_step_exact(
     count: u64,
     root: u64,
     nodes: &[u64],
@@ -200,8 +190,7 @@ pub extern "C" fn iset_open_step_exact(
     )
 }
 
-#[unsafe(no_mangle)]
-pub extern "C" fn iset_open_drain(
+pub fn iset_open_drain(
     count: u64,
     root: u64,
     nodes: &[u64],
@@ -226,8 +215,7 @@ pub extern "C" fn iset_open_drain(
     )
 }
 
-#[unsafe(no_mangle)]
-pub extern "C" fn iset_open_drain_exact(
+pub fn iset_open_drain_exact(
     count: u64,
     root: u64,
     nodes: &[u64],
@@ -249,8 +237,7 @@ pub extern "C" fn iset_open_drain_exact(
     )
 }
 
-#[unsafe(no_mangle)]
-pub extern "C" fn iset_open_plain(
+pub fn iset_open_plain(
     count: u64,
     root: u64,
     nodes: &[u64],
@@ -270,8 +257,7 @@ pub extern "C" fn iset_open_plain(
     )
 }
 
-#[unsafe(no_mangle)]
-pub extern "C" fn iset_open_plain_exact(
+pub fn iset_open_plain_exact(
     count: u64,
     root: u64,
     nodes: &[u64],
@@ -287,8 +273,7 @@ pub extern "C" fn iset_open_plain_exact(
     open_plain_exact_in(count, root, nodes, false, colours, start, end, out, answer)
 }
 
-#[unsafe(no_mangle)]
-pub extern "C" fn iset_open_find_all(
+pub fn iset_open_find_all(
     count: u64,
     root: u64,
     nodes: &[u64],
@@ -308,8 +293,7 @@ pub extern "C" fn iset_open_find_all(
     )
 }
 
-#[unsafe(no_mangle)]
-pub extern "C" fn iset_open_find_all_exact(
+pub fn iset_open_find_all_exact(
     count: u64,
     root: u64,
     nodes: &[u64],

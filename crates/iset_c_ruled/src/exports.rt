@@ -15,8 +15,7 @@ use crate::opened::{
     open_unload_ruled_in,
 };
 
-#[unsafe(no_mangle)]
-pub extern "C" fn iset_step_ruled(
+pub fn iset_step_ruled(
     count: u64,
     root: u64,
     nodes: &[u64],
@@ -40,8 +39,7 @@ pub extern "C" fn iset_step_ruled(
     )
 }
 
-#[unsafe(no_mangle)]
-pub extern "C" fn iset_drain_ruled(
+pub fn iset_drain_ruled(
     count: u64,
     root: u64,
     nodes: &[u64],
@@ -67,8 +65,7 @@ pub extern "C" fn iset_drain_ruled(
     )
 }
 
-#[unsafe(no_mangle)]
-pub extern "C" fn iset_plain_ruled(
+pub fn iset_plain_ruled(
     count: u64,
     root: u64,
     nodes: &[u64],
@@ -89,8 +86,7 @@ pub extern "C" fn iset_plain_ruled(
     )
 }
 
-#[unsafe(no_mangle)]
-pub extern "C" fn iset_find_all_ruled(
+pub fn iset_find_all_ruled(
     count: u64,
     root: u64,
     nodes: &[u64],
@@ -111,8 +107,7 @@ pub extern "C" fn iset_find_all_ruled(
     )
 }
 
-#[unsafe(no_mangle)]
-pub extern "C" fn iset_unload_ruled(
+pub fn iset_unload_ruled(
     count: u64,
     root: u64,
     version: u32,
@@ -133,8 +128,7 @@ pub extern "C" fn iset_unload_ruled(
     )
 }
 
-#[unsafe(no_mangle)]
-pub extern "C" fn iset_open_step_ruled(
+pub fn iset_open_step_ruled(
     count: u64,
     root: u64,
     nodes: &[u64],
@@ -158,8 +152,7 @@ pub extern "C" fn iset_open_step_ruled(
     )
 }
 
-#[unsafe(no_mangle)]
-pub extern "C" fn iset_open_drain_ruled(
+pub fn iset_open_drain_ruled(
     count: u64,
     root: u64,
     nodes: &[u64],
@@ -185,8 +178,7 @@ pub extern "C" fn iset_open_drain_ruled(
     )
 }
 
-#[unsafe(no_mangle)]
-pub extern "C" fn iset_open_plain_ruled(
+pub fn iset_open_plain_ruled(
     count: u64,
     root: u64,
     nodes: &[u64],
@@ -207,8 +199,7 @@ pub extern "C" fn iset_open_plain_ruled(
     )
 }
 
-#[unsafe(no_mangle)]
-pub extern "C" fn iset_open_find_all_ruled(
+pub fn iset_open_find_all_ruled(
     count: u64,
     root: u64,
     nodes: &[u64],
@@ -229,8 +220,7 @@ pub extern "C" fn iset_open_find_all_ruled(
     )
 }
 
-#[unsafe(no_mangle)]
-pub extern "C" fn iset_open_unload_ruled(
+pub fn iset_open_unload_ruled(
     count: u64,
     root: u64,
     version: u32,

@@ -11,6 +11,6 @@ set_child-requires-2 c = (omega arith, omega arith, search live_kid)
 pub returns : goal.returns
 unfolding rotate
 returns c = (
-      c.replace_children-top.ensures.0,
-      rw (← c.child_of-close.ensures.0, ← c.replace_children-top.ensures.1, ← c.set_child.ensures) c.set_child-2.ensures,
-    )
+  c.replace_children-top.ensures.0,
+  rw (← c.child_of-close.ensures.0, ← c.replace_children-top.ensures.1, ← c.set_child.ensures) c.set_child-2.ensures,
+)

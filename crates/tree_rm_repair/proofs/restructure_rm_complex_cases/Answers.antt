@@ -14,14 +14,14 @@ use Rattle.tree_rm_repair.proofs.restructure_rm_complex_cases.Goals as goal
 pub loop-rounds-init : goal.loop-rounds-init
 loop-rounds-init c = (refl, refl, refl, omega arith, search begin_sum, omega arith)
 
+pub overflow_add-result : goal.overflow_add-result
+overflow_add-result c = search (last_fits round_hulls most)
+
 pub returns-in-Done : goal.returns-in-Done
-returns-in-Done c = search (last_fits round_hulls most)
+returns-in-Done c = (search (loop_done round), search (count_done round round_hulls))
 
-pub overflow_sub-rounds : goal.overflow_sub-rounds
-overflow_sub-rounds c = (search (loop_done round), search (count_done round round_hulls))
-
-pub loop-rounds-smaller : goal.loop-rounds-smaller
-loop-rounds-smaller c = search (sum_fits round_hulls most)
+pub overflow_add-reach : goal.overflow_add-reach
+overflow_add-reach c = search (sum_fits round_hulls most)
 
 pub loop-rounds-preserved : goal.loop-rounds-preserved
 loop-rounds-preserved c = (search (loop_on round), omega arith, omega arith, search (loop_stays round round_stays), search (count_on round round_hulls), search (sum_room round_hulls most))

@@ -11,8 +11,8 @@ use Rattle.tree_in.proofs.descent.last_down.Goals as goal
 pub loop-height-init : goal.loop-height-init
 loop-height-init c = (refl, omega arith)
 
-pub loop-height-smaller : goal.loop-height-smaller
-loop-height-smaller c = (search down_ends, omega arith)
+pub returns-in_default : goal.returns-in_default
+returns-in_default c = (search down_ends, omega arith)
 
 pub loop-height-preserved : goal.loop-height-preserved
 loop-height-preserved c = (search down_on, search slot_live)

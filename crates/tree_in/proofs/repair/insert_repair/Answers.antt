@@ -15,14 +15,14 @@ use Rattle.tree_in.proofs.repair.insert_repair.Goals as goal
 pub loop-rounds-init : goal.loop-rounds-init
 loop-rounds-init c = (refl, refl, refl, omega arith, search begin_sum, omega arith)
 
+pub overflow_add-result : goal.overflow_add-result
+overflow_add-result c = search (last_fits insert_round_hulls insert_round_le)
+
 pub returns-in-Done : goal.returns-in-Done
-returns-in-Done c = search (last_fits insert_round_hulls insert_round_le)
+returns-in-Done c = (search (loop_done insert_round), search (count_done insert_round insert_round_hulls))
 
-pub overflow_sub-rounds : goal.overflow_sub-rounds
-overflow_sub-rounds c = (search (loop_done insert_round), search (count_done insert_round insert_round_hulls))
-
-pub loop-rounds-smaller : goal.loop-rounds-smaller
-loop-rounds-smaller c = search (sum_fits insert_round_hulls insert_round_le)
+pub overflow_add-reach : goal.overflow_add-reach
+overflow_add-reach c = search (sum_fits insert_round_hulls insert_round_le)
 
 pub loop-rounds-preserved : goal.loop-rounds-preserved
 loop-rounds-preserved c = (search (loop_on insert_round), omega arith, omega arith, search (loop_stays insert_round insert_stays), search (count_on insert_round insert_round_hulls), search (sum_room insert_round_hulls insert_round_le))

@@ -1,0 +1,318 @@
+// The opened calls for hosts in C and Rust: the exports that include/iset_open.h declares. Each
+// calls the function of its name in crate iset_c_open and states its clauses again. Over extern "C"
+// a slice is two scalars, its pointer and its length.
+#![tactic(auto)]
+
+ghost use Rattle.std.specs.Prelude.{◌≡◌, true, [], ◌∷◌};
+ghost use Rattle.iset.specs.Effects.{output};
+ghost use Rattle.iset.specs.Insert.{entry_of};
+ghost use Rattle.iset.specs.Maps.{map_at, map_of};
+ghost use Rattle.iset.specs.Tidy.{open_propose_call};
+ghost use Rattle.iset_c.specs.Replies.{cursor_of, exit, ticket_at_lem};
+ghost use Rattle.iset_c.specs.Ranges.{exact_of, interval_of_lem, kinds, range_of, span_of};
+ghost use Rattle.iset_c_open.specs.Replies.{open_drain_exit, open_find_all_exit, open_insert_exit, open_plain_exit, open_read_exit, open_remove_exit, open_renumber_exit, open_start_exit, open_step_exit, open_unload_exit, open_write_image_exit};
+
+use iset_c_open::exports;
+
+#[unsafe(no_mangle)]
+pub extern "C" fn iset_open_remove(
+    count: u64,
+    root: u64,
+    version: u32,
+    nodes: &mut [u64],
+    colours: &mut [u8],
+    slot: u64,
+    answer: &mut [u64],
+) -> u64
+    ensures { exit result answer.new (nodes.new ∷ colours.new ∷ [])
+        ≡ open_remove_exit answer.old (map_at count root version) nodes.old colours.old slot }
+{
+    exports::iset_open_remove(count, root, version, nodes, colours, slot, answer)
+}
+
+#[unsafe(no_mangle)]
+pub extern "C" fn iset_open_insert(
+    count: u64,
+    root: u64,
+    version: u32,
+    nodes: &mut [u64],
+    colours: &mut [u8],
+    start: u64,
+    end: u64,
+    value: u64,
+    answer: &mut [u64],
+) -> u64
+    ensures { exit result answer.new (nodes.new ∷ colours.new ∷ [])
+        ≡ open_insert_exit answer.old (map_at count root version) nodes.old colours.old (entry_of start end value) }
+{
+    exports::iset_open_insert(
+        count, root, version, nodes, colours, start, end, value, answer,
+    )
+}
+
+#[unsafe(no_mangle)]
+pub extern "C" fn iset_open_unload(
+    count: u64,
+    root: u64,
+    version: u32,
+    nodes: &mut [u64],
+    colours: &mut [u8],
+    lo_kind: u64,
+    lo: u64,
+    hi_kind: u64,
+    hi: u64,
+    answer: &mut [u64],
+) -> u64
+    ensures { exit result answer.new (nodes.new ∷ colours.new ∷ [])
+        ≡ open_unload_exit (kinds lo_kind hi_kind) answer.old (map_at count root version) nodes.old colours.old 1 (span_of lo_kind lo hi_kind hi) }
+{
+    exports::iset_open_unload(
+        count, root, version, nodes, colours, lo_kind, lo, hi_kind, hi, answer,
+    )
+}
+
+#[unsafe(no_mangle)]
+pub extern "C" fn iset_open_propose(
+    count: u64,
+    root: u64,
+    nodes: &[u64],
+    colours: &[u8],
+    out: &mut [u64],
+) -> u64
+    ensures { output result out.new ≡ open_propose_call (map_of count root) nodes.now colours.now out.old }
+{
+    exports::iset_open_propose(count, root, nodes, colours, out)
+}
+
+#[unsafe(no_mangle)]
+pub extern "C" fn iset_open_renumber(
+    count: u64,
+    root: u64,
+    version: u32,
+    nodes: &mut [u64],
+    colours: &mut [u8],
+    plan: &[u64],
+    answer: &mut [u64],
+) -> u64
+    ensures { exit result answer.new (nodes.new ∷ colours.new ∷ [])
+        ≡ open_renumber_exit answer.old (map_at count root version) nodes.old colours.old plan.now }
+{
+    exports::iset_open_renumber(count, root, version, nodes, colours, plan, answer)
+}
+
+#[unsafe(no_mangle)]
+pub extern "C" fn iset_open_read(
+    count: u64,
+    root: u64,
+    version: u32,
+    nodes: &[u64],
+    colours: &[u8],
+    slot: u64,
+    taken: u32,
+    answer: &mut [u64],
+) -> u64
+    ensures { exit result answer.new []
+        ≡ open_read_exit answer.old (map_at count root version) nodes.now colours.now (ticket_at_lem slot taken) }
+{
+    exports::iset_open_read(count, root, version, nodes, colours, slot, taken, answer)
+}
+
+#[unsafe(no_mangle)]
+pub extern "C" fn iset_open_write_image(
+    count: u64,
+    root: u64,
+    nodes: &[u64],
+    colours: &[u8],
+    out: &mut [u8],
+    answer: &mut [u64],
+) -> u64
+    ensures { exit result answer.new (out.new ∷ [])
+        ≡ open_write_image_exit answer.old (map_of count root) nodes.now colours.now out.old }
+{
+    exports::iset_open_write_image(count, root, nodes, colours, out, answer)
+}
+
+#[unsafe(no_mangle)]
+pub extern "C" fn iset_open_fresh_exact(
+    count: u64,
+    root: u64,
+    nodes: &[u64],
+    colours: &[u8],
+    start: u64,
+    end: u64,
+    answer: &mut [u64],
+) -> u64
+    ensures { exit result answer.new []
+        ≡ open_start_exit answer.old (map_of count root) nodes.now colours.now (interval_of_lem start end) }
+{
+    exports::iset_open_fresh_exact(count, root, nodes, colours, start, end, answer)
+}
+
+#[unsafe(no_mangle)]
+pub extern "C" fn iset_open_step(
+    count: u64,
+    root: u64,
+    nodes: &[u64],
+    colours: &[u8],
+    lo_kind: u64,
+    lo: u64,
+    hi_kind: u64,
+    hi: u64,
+    slot: u64,
+    levels: u64,
+    bits: u64,
+    answer: &mut [u64],
+) -> u64
+    ensures { exit result answer.new []
+        ≡ open_step_exit (kinds lo_kind hi_kind) answer.old (map_of count root) nodes.now colours.now (range_of lo_kind lo hi_kind hi) (cursor_of slot levels bits) }
+{
+    exports::iset_open_step(
+        count, root, nodes, colours, lo_kind, lo, hi_kind, hi, slot, levels, bits, answer,
+    )
+}
+
+#[unsafe(no_mangle)]
+pub extern "C" fn iset_open_step_exact(
+    count: u64,
+    root: u64,
+    nodes: &[u64],
+    colours: &[u8],
+    start: u64,
+    end: u64,
+    slot: u64,
+    levels: u64,
+    bits: u64,
+    answer: &mut [u64],
+) -> u64
+    ensures { exit result answer.new []
+        ≡ open_step_exit true answer.old (map_of count root) nodes.now colours.now (exact_of start end) (cursor_of slot levels bits) }
+{
+    exports::iset_open_step_exact(
+        count, root, nodes, colours, start, end, slot, levels, bits, answer,
+    )
+}
+
+#[unsafe(no_mangle)]
+pub extern "C" fn iset_open_drain(
+    count: u64,
+    root: u64,
+    nodes: &[u64],
+    colours: &[u8],
+    lo_kind: u64,
+    lo: u64,
+    hi_kind: u64,
+    hi: u64,
+    slot: u64,
+    levels: u64,
+    bits: u64,
+    limit: u64,
+    out: &mut [u64],
+    answer: &mut [u64],
+) -> u64
+    ensures { exit result answer.new (out.new ∷ [])
+        ≡ open_drain_exit (kinds lo_kind hi_kind) answer.old (map_of count root) nodes.now colours.now (range_of lo_kind lo hi_kind hi) (cursor_of slot levels bits) limit out.old }
+{
+    exports::iset_open_drain(
+        count, root, nodes, colours, lo_kind, lo, hi_kind, hi, slot, levels, bits, limit, out,
+        answer,
+    )
+}
+
+#[unsafe(no_mangle)]
+pub extern "C" fn iset_open_drain_exact(
+    count: u64,
+    root: u64,
+    nodes: &[u64],
+    colours: &[u8],
+    start: u64,
+    end: u64,
+    slot: u64,
+    levels: u64,
+    bits: u64,
+    limit: u64,
+    out: &mut [u64],
+    answer: &mut [u64],
+) -> u64
+    ensures { exit result answer.new (out.new ∷ [])
+        ≡ open_drain_exit true answer.old (map_of count root) nodes.now colours.now (exact_of start end) (cursor_of slot levels bits) limit out.old }
+{
+    exports::iset_open_drain_exact(
+        count, root, nodes, colours, start, end, slot, levels, bits, limit, out, answer,
+    )
+}
+
+#[unsafe(no_mangle)]
+pub extern "C" fn iset_open_plain(
+    count: u64,
+    root: u64,
+    nodes: &[u64],
+    colours: &[u8],
+    lo_kind: u64,
+    lo: u64,
+    hi_kind: u64,
+    hi: u64,
+    out: &mut [u64],
+    answer: &mut [u64],
+) -> u64
+    ensures { exit result answer.new (out.new ∷ [])
+        ≡ open_plain_exit (kinds lo_kind hi_kind) answer.old (map_of count root) nodes.now colours.now (range_of lo_kind lo hi_kind hi) out.old }
+{
+    exports::iset_open_plain(
+        count, root, nodes, colours, lo_kind, lo, hi_kind, hi, out, answer,
+    )
+}
+
+#[unsafe(no_mangle)]
+pub extern "C" fn iset_open_plain_exact(
+    count: u64,
+    root: u64,
+    nodes: &[u64],
+    colours: &[u8],
+    start: u64,
+    end: u64,
+    out: &mut [u64],
+    answer: &mut [u64],
+) -> u64
+    ensures { exit result answer.new (out.new ∷ [])
+        ≡ open_plain_exit true answer.old (map_of count root) nodes.now colours.now (exact_of start end) out.old }
+{
+    exports::iset_open_plain_exact(count, root, nodes, colours, start, end, out, answer)
+}
+
+#[unsafe(no_mangle)]
+pub extern "C" fn iset_open_find_all(
+    count: u64,
+    root: u64,
+    nodes: &[u64],
+    colours: &[u8],
+    lo_kind: u64,
+    lo: u64,
+    hi_kind: u64,
+    hi: u64,
+    out: &mut [u64],
+    answer: &mut [u64],
+) -> u64
+    ensures { exit result answer.new (out.new ∷ [])
+        ≡ open_find_all_exit (kinds lo_kind hi_kind) answer.old (map_of count root) nodes.now colours.now (range_of lo_kind lo hi_kind hi) out.old }
+{
+    exports::iset_open_find_all(
+        count, root, nodes, colours, lo_kind, lo, hi_kind, hi, out, answer,
+    )
+}
+
+#[unsafe(no_mangle)]
+pub extern "C" fn iset_open_find_all_exact(
+    count: u64,
+    root: u64,
+    nodes: &[u64],
+    colours: &[u8],
+    start: u64,
+    end: u64,
+    out: &mut [u64],
+    answer: &mut [u64],
+) -> u64
+    ensures { exit result answer.new (out.new ∷ [])
+        ≡ open_find_all_exit true answer.old (map_of count root) nodes.now colours.now (exact_of start end) out.old }
+{
+    exports::iset_open_find_all_exact(count, root, nodes, colours, start, end, out, answer)
+}
