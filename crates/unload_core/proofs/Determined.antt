@@ -10,7 +10,6 @@ use denote.Triple.Clauses.{AtExit}
 use Rattle.words.specs.Layouts.{as_eight}
 use Rattle.words.proofs.Layouts.{eight_injective}
 use Rattle.tree_edit.specs.Store.{Store, store}
-use Rattle.unload_core.specs.declared.Left.{Left}
 use Rattle.unload_core.proofs.unload_from.Reads as reads
 use Rattle.unload_core.proofs.unload_from.Kinds as kinds
 

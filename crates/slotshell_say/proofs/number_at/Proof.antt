@@ -1,7 +1,0 @@
-use Rattle.slotshell_say.proofs.Laws.{past}
-use borrow.Author.Rules.{rules}
-use Rattle.slotshell_say.proofs.number_at.Statement.{statement}
-use Rattle.slotshell_say.proofs.number_at.Tie as tie
-
-pub number-at-spec : {M : Type 1} → statement M
-number-at-spec = tie.close (tie.spec (λ c. search rules) (λ c. search rules) (λ c. search rules) (λ c. search past))

@@ -1,0 +1,14 @@
+use native.Mathlib.Omega.{arith}
+use borrow.Author.Rules.{rules}
+use Rattle.slotshell_view.proofs.Laws.{bodies}
+use Rattle.words.proofs.Tests.{picked, passed}
+use Rattle.slotshell_view.proofs.lookups.touching.Goals as goal
+
+pub touching_below-requires : goal.touching_below-requires
+touching_below-requires c = let b = bodies c.args.image.now _ _ _ c.has.ensures c.if-has.true in (b.0, omega arith)
+
+pub returns-then-has : goal.returns-then-has
+returns-then-has c = search picked
+
+pub returns : goal.returns
+returns c = search passed

@@ -1,0 +1,13 @@
+use borrow.Author.Rules.{rules}
+use Rattle.slotshell_view.proofs.Laws.{bodies}
+use Rattle.words.proofs.Tests.{picked, passed}
+use Rattle.slotshell_view.proofs.nodes.is_red.Goals as goal
+
+pub red_in-requires : goal.red_in-requires
+red_in-requires c = bodies c.args.image.now _ _ _ c.has.ensures c.if-has.true
+
+pub returns-then-has : goal.returns-then-has
+returns-then-has c = search picked
+
+pub returns : goal.returns
+returns c = search passed
