@@ -49,13 +49,13 @@ pub input-bytes-determined :
 input-bytes-determined κs a r r' s s' p q = p.0 ∙ sym q.0
 
 pub put-refusal-determined :
-    (κs : Lfts 1) (a : K.Dens κs put-refusal-kinds.ps) (r r' : (K.res_t put-refusal-kinds.r κs).Denot) (s s' : AtExit (K.ended_of 1 put-refusal-kinds.ps put-refusal-kinds.r) κs)
-    → put-refusal-reads.Post κs a r s → put-refusal-reads.Post κs a r' s' → (r ≡ r') × (s.0.now ≡ s'.0.now)
+    (κs : Lfts 2) (a : K.Dens κs put-refusal-kinds.ps) (r r' : (K.res_t put-refusal-kinds.r κs).Denot) (s s' : AtExit (K.ended_of 2 put-refusal-kinds.ps put-refusal-kinds.r) κs)
+    → put-refusal-reads.Post κs a r s → put-refusal-reads.Post κs a r' s' → (r ≡ r') × (s.1.0.now ≡ s'.1.0.now)
 put-refusal-determined κs a r r' s s' p q = same_page _ r r' _ _ p q
 
 pub put-image-determined :
-    (κs : Lfts 2) (a : K.Dens κs put-image-kinds.ps) (r r' : (K.res_t put-image-kinds.r κs).Denot) (s s' : AtExit (K.ended_of 2 put-image-kinds.ps put-image-kinds.r) κs)
-    → put-image-reads.Post κs a r s → put-image-reads.Post κs a r' s' → (r ≡ r') × (s.0.now ≡ s'.0.now)
+    (κs : Lfts 3) (a : K.Dens κs put-image-kinds.ps) (r r' : (K.res_t put-image-kinds.r κs).Denot) (s s' : AtExit (K.ended_of 3 put-image-kinds.ps put-image-kinds.r) κs)
+    → put-image-reads.Post κs a r s → put-image-reads.Post κs a r' s' → (r ≡ r') × (s.1.0.now ≡ s'.1.0.now)
 put-image-determined κs a r r' s s' p q = same_page _ r r' _ _ p q
 
 pub new-determined :

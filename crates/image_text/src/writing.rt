@@ -9,61 +9,76 @@ use crate::judging::number_of;
 use image::layout::{count_in, root_in};
 use image::stored::{entry_in, link_in, red_in};
 use lines::output::{put_byte, put_next, put_number, put_text};
+use lines::streams::Streams;
 use words::ix::U;
 use words::node::Entry;
 
 // Writes a space and a link.
-fn put_link(out: &mut [u8], at: usize, link: u64) -> usize
+fn put_link(streams: &Streams, out: &mut [u8], at: usize, link: u64) -> usize
     ensures { page result out.new ≡ out_text (page at out.old) (link_text link) }
 {
     if link == U {
-        put_text(out, at, b" -")
+        put_text(streams, out, at, b" -")
     } else {
-        put_next(out, at, link)
+        put_next(streams, out, at, link)
     }
 }
 
-fn put_head(out: &mut [u8], count: u64, root: u64) -> usize
+fn put_head(streams: &Streams, out: &mut [u8], count: u64, root: u64) -> usize
     ensures { page result out.new ≡ out_text (page 0 out.old) (head count root) }
 {
-    let a = put_text(out, 0, b"count ");
-    let b = put_number(out, a, count);
-    let c = put_text(out, b, b" root");
-    let d = put_link(out, c, root);
-    put_byte(out, d, b'\n')
+    let a = put_text(streams, out, 0, b"count ");
+    let b = put_number(streams, out, a, count);
+    let c = put_text(streams, out, b, b" root");
+    let d = put_link(streams, out, c, root);
+    put_byte(streams, out, d, b'\n')
 }
 
 // Writes a slot and its entry.
-fn put_entry(out: &mut [u8], at: usize, slot: u64, e: Entry) -> usize
+fn put_entry(streams: &Streams, out: &mut [u8], at: usize, slot: u64, e: Entry) -> usize
     ensures { page result out.new ≡ out_text (page at out.old) (entry_text slot e) }
 {
-    let a = put_number(out, at, slot);
-    let b = put_next(out, a, e.start);
-    let c = put_next(out, b, e.end);
-    put_next(out, c, e.value)
+    let a = put_number(streams, out, at, slot);
+    let b = put_next(streams, out, a, e.start);
+    let c = put_next(streams, out, b, e.end);
+    put_next(streams, out, c, e.value)
 }
 
-fn put_links(out: &mut [u8], at: usize, left: u64, right: u64, parent: u64) -> usize
+fn put_links(
+    streams: &Streams,
+    out: &mut [u8],
+    at: usize,
+    left: u64,
+    right: u64,
+    parent: u64,
+) -> usize
     ensures { page result out.new ≡ out_text (page at out.old) (links_text left right parent) }
 {
-    let a = put_link(out, at, left);
-    let b = put_link(out, a, right);
-    put_link(out, b, parent)
+    let a = put_link(streams, out, at, left);
+    let b = put_link(streams, out, a, right);
+    put_link(streams, out, b, parent)
 }
 
 // Writes a colour and the end of the line.
-fn put_colour(out: &mut [u8], at: usize, red: bool) -> usize
+fn put_colour(streams: &Streams, out: &mut [u8], at: usize, red: bool) -> usize
     ensures { page result out.new ≡ out_text (page at out.old) (colour_text red) }
 {
     if red {
-        put_text(out, at, b" red\n")
+        put_text(streams, out, at, b" red\n")
     } else {
-        put_text(out, at, b" black\n")
+        put_text(streams, out, at, b" black\n")
     }
 }
 
 // Writes the line of a slot.
-fn put_row(out: &mut [u8], at: usize, image: &[u8], count: u64, slot: u64) -> usize
+fn put_row(
+    streams: &Streams,
+    out: &mut [u8],
+    at: usize,
+    image: &[u8],
+    count: u64,
+    slot: u64,
+) -> usize
     requires { Bodies image.now count × (slot < count) }
     ensures { page result out.new ≡ out_text (page at out.old) (row image.now count slot) }
 {
@@ -72,51 +87,51 @@ fn put_row(out: &mut [u8], at: usize, image: &[u8], count: u64, slot: u64) -> us
     let right = link_in(image, count, slot, 1);
     let parent = link_in(image, count, slot, 2);
     let red = red_in(image, count, slot);
-    let a = put_entry(out, at, slot, e);
-    let b = put_links(out, a, left, right, parent);
-    put_colour(out, b, red)
+    let a = put_entry(streams, out, at, slot, e);
+    let b = put_links(streams, out, a, left, right, parent);
+    put_colour(streams, out, b, red)
 }
 
-fn put_rows(out: &mut [u8], at: usize, image: &[u8], count: u64) -> usize
+fn put_rows(streams: &Streams, out: &mut [u8], at: usize, image: &[u8], count: u64) -> usize
     requires { Bodies image.now count }
     ensures { page result out.new ≡ out_text (page at out.old) (rows image.now count 0 count) }
 {
     let mut to = at;
     let mut slot = 0;
     while slot < count {
-        to = put_row(out, to, image, count, slot);
+        to = put_row(streams, out, to, image, count, slot);
         slot += 1;
     }
     to
 }
 
-fn put_map(out: &mut [u8], image: &[u8]) -> usize
+fn put_map(streams: &Streams, out: &mut [u8], image: &[u8]) -> usize
     requires { (laid_out_lem image.now ≡ true) × (count_in_lem image.now ≤ 65535) }
     ensures { page result out.new ≡ out_text (page 0 out.old) (map_text image.now) }
 {
     let count = count_in(image);
     let root = root_in(image);
-    let to = put_head(out, count, root);
-    put_rows(out, to, image, count)
+    let to = put_head(streams, out, count, root);
+    put_rows(streams, out, to, image, count)
 }
 
 // Writes `refused N`.
-pub fn put_refusal(out: &mut [u8], why: u64) -> usize
+pub fn put_refusal(streams: &Streams, out: &mut [u8], why: u64) -> usize
     ensures { page result out.new ≡ out_text (page 0 out.old) (refusal_text why) }
 {
-    let a = put_text(out, 0, b"refused ");
-    let b = put_number(out, a, why);
-    put_byte(out, b, b'\n')
+    let a = put_text(streams, out, 0, b"refused ");
+    let b = put_number(streams, out, a, why);
+    put_byte(streams, out, b, b'\n')
 }
 
 // Writes an image as text. If the image is refused, writes the refusal.
-pub fn put_image(out: &mut [u8], image: &[u8]) -> usize
+pub fn put_image(streams: &Streams, out: &mut [u8], image: &[u8]) -> usize
     ensures { page result out.new ≡ out_text (page 0 out.old) (image_text_lem image.now) }
 {
     let why = number_of(image);
     if why == 0 {
-        put_map(out, image)
+        put_map(streams, out, image)
     } else {
-        put_refusal(out, why)
+        put_refusal(streams, out, why)
     }
 }

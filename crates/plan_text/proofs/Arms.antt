@@ -1,6 +1,6 @@
 -- What the code's cases say of a rule, in the form that `search` takes.
 use mathlib.Core.Path.{◌≡◌, refl, sym, ap, ◌∙◌}
-use mathlib.Core.Bool.{Bool, true, false, cond}
+use mathlib.Core.Bool.{Bool, true, false}
 use mathlib.Core.List.{List, [], ◌∷◌}
 use Prim.Native.Nat.{ℕ, zero, suc, ◌+◌, ◌<◌, ◌≤◌}
 use native.Mathlib.Omega.{arith}
@@ -10,7 +10,7 @@ use lib.Seq.{set_out, drop-cons}
 use borrow.Author.Tests.{lt-ltb, le-ltb, lt-leb, le-leb, eq-eqb, ne_eqb}
 use Rattle.words.specs.Ix.{U}
 use Rattle.plan_text.specs.Line.{gap_after_lem, byte_rule, complete, end_rule, new_rule}
-use Rattle.plan_text.specs.Reading.{is_nothing_lem, Shelf, shelf, flaw_of, written, placed, said, next_line_lem, Stage, stage, lined, longer_line, stepped, last_of, first_free_lem, closed}
+use Rattle.plan_text.specs.Reading.{is_nothing_lem, Shelf, shelf, flaw_of, written, placed, said, next_line_lem, Stage, stage, lined, stepped, last_of, first_free_lem, closed}
 use Rattle.plan_text.specs.declared.line.Before.{Before}
 use Rattle.plan_text.specs.declared.line.Line.{Line}
 use Rattle.plan_text.specs.declared.line.Line.TheVariants.{Start}

@@ -74,13 +74,13 @@ pub line-numbers-determined :
 line-numbers-determined κs a r r' s s' p q = p.0 ∙ sym q.0
 
 pub put-plan-determined :
-    (κs : Lfts 2) (a : K.Dens κs put-plan-kinds.ps) (r r' : (K.res_t put-plan-kinds.r κs).Denot) (s s' : AtExit (K.ended_of 2 put-plan-kinds.ps put-plan-kinds.r) κs)
-    → put-plan-reads.Post κs a r s → put-plan-reads.Post κs a r' s' → (r ≡ r') × (s.0.now ≡ s'.0.now)
+    (κs : Lfts 3) (a : K.Dens κs put-plan-kinds.ps) (r r' : (K.res_t put-plan-kinds.r κs).Denot) (s s' : AtExit (K.ended_of 3 put-plan-kinds.ps put-plan-kinds.r) κs)
+    → put-plan-reads.Post κs a r s → put-plan-reads.Post κs a r' s' → (r ≡ r') × (s.1.0.now ≡ s'.1.0.now)
 put-plan-determined κs a r r' s s' p q = same_page _ r r' _ _ p q
 
 pub put-flaw-determined :
-    (κs : Lfts 1) (a : K.Dens κs put-flaw-kinds.ps) (r r' : (K.res_t put-flaw-kinds.r κs).Denot) (s s' : AtExit (K.ended_of 1 put-flaw-kinds.ps put-flaw-kinds.r) κs)
-    → put-flaw-reads.Post κs a r s → put-flaw-reads.Post κs a r' s' → (r ≡ r') × (s.0.now ≡ s'.0.now)
+    (κs : Lfts 2) (a : K.Dens κs put-flaw-kinds.ps) (r r' : (K.res_t put-flaw-kinds.r κs).Denot) (s s' : AtExit (K.ended_of 2 put-flaw-kinds.ps put-flaw-kinds.r) κs)
+    → put-flaw-reads.Post κs a r s → put-flaw-reads.Post κs a r' s' → (r ≡ r') × (s.1.0.now ≡ s'.1.0.now)
 put-flaw-determined κs a r r' s s' p q = same_page _ r r' _ _ p q
 
 pub new-determined :

@@ -1,0 +1,11 @@
+use Rattle.plan_text.proofs.Arms.{byte_of}
+use Rattle.plan_text.proofs.line.Line.byte.Goals as goal
+
+pub returns-in-Number : goal.returns-in-Number
+returns-in-Number c = search byte_of
+
+pub returns-in-Gap : goal.returns-in-Gap
+returns-in-Gap c = search byte_of
+
+pub returns-in-Wrong : goal.returns-in-Wrong
+returns-in-Wrong c = search byte_of
