@@ -160,7 +160,7 @@ built_back m (built.Refused y) = rw (ne_eqb (refusal_number y) 0 (omega (arith, 
 pub build-determined :
     (κs : Lfts 3) (a : K.Dens κs build-kinds.ps) (r r' : (K.res_t build-kinds.r κs).Denot) (s s' : AtExit (K.ended_of 3 build-kinds.ps build-kinds.r) κs)
     → build-reads.Post κs a r s → build-reads.Post κs a r' s' → (r ≡ r') × (s.1.0.now ≡ s'.1.0.now) × (s.1.1.0.now ≡ s'.1.1.0.now)
-build-determined κs a r r' s s' p q = same_effect built_at (built_back _ r) (built_back _ r') p q
+build-determined κs a r r' s s' p q = same_effect built_at (built_back a.0 r) (built_back a.0 r') p q
 
 -- and a removal's
 abbrev pub removal_at : RemoveAnswer → Removal
@@ -267,7 +267,7 @@ pub read-image-determined :
     (κs : Lfts 3) (a : K.Dens κs read-image-kinds.ps) (r r' : (K.res_t read-image-kinds.r κs).Denot)
     (s s' : AtExit (K.ended_of 3 read-image-kinds.ps read-image-kinds.r) κs)
     → read-image-reads.Post κs a r s → read-image-reads.Post κs a r' s' → (r ≡ r') × (s.1.0.now ≡ s'.1.0.now) × (s.1.1.0.now ≡ s'.1.1.0.now)
-read-image-determined κs a r r' s s' p q = same_effect built_at (built_back _ r) (built_back _ r') p q
+read-image-determined κs a r r' s s' p q = same_effect built_at (built_back a.0 r) (built_back a.0 r') p q
 
 -- a fresh cursor's, a step's and a drain's
 abbrev pub started_at : StartAnswer → Started

@@ -75,7 +75,7 @@ check-in-determined κs a r r' s s' p q = sym (checked_back r) ∙ ap checked_at
 pub build-in-determined :
     (κs : Lfts 3) (a : K.Dens κs build-kinds.ps) (r r' : (K.res_t build-kinds.r κs).Denot) (s s' : AtExit (K.ended_of 3 build-kinds.ps build-kinds.r) κs)
     → build-reads.Post κs a r s → build-reads.Post κs a r' s' → (r ≡ r') × (s.1.0.now ≡ s'.1.0.now) × (s.1.1.1.0.now ≡ s'.1.1.1.0.now)
-build-in-determined κs a r r' s s' p q = same_effect_in a.1.1.0 built_at (built_back _ r) (built_back _ r') p q
+build-in-determined κs a r r' s s' p q = same_effect_in a.1.1.0 built_at (built_back a.0 r) (built_back a.0 r') p q
 
 pub insert-in-determined :
     (κs : Lfts 2) (a : K.Dens κs insert-kinds.ps) (r r' : (K.res_t insert-kinds.r κs).Denot) (s s' : AtExit (K.ended_of 2 insert-kinds.ps insert-kinds.r) κs)
@@ -204,4 +204,4 @@ pub read-image-in-determined :
     (κs : Lfts 3) (a : K.Dens κs read-image-kinds.ps) (r r' : (K.res_t read-image-kinds.r κs).Denot)
     (s s' : AtExit (K.ended_of 3 read-image-kinds.ps read-image-kinds.r) κs)
     → read-image-reads.Post κs a r s → read-image-reads.Post κs a r' s' → (r ≡ r') × (s.1.0.now ≡ s'.1.0.now) × (s.1.1.1.0.now ≡ s'.1.1.1.0.now)
-read-image-in-determined κs a r r' s s' p q = same_effect_in a.1.1.0 built_at (built_back _ r) (built_back _ r') p q
+read-image-in-determined κs a r r' s s' p q = same_effect_in a.1.1.0 built_at (built_back a.0 r) (built_back a.0 r') p q
