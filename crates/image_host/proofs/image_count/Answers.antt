@@ -4,6 +4,10 @@ use Rattle.image_host.proofs.Laws.{sound_laid, sound_few, hits_of}
 use borrow.Author.Rules.{rules}
 use Rattle.image_host.proofs.image_count.Goals as goal
 
+pub test_image-requires : goal.test_image-requires
+unfolding host_count
+test_image-requires c = search rules
+
 pub returns-in_default : goal.returns-in_default
 unfolding host_count
 returns-in_default c = search turned_away

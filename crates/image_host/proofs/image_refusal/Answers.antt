@@ -1,5 +1,4 @@
 use Rattle.image_host.proofs.Laws.{sound_laid, sound_few, met_number, missed_number, refused_number}
-use borrow.Author.Rules.{rules}
 use Rattle.image_host.proofs.image_refusal.Goals as goal
 
 pub returns-in_default : goal.returns-in_default

@@ -1,5 +1,4 @@
 use Rattle.image_host.proofs.Laws.{sound_laid, sound_few, met_value, missed_value, refused_value}
-use borrow.Author.Rules.{rules}
 use Rattle.image_host.proofs.image_value.Goals as goal
 
 pub returns-in_default : goal.returns-in_default

@@ -1,7 +1,6 @@
 use native.Mathlib.Omega.{arith}
 use Rattle.image.proofs.Layouts.{bodies}
 use Rattle.image_host.proofs.Laws.{seen_is}
-use borrow.Author.Rules.{rules}
 use Rattle.image_host.proofs.seen_in.Goals as goal
 
 pub seek-requires : goal.seek-requires

@@ -1,6 +1,5 @@
 use Rattle.iset.proofs.Images.{image_laid}
 use Rattle.image_host.proofs.Laws.{host_bad, host_many, host_few, host_judged}
-use borrow.Author.Rules.{rules}
 use Rattle.image_host.proofs.test_image.Goals as goal
 
 pub count_in-requires : goal.count_in-requires

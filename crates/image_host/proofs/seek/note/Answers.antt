@@ -1,5 +1,4 @@
 use Rattle.image_host.proofs.Laws.{noted_asked, noted_other, noted_none}
-use borrow.Author.Rules.{rules}
 use Rattle.image_host.proofs.seek.note.Goals as goal
 
 pub returns-then-seen-k : goal.returns-then-seen-k
