@@ -4,19 +4,24 @@
 #![tactic(auto)]
 
 ghost use Rattle.std.specs.Prelude.{◌≤◌, length};
+ghost use Rattle.io.specs.Counts.{IsPrefixLen};
 
 use iset::Map;
 use iset::build::Built;
 use iset::save::Written;
 use iset::tidy::Renumbering;
-use libc::STDERR_FILENO;
 use lines::output;
 use lines::streams::Streams;
-use lines::whole::read_all;
+use lines::whole::{Got, read_all};
 use plan_text::memory;
 use plan_text::reading::{Flaw, State};
 use plan_text::refusing::refuse_image;
 use plan_text::writing::put_flaw;
+use std::env::FillError;
+use std::fs::File;
+use std::io::{Error, ErrorKind, Read};
+use std::rt::Env;
+use std::str;
 use words::numbers::least;
 
 // What was read of the plan, and whether a read failed.
@@ -26,19 +31,33 @@ struct Fed {
     failed: bool,
 }
 
+// Reads once from the plan, to the front of the space. No byte is read at the end of the plan, and if
+// the read failed.
+fn read_some(file: &mut File, space: &mut [u8]) -> Got
+    ensures { IsPrefixLen result.len space.new }
+{
+    match file.read(space) {
+        Ok(len) => Got { len, failed: false },
+        Err(_) => Got {
+            len: 0,
+            failed: true,
+        },
+    }
+}
+
 // Reads the plan to its end. The loop is bounded by 2^64 rounds, so that the proof can show that it
 // ends.
-fn feed_all(streams: &Streams, fd: i32, input: &mut [u8], plan: &mut [u64], lines: &mut [u64]) -> Fed {
+fn feed_all(file: &mut File, input: &mut [u8], plan: &mut [u64], lines: &mut [u64]) -> Fed {
     let mut state = State::new();
     let mut turns = u64::MAX;
     while 0 < turns {
         turns -= 1;
-        let got = libc::read(fd, input);
-        let n = io::count(got, input);
+        let got = read_some(file, input);
+        let n = got.len;
         if n == 0 {
             return Fed {
                 state,
-                failed: got < 0,
+                failed: got.failed,
             };
         }
         state = state.feed(&input[..n], plan, lines);
@@ -49,14 +68,16 @@ fn feed_all(streams: &Streams, fd: i32, input: &mut [u8], plan: &mut [u64], line
     }
 }
 
-// Opens the plan, and returns a descriptor, or -1.
-fn open_plan(streams: &Streams) -> i32 {
+// Opens the plan, whose name is the program's argument. It has to be text.
+fn open_plan(rt: &HostRuntime) -> Result<File, Error> {
     let mut name = io::buffer();
-    let n = os::arg(1, &mut name);
-    if os::errno() != 0 {
-        return -1;
+    match rt.arg(1, &mut name) {
+        Ok(n) => match str::from_utf8(&name[..n]) {
+            Ok(path) => File::open(rt, path),
+            Err(_) => Err(Error::from(ErrorKind::InvalidFilename)),
+        },
+        Err(_) => Err(Error::from(ErrorKind::InvalidFilename)),
     }
-    os::open_read(&name[..n])
 }
 
 // Says what is wrong with the plan, through a buffer that holds any such text.
@@ -68,7 +89,13 @@ fn tell(streams: &Streams, flaw: Flaw, out: &mut [u8]) {
 }
 
 // Ends the plan. Whether it is accepted; if not, says why.
-fn is_accepted(streams: &Streams, state: State, plan: &mut [u64], lines: &mut [u64], out: &mut [u8]) -> bool {
+fn is_accepted(
+    streams: &Streams,
+    state: State,
+    plan: &mut [u64],
+    lines: &mut [u64],
+    out: &mut [u8],
+) -> bool {
     let flaw = state.finish(plan, lines);
     if flaw.is_nothing() {
         true
@@ -79,10 +106,16 @@ fn is_accepted(streams: &Streams, state: State, plan: &mut [u64], lines: &mut [u
 }
 
 // Reads the plan from an open file. Whether it is accepted; if not, says why.
-fn read_plan(streams: &Streams, fd: i32, input: &mut [u8], plan: &mut [u64], lines: &mut [u64]) -> bool {
-    let fed = feed_all(streams, fd, input, plan, lines);
+fn read_plan(
+    streams: &Streams,
+    file: File,
+    input: &mut [u8],
+    plan: &mut [u64],
+    lines: &mut [u64],
+) -> bool {
+    let mut file = file;
+    let fed = feed_all(&mut file, input, plan, lines);
     let state = fed.state;
-    libc::close(fd);
     if fed.failed {
         output::complain(streams, b"tidyapply", b"read the plan");
         false
@@ -91,14 +124,38 @@ fn read_plan(streams: &Streams, fd: i32, input: &mut [u8], plan: &mut [u64], lin
     }
 }
 
+// Says why the plan cannot be opened, in the system's words, without the number that follows them.
+fn tell_why(streams: &Streams, text: &str) {
+    let why = match text.split_once(" (os error ") {
+        Some((words, _)) => words,
+        None => text,
+    };
+    streams.tell(b"tidyapply: cannot open the plan: ");
+    streams.tell(why.as_bytes());
+    streams.tell(b"\n");
+}
+
+fn refuse_plan(rt: &HostRuntime, streams: &Streams, error: Error) {
+    match error.to_string(rt.alloc()) {
+        Ok(text) => tell_why(streams, text.as_str()),
+        Err(_) => output::complain(streams, b"tidyapply", b"open the plan"),
+    }
+}
+
 // Opens and reads the plan. Whether it is accepted; if not, says why.
-fn take_plan(streams: &Streams, input: &mut [u8], plan: &mut [u64], lines: &mut [u64]) -> bool {
-    let fd = open_plan(streams);
-    if fd < 0 {
-        os::fail(b"tidyapply: cannot open the plan");
-        false
-    } else {
-        read_plan(streams, fd, input, plan, lines)
+fn take_plan(
+    rt: &HostRuntime,
+    streams: &Streams,
+    input: &mut [u8],
+    plan: &mut [u64],
+    lines: &mut [u64],
+) -> bool {
+    match open_plan(rt) {
+        Ok(file) => read_plan(streams, file, input, plan, lines),
+        Err(e) => {
+            refuse_plan(rt, streams, e);
+            false
+        }
     }
 }
 
@@ -113,7 +170,14 @@ fn save(streams: &Streams, map: Map, nodes: &[u64], colours: &[u8], image: &mut 
 }
 
 // Renumbers the map by an accepted plan.
-fn apply(streams: &Streams, map: Map, image: &mut [u8], nodes: &mut [u64], colours: &mut [u8], plan: &[u64]) {
+fn apply(
+    streams: &Streams,
+    map: Map,
+    image: &mut [u8],
+    nodes: &mut [u64],
+    colours: &mut [u8],
+    plan: &[u64],
+) {
     match map.renumber_in(nodes, true, colours, plan) {
         Renumbering::Done(tidy) => save(streams, tidy, nodes, colours, image),
         Renumbering::Refused(_) => output::complain(streams, b"tidyapply", b"renumber the map"),
@@ -122,6 +186,7 @@ fn apply(streams: &Streams, map: Map, image: &mut [u8], nodes: &mut [u64], colou
 
 // Reads the plan of a map that was read, and renumbers by it.
 fn follow(
+    rt: &HostRuntime,
     streams: &Streams,
     map: Map,
     image: &mut [u8],
@@ -132,13 +197,14 @@ fn follow(
     input: &mut [u8],
 ) {
     let n = least(least(map.count as usize, plan.len()), lines.len());
-    if take_plan(streams, input, &mut plan[..n], &mut lines[..n]) {
+    if take_plan(rt, streams, input, &mut plan[..n], &mut lines[..n]) {
         apply(streams, map, image, nodes, colours, &plan[..n]);
     }
 }
 
 // Reads the map of the first n bytes.
 fn load(
+    rt: &HostRuntime,
     streams: &Streams,
     n: usize,
     image: &mut [u8],
@@ -151,13 +217,14 @@ fn load(
     requires { n ≤ length image.old }
 {
     match Map::new().read_image_in(nodes, true, colours, &image[..n]) {
-        Built::Done(map) => follow(streams, map, image, nodes, colours, plan, lines, input),
+        Built::Done(map) => follow(rt, streams, map, image, nodes, colours, plan, lines, input),
         Built::Refused(why) => refuse_image(streams, b"tidyapply", why.number()),
     }
 }
 
 // If the bytes fill the image's memory, the input is longer than any image.
 fn run(
+    rt: &HostRuntime,
     streams: &Streams,
     image: &mut [u8],
     nodes: &mut [u64],
@@ -171,13 +238,13 @@ fn run(
     if got.failed {
         output::complain(streams, b"tidyapply", b"read");
     } else if n < image.len() {
-        load(streams, n, image, nodes, colours, plan, lines, input);
+        load(rt, streams, n, image, nodes, colours, plan, lines, input);
     } else {
         refuse_image(streams, b"tidyapply", 1);
     }
 }
 
-fn with_memory(streams: &Streams) {
+fn with_memory(rt: &HostRuntime, streams: &Streams) {
     let mut image = memory::image_bytes();
     let mut nodes = memory::node_words();
     let mut colours = memory::colour_bytes();
@@ -185,7 +252,8 @@ fn with_memory(streams: &Streams) {
     let mut lines = memory::line_numbers();
     let mut input = io::large_buffer();
     run(
-streams,
+        rt,
+        streams,
         &mut image,
         &mut nodes,
         &mut colours,
@@ -195,12 +263,26 @@ streams,
     );
 }
 
+// Whether the program has one argument.
+fn has_plan(rt: &HostRuntime) -> bool {
+    let mut name = [0u8; 1];
+    !is_absent(rt.arg(1, &mut name)) & is_absent(rt.arg(2, &mut name))
+}
+
+fn is_absent(arg: Result<usize, FillError>) -> bool {
+    match arg {
+        Ok(_) => false,
+        Err(FillError::TooLong) => false,
+        Err(FillError::NotPresent) => true,
+    }
+}
+
 fn main(rt: HostRuntime) {
     let streams = Streams::new(&rt);
-    if os::arg_count() == 2 {
-        with_memory(&streams);
+    if has_plan(&rt) {
+        with_memory(&rt, &streams);
     } else {
-        io::write_all(STDERR_FILENO, b"usage: tidyapply PLAN <IMAGE >NEW-IMAGE\n");
+        streams.tell(b"usage: tidyapply PLAN <IMAGE >NEW-IMAGE\n");
     }
     output::close(&streams, b"tidyapply");
 }

@@ -1,0 +1,7 @@
+use native.Mathlib.Omega.{arith}
+use lib.ListN.{length-take}
+use borrow.Author.Rules.{rules}
+use Rattle.tidyplan.proofs.print.Goals as goal
+
+pub slice_bounds-put_plan-end : goal.slice_bounds-put_plan-end
+slice_bounds-put_plan-end c = simp length-take (omega arith)
