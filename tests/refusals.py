@@ -1,10 +1,15 @@
 #!/usr/bin/env python3
 """refusals.py: every change of every must-fail edit is refused by itself, and for the named reason.
 
+usage: tests/refusals.py [CRATE..]
+
 rt tries an edit, and asks that the crate be refused. An edit may hold several changes, and one of
 them would be enough for that. So this compares each edit, crates/NAME/must-fail/LABEL.edit, with
-the form below. It compares the names in the edit with the log that `rt ci` or `rt must-fail` left
-of it in target/must-fail.
+the form below. Then it has the prover check the crate with the edit, as rt does, over the libraries
+that `rt ci` kept on this machine, and compares the names in the edit with all that the prover says.
+It leaves that in target/must-fail/NAME/LABEL/.log, and makes anew only what is out of date: a log
+that is older than the edit, than a file of the crate, or than a file of a crate below it. RT_JOBS
+says how many checks may run at a time: as many as there are processors, if it is not set.
 
 The form. An edit is a list of changes. A change is, in this order:
   `# ..`              a sentence on what the change makes wrong, on one line or more. A change
@@ -21,24 +26,36 @@ The log. A function counts as refused if its own proof fails, not if it only cal
 proved. A theorem counts if it is refused itself, not if it only cites one that is. One of the
 errors must say that a fact does not hold, or that no proof of it is found (FACT). An error shows
 nothing if it says only that the proof's text does not fit the changed code, as a field or a name
-that is gone. A log counts as no log if it is older than the edit, than a file of the crate, or than
-a file of a crate below it.
+that is gone. The prover names a goal by the code, `then-self-le32`, so a change of a number in the
+code changes the name. Such a name is brought up to date in the changed crate's answers, and the
+check is made once more: then the old answer meets the new goal.
 """
+import difflib
+import os
 import pathlib
 import re
+import shutil
 import sys
+import tempfile
+
+sys.path.insert(0, str(pathlib.Path(__file__).resolve().parent.parent / 'tools'))
+import kept
 
 TOP = pathlib.Path(__file__).resolve().parent.parent
 
 # What the prover says of a goal that does not follow. Anything else, as `has no field`, `can be
 # named from here` or `no occurrence`, is of the text.
 FACT = re.compile(
-    r'`omega`: the (?:goal|part `[^`]*` of the goal) does not follow'
+    r'`(?:omega|grind)`: the (?:goal|part `[^`]*` of the goal) does not follow'
     r'|`search`: no proof of '
+    r'|`search` did not prove '
+    r'|allow values at which this goal is false'
     r'|`cc` [^`]*equations had joined '
     r'|must be a path whose two ends are equal, and '
-    r'|expected type `(?![^`]*\bNeed-)'
+    r'|expected type `(?!goal\.)'
 )
+# What ends a log: the status of the check.
+ENDED = re.compile(r'\nrefusals: the check ended with status (-?\d+)\n\Z')
 
 
 class Change:
@@ -104,11 +121,11 @@ def said_of(log):
     states, errors, made = {}, {}, {}
     notes = []
     for block in re.split(r'\n(?! )', log):
-        error = re.match(r'(\S+?):\d+:\d+: error: `([^`]+)`', block)
+        error = re.match(r'(?:\./)?(\S+?):\d+:\d+: error: `([^`]+)`', block)
         function = re.match(r'fn (\S+): (.*)', block)
         if error and 'was not admitted' not in block:
             errors.setdefault((error[1], error[2]), []).append(block)
-        elif block.startswith('note: what antt said of '):
+        elif re.match(r'note: (what antt said of |(\./)?src/)', block):
             notes.append(block)
         elif function:
             states[function[1]], made[function[1]] = function[2], notes
@@ -116,16 +133,31 @@ def said_of(log):
     return states, errors, made
 
 
-def of_function(name, said):
+def cycles(crate):
+    """The folder of the shared proof of each function of a cycle of calls, by the function's path."""
+    found = {}
+    for file in sorted(crate.glob('src/**/*.rt')):
+        path, kind = [part for part in file.relative_to(crate / 'src').with_suffix('').parts if part not in ('lib', 'main')], None
+        for line in re.finditer(r'^impl (\w+) \{|^(\})|#\[cycle\((\w+)\)\]\s*(?:pub )?fn (\w+)', file.read_text(), re.M):
+            if line[3]:
+                # below the module of its file, or below its type, wherever that stands
+                found['::'.join([crate.name, *([kind] if kind else path), line[4]])] = '+' + line[3]
+            else:
+                kind = line[1]
+    return found
+
+
+def of_function(name, said, cycle):
     """What the prover said of a function's own proof: nothing if the function is proved, or only
     calls or cites what is not."""
     states, errors, made = said
     state = states.get(name, '')
-    if not state.startswith(('not proved', 'no proof')) or '; it calls ' in state:
+    if not state.startswith(('not proved', 'no proof')) or re.search(r'(?:;|^no proof:) it calls ', state):
         return []
     *path, last = name.split('::')[1:]
-    own = re.compile('/'.join(['proofs', *path, rf'({last}|(\+\w+)*\+{last}(\+\w+)*)', 'Proof.antt']))
-    return made[name] + [block for (file, _), blocks in errors.items() if own.fullmatch(file) for block in blocks]
+    shared = re.escape(cycle or f'+{last}')
+    own = re.compile('/'.join(['proofs', *path, rf'(?:{last}|{shared}|(?:\+\w+)*\+{last}(?:\+\w+)*)', r'(?:Proof|Answers|Invariants)\.antt']))
+    return [state] + made[name] + [block for (file, _), blocks in errors.items() if own.fullmatch(file) for block in blocks]
 
 
 def of_theorem(name, said):
@@ -155,18 +187,34 @@ def newest(crate):
     return max(files, key=lambda file: file.stat().st_mtime)
 
 
+def log_of(edit):
+    return TOP / 'target/must-fail' / edit.parts[-3] / edit.stem / '.log'
+
+
+def is_made(edit):
+    """Whether the log of an edit is there, whole, and of the files as they are now."""
+    log = log_of(edit)
+    if not log.exists() or not ENDED.search(log.read_text()):
+        return False
+    later = max(edit, newest(edit.parts[-3]), key=lambda file: file.stat().st_mtime)
+    return later.stat().st_mtime <= log.stat().st_mtime
+
+
 def of_log(crate, edit, names):
     """What is wrong with what the log of an edit says."""
-    log = TOP / 'target/must-fail' / crate / edit.stem / '.log'
+    log = log_of(edit)
     text = log.read_text() if log.exists() else ''
-    if '\nlogic=not-proved' not in text:
-        return ['it was not tried' if not log.exists() else 'its log does not end in a refusal']
-    later = max(edit, newest(crate), key=lambda file: file.stat().st_mtime)
-    if later.stat().st_mtime > log.stat().st_mtime:
-        return [f'the log is older than {later.relative_to(TOP)}: run `rt must-fail {crate}`']
-    said, wrong = said_of(text.replace(f'{log.parent}/', '')), []
+    ended = ENDED.search(text)
+    if not ended:
+        return ['it was not tried']
+    # 3 is a limit of the prover; what else it said by then counts
+    if ended[1] != '3' and '\nlogic=not-proved' not in text:
+        said = next((line for line in text.splitlines() if 'error' in line), 'the crate is proved with it')
+        return [f'its check ended with status {ended[1]} and no refusal: {said[:200]}']
+    said, wrong = said_of(text), []
+    shared = cycles(TOP / 'crates' / crate)
     for name in names:
-        blocks = of_function(name, said) if '::' in name else of_theorem(name, said)
+        blocks = of_function(name, said, shared.get(name)) if '::' in name else of_theorem(name, said)
         if not blocks:
             wrong.append(f'{name} is not refused, or only for what it calls or cites')
         elif not any(FACT.search(block) for block in blocks):
@@ -174,9 +222,91 @@ def of_log(crate, edit, names):
     return wrong
 
 
+def renamed(read, said):
+    """The files of proofs/ that name goals which the changed code has by another name, with today's
+    names, and a line on each. `read` gives a file's text. A name is only taken for another's if
+    they are much alike and no other is as near."""
+    asks = {}
+    for missing, goals, _, places in re.findall(r'^help: `\S+` has no `([^`]+)`; rattle asks for ((?:`[^`]+`(?:, )?)+)(; a `use` line of it can name these places: ((?:`[^`]+`(?:, )?)+))?', said, re.M):
+        asks[missing] = re.findall(r'`([^`]+)`', places if missing[:1].isupper() else goals)
+    texts, lines = {}, []
+    for file in sorted(set(re.findall(r'^(?:\./)?(proofs/\S+?\.antt):\d+:\d+: error: .*has no `[^`]+` that can be named', said, re.M))):
+        text, taken = read(file), set()
+        for missing in sorted(asks):
+            word = re.compile(rf'(?<![\w-]){re.escape(missing)}(?![\w-])')
+            near = [it for it in asks[missing] if it not in taken and difflib.SequenceMatcher(None, missing, it).ratio() >= 0.7]
+            if word.search(text) and near:
+                taken.add(near[0])
+                text = word.sub(near[0], text)
+                lines.append(f'refusals: {file}: `{missing}` is `{near[0]}` now')
+        if taken:
+            texts[file] = text
+    return texts, lines
+
+
+def tried(rt, crate, edit, seed):
+    """What the prover says of a crate with an edit, over what it proved of the crate without."""
+    texts, why = rt.read_edit(str(edit), crate.folder)
+    if why:
+        return f'refusals: {why}', -1
+    with tempfile.TemporaryDirectory(prefix=f'rt-edits-{os.getpid()}-') as room:
+        rt.linked(seed, f'{room}/over')
+        lines = []
+        for _ in range(3):
+            ran = rt.checked(crate, texts, ['--jobs', '1'], f'{room}/over')
+            more, says = renamed(lambda file: texts.get(file) or pathlib.Path(crate.folder, file).read_text(), ran.stdout)
+            if not more:
+                break
+            texts.update(more)
+            lines += says
+        return '\n'.join([*lines, ran.stdout]), ran.returncode
+
+
+def make(edits):
+    """Makes the logs of these edits. Returns what went wrong."""
+    rt, wrong = kept.loaded(), []
+    names = sorted({edit.parts[-3] for edit in edits})
+    with kept.Room(rt, names) as room:
+        wrong += room.prove_lacking()
+
+        def seed(name, jobs):
+            crate, start = room.crates[name], TOP / 'crates' / name / 'out/incremental'
+            made = rt.seeded(crate, ['--jobs', str(jobs)], str(start) if start.is_dir() else None)
+            if not made:
+                wrong.append(f'{name} is not proved as it stands, so its edits were not tried')
+            return made
+
+        def one(given, edit):
+            made = given[edit.parts[-3], 'seed']
+            if made:
+                said, status = tried(rt, room.crates[edit.parts[-3]], edit, f'{made}/seed')
+                log = log_of(edit)
+                log.parent.mkdir(parents=True, exist_ok=True)
+                log.write_text(f'{said.rstrip()}\nrefusals: the check ended with status {status}\n')
+                left[edit.parts[-3]] -= 1
+                if not left[edit.parts[-3]]:
+                    shutil.rmtree(made, ignore_errors=True)
+
+        tasks, left = {}, {}
+        for name in names:
+            if name in room.unproved:
+                continue
+            crate, own = room.crates[name], [edit for edit in edits if edit.parts[-3] == name]
+            left[name], lines = len(own), crate.count(rb'\n')
+            tasks[name, 'seed'] = ([], lines, rt.need(crate), lambda given, jobs, name=name: seed(name, jobs))
+            for edit in own:
+                tasks[name, 'edits', edit.stem] = ([(name, 'seed')], lines, 0.7 * rt.need(crate), lambda given, jobs, edit=edit: one(given, edit))
+        rt.in_lanes(tasks)
+    return wrong
+
+
 def main():
-    edits = sorted(TOP.glob('crates/*/must-fail/*.edit'))
+    edits = sorted(it for it in TOP.glob('crates/*/must-fail/*.edit') if it.parts[-3] in (sys.argv[1:] or [it.parts[-3]]))
     changes = names = bad = 0
+    old = [edit for edit in edits if not is_made(edit)]
+    for line in make(old) if old else []:
+        bad += 1
+        print(f'refusals: {line}')
     for edit in edits:
         crate = edit.parts[-3]
         groups, wrong = form(edit.parents[1], edit.read_text())

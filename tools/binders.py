@@ -4,8 +4,8 @@
   python3 tools/binders.py            writes what follows into every specs/*.antt
   python3 tools/binders.py --check    writes nothing; says what is missing, and exits 1 if anything is
 
-1. Names in signatures: `removeRule : List ℕ → List ℕ → ℕ → ..` becomes
-   `removeRule : (words colours : List ℕ) (count root slot : ℕ) → Removal`. The same goes for the
+1. Names in signatures: `remove_rule : List ℕ → List ℕ → ℕ → ..` becomes
+   `remove_rule : (words colours : List ℕ) (count root slot : ℕ) → Removal`. The same goes for the
    constructors of a data type and for those fields of a record that are functions. An argument that
    has a name keeps it, and a premise, such as `a < n`, gets none.
 2. A legend, after the first comment of a file: `-- Letters: W words, C colours, ..` has each letter
@@ -289,17 +289,17 @@ MEANINGS = {
 
 # The names of arguments that no letter tells: by file and declared name, if there are as many.
 NAMES = {
-    'Drains.joined': 'first second', 'Insert.insertDone': 'map store changed',
-    'Intervals.contains': 'hull interval', 'Links.removeChild': 'words parent child',
+    'Drains.joined': 'first second', 'Insert.insert_done': 'map store changed',
+    'Intervals.contains': 'hull interval', 'Links.remove_child_lem': 'words parent child',
     'Links.leftmost': 'count height words slot', 'Lookup.ordered': 'low high', 'Pairs.named': 'old new',
     'Printed.entered': 'start end value stand', 'Refusals.BadRange': 'low high',
     'Refusals.ShortOutput': 'limit places', 'Remove.leftmost': 'count height words slot',
-    'Remove.removeDone': 'map removal changed', 'Rows._entering_': 'outcome count',
-    'Rows._to_': 'old new', 'Rows.drained': 'answer output', 'Rows.hit': 'slot',
+    'Remove.remove_done': 'map removal changed', 'Rows.◌entering◌': 'outcome count',
+    'Rows.◌to◌': 'old new', 'Rows.drained': 'answer output', 'Rows.hit': 'slot',
     'Rows.holds': 'words', 'Rows.link': 'link', 'Rows.looked': 'answer output',
-    'Rows.removed': 'answer colours', 'Rows.stepsFrom': 'store query steps cursor',
+    'Rows.removed': 'answer colours', 'Rows.steps_from': 'store query steps cursor',
     'Rows.refused': 'number', 'Calls.refused': 'number', 'View.some': 'left datum right',
-    'Walk.go': 'side slot', 'Walk.match': 'slot', 'Working.enteredList': 'work start end value entries',
+    'Walk.go': 'side slot', 'Walk.match': 'slot', 'Working.entered_list': 'work start end value entries',
     'Written.state': 'first last',
 }
 
@@ -445,7 +445,7 @@ class Spec:
 
     def is_variable(self, word):
         constructor = word in self.constructors or word in BUILT_IN or re.match(r'[A-Z]\w', word)
-        return not constructor and bool(re.fullmatch(r'[^\W\d_][\w′?-]*', word))
+        return not constructor and bool(re.fullmatch(r'[^\W\d_][\w\'?-]*', word))
 
     def bound(self, pattern, kind):
         """The variables of a pattern of this type, each with its type, '' where it is not known."""
@@ -456,7 +456,7 @@ class Spec:
             heads = chunks(inner(pattern), ' ∷ ')
             kinds = [kind[1:-1]] * (len(heads) - 1) + [kind]
             return [pair for h, k in zip(heads, kinds) for pair in self.bound(h, k)]
-        infix = self.constructors.get(f'_{words[1]}_') if len(words) == 3 else None
+        infix = self.constructors.get(f'◌{words[1]}◌') if len(words) == 3 else None
         known = infix or self.constructors.get(words[0])
         kinds = [short(k) for _, k in known.arguments] if known else ['ℕ'] if words[0] == 'suc' else []
         words = [words[0], words[2]] if infix else words[1:]
@@ -486,7 +486,7 @@ class Spec:
             if name is None and is_data(kind):
                 name = self.name([p[i] for p in patterns if i < len(p)], kind)
                 name = wanted[i] if len(wanted) == len(d.arguments) else name
-            result.append(name + '′' if name and name in result else name)
+            result.append(name + "'" if name and name in result else name)
         return result
 
     def name(self, patterns, kind):
@@ -508,7 +508,7 @@ class Spec:
         found = {}
 
         def add(name, phrase):
-            if len(name.rstrip('′')) == 1 or any(name in t for t in self.own):
+            if len(name.rstrip("'")) == 1 or any(name in t for t in self.own):
                 found.setdefault(name, [])
                 if phrase not in found[name]:
                     found[name].append(phrase)

@@ -1,6 +1,6 @@
 // Answers requests on a map, one line each (docs/DRIVE.md).
 #![tactic(auto)]
 
-fn main() {
-    drive_core::answer_lines(b"drive");
+fn main(rt: HostRuntime) {
+    drive_core::answer_lines(&rt, b"drive");
 }

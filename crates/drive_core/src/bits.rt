@@ -4,6 +4,7 @@ use crate::state::{Left, State};
 use crate::{answer, arena, given};
 use bitvec::{Answer, BitVec};
 use lines::output;
+use lines::streams::Streams;
 use words::numbers::least;
 
 #[derive(Clone, Copy)]
@@ -128,16 +129,20 @@ fn answered(call: Call, g: Given, words: &mut [u64], n: usize) -> Shown {
 }
 
 // Prints the line: the answer's numbers, then what differs in the bytes.
-fn line(s: State, a: Shown, words: &[u64], out: &mut [u8]) -> State {
+fn line(streams: &Streams, s: State, a: Shown, words: &[u64], out: &mut [u8]) -> State {
     let n = s.bytes;
     let others = [answer::bit_number(a.bit), a.len as u64];
-    let numbers = answer::put_numbers(a.no, &others, 2, out, s.to);
-    let sign = answer::put_sign(out, numbers);
-    let changed = answer::put_words(words, BYTES, NEW_BYTES, n, out, sign);
-    s.after(Left::Bytes(n), output::put_byte(out, changed, b'\n'))
+    let numbers = answer::put_numbers(streams, a.no, &others, 2, out, s.to);
+    let sign = answer::put_sign(streams, out, numbers);
+    let changed = answer::put_words(streams, words, BYTES, NEW_BYTES, n, out, sign);
+    s.after(
+        Left::Bytes(n),
+        output::put_byte(streams, out, changed, b'\n'),
+    )
 }
 
 pub(crate) fn request(
+    streams: &Streams,
     s: State,
     call: Call,
     numbers: &[u64],
@@ -145,5 +150,5 @@ pub(crate) fn request(
     out: &mut [u8],
 ) -> State {
     let a = answered(call, given_of(call, numbers), words, s.bytes);
-    line(s, a, words, out)
+    line(streams, s, a, words, out)
 }

@@ -5,6 +5,7 @@ use crate::state::{Left, State};
 use crate::{answer, arena};
 use iset::Map;
 use lines::output;
+use lines::streams::Streams;
 
 pub(crate) fn begin(s: State, words: &mut [u64]) {
     arena::copy_words(words, WORDS, 0, s.words);
@@ -15,6 +16,7 @@ pub(crate) fn begin(s: State, words: &mut [u64]) {
 // and how many hulls changed. A slot's hull is the least range that holds all entries of its
 // subtree.
 pub(crate) fn end(
+    streams: &Streams,
     s: State,
     map: Map,
     reach: u64,
@@ -24,9 +26,9 @@ pub(crate) fn end(
 ) -> State {
     let w = s.words;
     let b = s.colours;
-    let sign = answer::put_sign(out, to);
-    let nodes = answer::put_words(words, WORDS, 0, w, out, sign);
-    let colours = answer::put_words(words, COLOURS, NEW_COLOURS, b, out, nodes);
+    let sign = answer::put_sign(streams, out, to);
+    let nodes = answer::put_words(streams, words, WORDS, 0, w, out, sign);
+    let colours = answer::put_words(streams, words, COLOURS, NEW_COLOURS, b, out, nodes);
     s.after(
         Left::Store {
             map,
@@ -34,6 +36,6 @@ pub(crate) fn end(
             words: w,
             colours: b,
         },
-        output::put_byte(out, colours, b'\n'),
+        output::put_byte(streams, out, colours, b'\n'),
     )
 }

@@ -3,8 +3,8 @@ ghost use Rattle.std.specs.Prelude.{◌≡◌, length};
 
 use crate::call;
 use crate::call::Call;
-use libc::STDIN_FILENO;
 use lines::input::Line;
+use lines::streams::Streams;
 use words::numbers::least;
 
 const LINE_END: u8 = 10;
@@ -47,9 +47,9 @@ fn name_space() -> [u8; 32]
 
 // Reads again, and returns the first byte. A file fills the buffer; a pipe or a terminal gives what
 // it has by now.
-fn refilled(input: &mut [u8]) -> Byte {
-    let got = libc::read(STDIN_FILENO, input);
-    let n = io::count(got, input);
+fn refilled(streams: &Streams, input: &mut [u8]) -> Byte {
+    let got = streams.read(input);
+    let n = got.len;
     if 0 < n {
         Byte {
             byte: input[0],
@@ -64,7 +64,7 @@ fn refilled(input: &mut [u8]) -> Byte {
             at: 0,
             end: 0,
             last: true,
-            failed: got < 0,
+            failed: got.failed,
         }
     }
 }
@@ -82,7 +82,7 @@ pub(crate) fn has_line(input: &[u8], p: Place) -> bool {
     false
 }
 
-fn next(input: &mut [u8], at: usize, end: usize) -> Byte {
+fn next(streams: &Streams, input: &mut [u8], at: usize, end: usize) -> Byte {
     if at < least(end, input.len()) {
         Byte {
             byte: input[at],
@@ -92,7 +92,7 @@ fn next(input: &mut [u8], at: usize, end: usize) -> Byte {
             failed: false,
         }
     } else {
-        refilled(input)
+        refilled(streams, input)
     }
 }
 
@@ -120,9 +120,15 @@ fn complete(line: Line, b: Byte, name: &[u8], numbers: &mut [u64]) -> Asked {
 // Reads a line, and leaves its numbers in `numbers`. The last line may lack its end. If nothing is
 // left, the line is empty and asks for nothing, so there is always one. The loop is bounded by 2^64
 // rounds, so that the proof can show that it ends.
-fn line(input: &mut [u8], p: Place, name: &mut [u8], numbers: &mut [u64]) -> Asked {
+fn line(
+    streams: &Streams,
+    input: &mut [u8],
+    p: Place,
+    name: &mut [u8],
+    numbers: &mut [u64],
+) -> Asked {
     let mut line = Line::new();
-    let mut b = next(input, p.at, p.end);
+    let mut b = next(streams, input, p.at, p.end);
     let mut turns = u64::MAX;
     while 0 < turns {
         turns -= 1;
@@ -130,12 +136,12 @@ fn line(input: &mut [u8], p: Place, name: &mut [u8], numbers: &mut [u64]) -> Ask
             return complete(line, b, name, numbers);
         }
         line = line.byte(b.byte, name, numbers);
-        b = next(input, b.at, b.end);
+        b = next(streams, input, b.at, b.end);
     }
     complete(line, b, name, numbers)
 }
 
-pub(crate) fn read(input: &mut [u8], p: Place, numbers: &mut [u64]) -> Asked {
+pub(crate) fn read(streams: &Streams, input: &mut [u8], p: Place, numbers: &mut [u64]) -> Asked {
     let mut name = name_space();
-    line(input, p, &mut name, numbers)
+    line(streams, input, p, &mut name, numbers)
 }

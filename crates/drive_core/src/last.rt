@@ -2,8 +2,9 @@
 // slot's hull is the least range that holds all entries of its subtree.
 use crate::answer;
 use crate::state::{Left, State};
+use lines::streams::Streams;
 
-pub(crate) fn request(s: State, out: &mut [u8]) -> State {
+pub(crate) fn request(streams: &Streams, s: State, out: &mut [u8]) -> State {
     let left = s.left;
     match left {
         Left::Store {
@@ -11,7 +12,7 @@ pub(crate) fn request(s: State, out: &mut [u8]) -> State {
             reach,
             words: _,
             colours: _,
-        } => answer::line(s, map.version as u64, &[reach], 1, out),
-        _ => answer::what(s, out),
+        } => answer::line(streams, s, map.version as u64, &[reach], 1, out),
+        _ => answer::what(streams, s, out),
     }
 }

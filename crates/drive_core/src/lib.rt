@@ -22,8 +22,8 @@ ghost use Rattle.std.specs.Prelude.{◌≡◌, length};
 use crate::call::Call;
 use crate::input::Place;
 use crate::state::State;
-use libc::STDOUT_FILENO;
 use lines::output;
+use lines::streams::Streams;
 
 // Room for all that the requests work on (crate::arena).
 fn words_space() -> [u64; 99328]
@@ -40,24 +40,38 @@ fn numbers_space() -> [u64; 40960]
 }
 
 // The requests that work on the store or on the bytes.
-fn worked(s: State, call: Call, numbers: &[u64], words: &mut [u64], out: &mut [u8]) -> State {
+fn worked(
+    streams: &Streams,
+    s: State,
+    call: Call,
+    numbers: &[u64],
+    words: &mut [u64],
+    out: &mut [u8],
+) -> State {
     match call {
-        Call::Map(c) => map::request(s, c, numbers, words, out),
-        Call::Lookup(c, kind) => lookups::request(s, c, kind, numbers, words, out),
-        Call::Bits(c) => bits::request(s, c, numbers, words, out),
+        Call::Map(c) => map::request(streams, s, c, numbers, words, out),
+        Call::Lookup(c, kind) => lookups::request(streams, s, c, kind, numbers, words, out),
+        Call::Bits(c) => bits::request(streams, s, c, numbers, words, out),
         _ => s,
     }
 }
 
-fn answered(s: State, call: Call, numbers: &[u64], words: &mut [u64], out: &mut [u8]) -> State {
+fn answered(
+    streams: &Streams,
+    s: State,
+    call: Call,
+    numbers: &[u64],
+    words: &mut [u64],
+    out: &mut [u8],
+) -> State {
     match call {
         Call::Nothing => s,
-        Call::Unknown => answer::what(s, out),
+        Call::Unknown => answer::what(streams, s, out),
         Call::Setting(c) => settings::set(s, c, numbers, words),
-        Call::Stack(c) => stacks::request(s, c, numbers, out),
-        Call::Last => last::request(s, out),
-        Call::Ticket => ticket::request(s, numbers, out),
-        _ => worked(s, call, numbers, words, out),
+        Call::Stack(c) => stacks::request(streams, s, c, numbers, out),
+        Call::Last => last::request(streams, s, out),
+        Call::Ticket => ticket::request(streams, s, numbers, out),
+        _ => worked(streams, s, call, numbers, words, out),
     }
 }
 
@@ -68,27 +82,31 @@ struct Sent {
     stop: bool,
 }
 
-// Writes what is in the output's buffer, and returns whether that succeeded. If not, it closes
-// standard output, so that output::close reports it.
-fn is_sent(out: &[u8], to: usize) -> bool {
+// Writes what is in the output's buffer, and returns whether that succeeded. If not, output::close
+// reports it.
+fn is_sent(streams: &Streams, out: &[u8], to: usize) -> bool {
     if to <= out.len() {
-        if io::write_all(STDOUT_FILENO, &out[..to]) {
-            return true;
-        }
-        libc::close(STDOUT_FILENO);
+        return streams.write(&out[..to]);
     }
     false
 }
 
 // Writes the answers out before more input is read, so that another program can wait for each of
 // them.
-fn hand_over(input: &[u8], place: Place, last: bool, out: &[u8], to: usize) -> Sent {
+fn hand_over(
+    streams: &Streams,
+    input: &[u8],
+    place: Place,
+    last: bool,
+    out: &[u8],
+    to: usize,
+) -> Sent {
     if input::has_line(input, place) {
         Sent { to, stop: false }
     } else {
         Sent {
             to: 0,
-            stop: last | !is_sent(out, to),
+            stop: last | !is_sent(streams, out, to),
         }
     }
 }
@@ -96,20 +114,26 @@ fn hand_over(input: &[u8], place: Place, last: bool, out: &[u8], to: usize) -> S
 // Answers line after line to the end of the input, or until a read or a write fails. Returns
 // whether a read failed. The loop is bounded by 2^64 rounds, so that the proof can show that it
 // ends.
-fn session(input: &mut [u8], numbers: &mut [u64], words: &mut [u64], out: &mut [u8]) -> bool {
+fn session(
+    streams: &Streams,
+    input: &mut [u8],
+    numbers: &mut [u64],
+    words: &mut [u64],
+    out: &mut [u8],
+) -> bool {
     let mut s = State::new();
     let mut place = Place { at: 0, end: 0 };
     let mut turns = u64::MAX;
     while 0 < turns {
         turns -= 1;
-        let line = input::read(input, place, numbers);
+        let line = input::read(streams, input, place, numbers);
         let call = line.call;
-        s = answered(s, call, numbers, words, out);
+        s = answered(streams, s, call, numbers, words, out);
         place = Place {
             at: line.at,
             end: line.end,
         };
-        let sent = hand_over(input, place, line.last, out, s.to);
+        let sent = hand_over(streams, input, place, line.last, out, s.to);
         if sent.stop {
             return line.failed;
         }
@@ -120,13 +144,14 @@ fn session(input: &mut [u8], numbers: &mut [u64], words: &mut [u64], out: &mut [
 
 // Answers the lines of standard input on standard output. A failed read or write is reported on
 // standard error, after the name of the program.
-pub fn answer_lines(name: &[u8]) {
+pub fn answer_lines(rt: &HostRuntime, name: &[u8]) {
+    let streams = Streams::new(rt);
     let mut input = io::large_buffer();
     let mut out = io::large_buffer();
     let mut numbers = numbers_space();
     let mut words = words_space();
-    if session(&mut input, &mut numbers, &mut words, &mut out) {
-        output::complain(name, b"read");
+    if session(&streams, &mut input, &mut numbers, &mut words, &mut out) {
+        output::complain(&streams, name, b"read");
     }
-    output::close(name);
+    output::close(&streams, name);
 }

@@ -16,6 +16,7 @@ use crate::lookups::reply::Reply;
 use crate::state::State;
 use crate::{answer, arena, copy};
 use iset::Map;
+use lines::streams::Streams;
 use words::numbers::least;
 
 #[derive(Clone, Copy)]
@@ -137,32 +138,41 @@ fn in_store(
 }
 
 // If a call has an output, the whole output is printed after the numbers.
-fn put_hits(call: Call, hits: &[u64], out: &mut [u8], to: usize) -> usize {
+fn put_hits(streams: &Streams, call: Call, hits: &[u64], out: &mut [u8], to: usize) -> usize {
     if has_output(call) {
-        answer::put_list(hits, 0, hits.len(), out, to)
+        answer::put_list(streams, hits, 0, hits.len(), out, to)
     } else {
         to
     }
 }
 
 // Prints the line of a lookup other than `fresh`. The store is unchanged.
-fn line(s: State, call: Call, a: Reply, words: &mut [u64], hits: &[u64], out: &mut [u8]) -> State {
+fn line(
+    streams: &Streams,
+    s: State,
+    call: Call,
+    a: Reply,
+    words: &mut [u64],
+    hits: &[u64],
+    out: &mut [u8],
+) -> State {
     let numbers = a.numbers;
     copy::begin(s, words);
-    let first = answer::put_numbers(a.no, &numbers, answer_size(call), out, s.to);
-    let to = put_hits(call, hits, out, first);
+    let first = answer::put_numbers(streams, a.no, &numbers, answer_size(call), out, s.to);
+    let to = put_hits(streams, call, hits, out, first);
     let map = s.map;
-    copy::end(s, map, 0, words, out, to)
+    copy::end(streams, s, map, 0, words, out, to)
 }
 
 // Prints the line of `fresh`.
-fn fresh_line(s: State, a: Reply, out: &mut [u8]) -> State {
+fn fresh_line(streams: &Streams, s: State, a: Reply, out: &mut [u8]) -> State {
     let numbers = a.numbers;
-    answer::line(s, a.no, &numbers, 3, out)
+    answer::line(streams, s, a.no, &numbers, 3, out)
 }
 
 // Makes the request with this output.
 fn into(
+    streams: &Streams,
     s: State,
     call: Call,
     kind: Kind,
@@ -173,9 +183,9 @@ fn into(
 ) -> State {
     let a = in_store(s, call, kind, numbers, words, hits);
     if let Call::Fresh = call {
-        fresh_line(s, a, out)
+        fresh_line(streams, s, a, out)
     } else {
-        line(s, call, a, words, hits, out)
+        line(streams, s, call, a, words, hits, out)
     }
 }
 
@@ -187,6 +197,7 @@ fn hits_space() -> [u64; 4096]
 }
 
 pub(crate) fn request(
+    streams: &Streams,
     s: State,
     call: Call,
     kind: Kind,
@@ -196,5 +207,14 @@ pub(crate) fn request(
 ) -> State {
     let mut hits = hits_space();
     let there = least(places(call, kind, numbers) as usize, 4096);
-    into(s, call, kind, numbers, words, &mut hits[..there], out)
+    into(
+        streams,
+        s,
+        call,
+        kind,
+        numbers,
+        words,
+        &mut hits[..there],
+        out,
+    )
 }

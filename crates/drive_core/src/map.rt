@@ -21,6 +21,7 @@ use crate::map::reply::Reply;
 use crate::state::{Left, State};
 use crate::{answer, arena, copy};
 use iset::Map;
+use lines::streams::Streams;
 use words::numbers::least;
 
 #[derive(Clone, Copy)]
@@ -123,20 +124,20 @@ fn answered(s: State, call: Call, b: Beside, numbers: &[u64], words: &mut [u64])
 }
 
 // If the call has an output, the whole output is printed after the numbers.
-fn put_output(b: Beside, words: &[u64], out: &mut [u8], to: usize) -> usize {
+fn put_output(streams: &Streams, b: Beside, words: &[u64], out: &mut [u8], to: usize) -> usize {
     if b.output {
-        answer::put_list(words, NEW_BYTES, b.size, out, to)
+        answer::put_list(streams, words, NEW_BYTES, b.size, out, to)
     } else {
         to
     }
 }
 
-fn line(s: State, b: Beside, a: Reply, words: &[u64], out: &mut [u8]) -> State {
+fn line(streams: &Streams, s: State, b: Beside, a: Reply, words: &[u64], out: &mut [u8]) -> State {
     let numbers = a.numbers;
     let map = a.map;
-    let first = answer::put_numbers(a.no, &numbers, a.n, out, s.to);
-    let to = put_output(b, words, out, first);
-    copy::end(s, map, a.reach, words, out, to)
+    let first = answer::put_numbers(streams, a.no, &numbers, a.n, out, s.to);
+    let to = put_output(streams, b, words, out, first);
+    copy::end(streams, s, map, a.reach, words, out, to)
 }
 
 // What `commit` takes if the call has an output and is accepted: what it wrote there, and not the
@@ -150,6 +151,7 @@ fn kept(s: State, b: Beside, a: Reply) -> State {
 }
 
 pub(crate) fn request(
+    streams: &Streams,
     s: State,
     call: Call,
     numbers: &[u64],
@@ -159,5 +161,5 @@ pub(crate) fn request(
     let b = bytes_of(call, s, numbers);
     copy::begin(s, words);
     let a = answered(s, call, b, numbers, words);
-    kept(line(s, b, a, words, out), b, a)
+    kept(line(streams, s, b, a, words, out), b, a)
 }

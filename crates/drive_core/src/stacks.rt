@@ -2,6 +2,7 @@
 // request left.
 use crate::state::State;
 use crate::{answer, given};
+use lines::streams::Streams;
 use stack::lending::After;
 use stack::lent::Outcome;
 use stack::{ActionStack, Answer, lending};
@@ -91,16 +92,22 @@ fn done(call: Call, stack: ActionStack) -> Shown {
     }
 }
 
-fn line(s: State, a: Shown, out: &mut [u8]) -> State {
+fn line(streams: &Streams, s: State, a: Shown, out: &mut [u8]) -> State {
     let after = a.stack;
     let others = [answer::bit_number(a.test), after.levels, after.bits];
-    answer::line(s, a.no, &others, 3, out)
+    answer::line(streams, s, a.no, &others, 3, out)
 }
 
-pub(crate) fn request(s: State, call: Call, numbers: &[u64], out: &mut [u8]) -> State {
+pub(crate) fn request(
+    streams: &Streams,
+    s: State,
+    call: Call,
+    numbers: &[u64],
+    out: &mut [u8],
+) -> State {
     let stack = ActionStack {
         levels: given::number(numbers, 0),
         bits: given::number(numbers, 1),
     };
-    line(s, done(call, stack), out)
+    line(streams, s, done(call, stack), out)
 }

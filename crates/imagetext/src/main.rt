@@ -5,32 +5,34 @@
 use image_text::memory;
 use image_text::writing::{put_image, put_refusal};
 use lines::output;
+use lines::streams::Streams;
 use lines::whole::read_all;
 
 // Prints the first n bytes as an image. If they fill the input, it is longer than any image that
 // fits.
-fn print(input: &[u8], n: usize, out: &mut [u8]) {
+fn print(streams: &Streams, input: &[u8], n: usize, out: &mut [u8]) {
     if n < input.len() {
-        let end = put_image(out, &input[..n]);
-        output::flush(out, end);
+        let end = put_image(streams, out, &input[..n]);
+        output::flush(streams, out, end);
     } else {
-        let end = put_refusal(out, 1);
-        output::flush(out, end);
+        let end = put_refusal(streams, out, 1);
+        output::flush(streams, out, end);
     }
 }
 
-fn run(input: &mut [u8], out: &mut [u8]) {
-    let got = read_all(input);
+fn run(streams: &Streams, input: &mut [u8], out: &mut [u8]) {
+    let got = read_all(streams, input);
     if got.failed {
-        output::complain(b"imagetext", b"read");
+        output::complain(streams, b"imagetext", b"read");
     } else {
-        print(input, got.len, out);
+        print(streams, input, got.len, out);
     }
 }
 
-fn main() {
+fn main(rt: HostRuntime) {
+    let streams = Streams::new(&rt);
     let mut input = memory::input_bytes();
     let mut out = io::large_buffer();
-    run(&mut input, &mut out);
-    output::close(b"imagetext");
+    run(&streams, &mut input, &mut out);
+    output::close(&streams, b"imagetext");
 }

@@ -132,10 +132,10 @@ pub record Demand3 (m : Map) (W C : List ℕ) : Type 0 where
       → ExactRun m W C x P.tree l
 
 -- Document 02, item 9: "removal and insertion return the sum, a refusal 0 .. Prove the sum equal to
--- the changes in document 01's and item 1's steps." `remove_hulls` and `insert_hulls` list the hulls
--- that are worked out, each with the words that it is worked out in; `changes` counts those of them
--- of which either end changes. `Follows` ties such a list to what is left: from the first words to
--- the last these hulls are worked out, in this order, and no hull changes in between.
+-- the changes in document 01's and item 1's steps." `remove_hulls` and `insert_hulls` list the
+-- hulls that are worked out, each with the words that it is worked out in; `changes` counts those
+-- of them of which either end changes. `Follows` ties such a list to what is left: from the first
+-- words to the last these hulls are worked out, in this order, and no hull changes in between.
 pub record Request9 (m : Map) (W C : List ℕ) : Type 0 where
   pub remove_sum : (s : ℕ) → (remove_call m W C s).answer.no ≡ 0 → (remove_call m W C s).answer.reach ≡ changes m.count (remove_hulls W C m.count m.root s)
   -- up to the words in which the last slot moves, with its hull, into the emptied one

@@ -92,13 +92,7 @@ pub fn iset_unload(
     )
 }
 
-pub fn iset_propose(
-    count: u64,
-    root: u64,
-    nodes: &[u64],
-    colours: &[u8],
-    out: &mut [u64],
-) -> u64
+pub fn iset_propose(count: u64, root: u64, nodes: &[u64], colours: &[u8], out: &mut [u64]) -> u64
     ensures { output result out.new ≡ propose_call (map_of count root) nodes.now colours.now out.old }
 {
     propose_in(count, root, nodes, false, colours, out)

@@ -2,8 +2,8 @@
 // docs/RULES.md has the rule of its input and output.
 #![tactic(auto)]
 
-use libc::STDIN_FILENO;
 use lines::output;
+use lines::streams::Streams;
 use slotlist_core::{State, memory};
 
 // What was read, and whether a read failed.
@@ -15,17 +15,23 @@ struct Fed {
 
 // Reads to the end of the input. The loop is bounded by 2^64 rounds, so that the proof can show
 // that it ends.
-fn feed_all(input: &mut [u8], nodes: &mut [u64], colours: &mut [u8], entries: &mut [u64]) -> Fed {
+fn feed_all(
+    streams: &Streams,
+    input: &mut [u8],
+    nodes: &mut [u64],
+    colours: &mut [u8],
+    entries: &mut [u64],
+) -> Fed {
     let mut state = State::new();
     let mut turns = u64::MAX;
     while 0 < turns {
         turns -= 1;
-        let got = libc::read(STDIN_FILENO, input);
-        let n = io::count(got, input);
+        let got = streams.read(input);
+        let n = got.len;
         if n == 0 {
             return Fed {
                 state,
-                failed: got < 0,
+                failed: got.failed,
             };
         }
         state = state.feed(&input[..n], nodes, colours, entries);
@@ -36,32 +42,48 @@ fn feed_all(input: &mut [u8], nodes: &mut [u64], colours: &mut [u8], entries: &m
     }
 }
 
-fn print(state: State, nodes: &mut [u64], colours: &mut [u8], entries: &mut [u64], out: &mut [u8]) {
+fn print(
+    streams: &Streams,
+    state: State,
+    nodes: &mut [u64],
+    colours: &mut [u8],
+    entries: &mut [u64],
+    out: &mut [u8],
+) {
     let n = state.finish(nodes, colours, entries, out);
-    output::flush(out, n);
+    output::flush(streams, out, n);
 }
 
 fn run(
+    streams: &Streams,
     input: &mut [u8],
     nodes: &mut [u64],
     colours: &mut [u8],
     entries: &mut [u64],
     out: &mut [u8],
 ) {
-    let fed = feed_all(input, nodes, colours, entries);
+    let fed = feed_all(streams, input, nodes, colours, entries);
     if fed.failed {
-        output::complain(b"slotlist", b"read");
+        output::complain(streams, b"slotlist", b"read");
     } else {
-        print(fed.state, nodes, colours, entries, out);
+        print(streams, fed.state, nodes, colours, entries, out);
     }
 }
 
-fn main() {
+fn main(rt: HostRuntime) {
+    let streams = Streams::new(&rt);
     let mut input = io::large_buffer();
     let mut nodes = memory::node_words();
     let mut colours = memory::colour_bytes();
     let mut entries = memory::entry_numbers();
     let mut out = memory::text_bytes();
-    run(&mut input, &mut nodes, &mut colours, &mut entries, &mut out);
-    output::close(b"slotlist");
+    run(
+        &streams,
+        &mut input,
+        &mut nodes,
+        &mut colours,
+        &mut entries,
+        &mut out,
+    );
+    output::close(&streams, b"slotlist");
 }

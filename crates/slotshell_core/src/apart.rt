@@ -7,42 +7,50 @@ use disjoint::point::Pointed;
 use disjoint::{DisjointMap, Spot};
 use iset::{Checked, Entry, Map};
 use lines::output::send;
+use lines::streams::Streams;
 use slotshell_text::refusal::say_refused;
 use slotshell_text::work;
 use words::ix::U;
 
-pub(crate) fn check(m: Map, nodes: &[u64], colours: &[u8]) {
+pub(crate) fn check(streams: &Streams, m: Map, nodes: &[u64], colours: &[u8]) {
     let d = DisjointMap { map: m };
     match d.check(nodes, colours) {
-        Checked::Sound => send(b"disjoint: no two ranges overlap\n"),
-        Checked::Refused(why) => say_refused(why.number(), 0, 0),
+        Checked::Sound => send(streams, b"disjoint: no two ranges overlap\n"),
+        Checked::Refused(why) => say_refused(streams, why.number(), 0, 0),
     }
 }
 
 // Says which entry a point lookup found, and how many nodes it entered.
-fn found(m: Map, nodes: &[u64], colours: &[u8], spot: Spot) {
+fn found(streams: &Streams, m: Map, nodes: &[u64], colours: &[u8], spot: Spot) {
     if spot.slot == U {
-        work::say_entered(0, spot.entered);
+        work::say_entered(streams, 0, spot.entered);
         return;
     }
-    work::say_hit();
-    entries::say_entry(m, nodes, colours, spot.slot);
-    work::say_entered(1, spot.entered);
+    work::say_hit(streams);
+    entries::say_entry(streams, m, nodes, colours, spot.slot);
+    work::say_entered(streams, 1, spot.entered);
 }
 
 // Looks up the one entry that holds an address.
-pub(crate) fn point(s: State, address: u64, nodes: &[u64], colours: &[u8]) -> State {
+pub(crate) fn point(
+    streams: &Streams,
+    s: State,
+    address: u64,
+    nodes: &[u64],
+    colours: &[u8],
+) -> State {
     let m = s.map;
     let d = DisjointMap { map: m };
     match d.point(nodes, colours, address) {
-        Pointed::Done(spot) => found(m, nodes, colours, spot),
-        Pointed::Refused(why) => say_refused(why.number(), 0, 0),
+        Pointed::Done(spot) => found(streams, m, nodes, colours, spot),
+        Pointed::Refused(why) => say_refused(streams, why.number(), 0, 0),
     }
     s
 }
 
 // Inserts an entry, if it overlaps no other.
 pub(crate) fn fit(
+    streams: &Streams,
     s: State,
     e: Entry,
     nodes: &mut [u64],
@@ -52,7 +60,7 @@ pub(crate) fn fit(
     let m = s.map;
     let d = DisjointMap { map: m };
     match d.insert(nodes, colours, e.start, e.end, e.value) {
-        Placement::Done(a) => inserted(s, a, nodes, colours, was),
-        Placement::Refused(why, slot) => refused(s, why.number(), slot),
+        Placement::Done(a) => inserted(streams, s, a, nodes, colours, was),
+        Placement::Refused(why, slot) => refused(streams, s, why.number(), slot),
     }
 }

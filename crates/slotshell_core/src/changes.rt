@@ -7,19 +7,28 @@ use iset::remove::{Removal, Removed};
 use iset::ticket::Reading;
 use iset::{Entry, Map, Pair};
 use lines::output::send;
+use lines::streams::Streams;
 use slotshell_say::say;
 use slotshell_text::entry;
 use words::ix::U;
 
-fn built(s: State, map: Map, nodes: &[u64], colours: &[u8], was: &mut [u64]) -> State {
-    send(b"built: ");
-    entries::say_map(map);
-    entries::say_slots(map, nodes, colours);
+fn built(
+    streams: &Streams,
+    s: State,
+    map: Map,
+    nodes: &[u64],
+    colours: &[u8],
+    was: &mut [u64],
+) -> State {
+    send(streams, b"built: ");
+    entries::say_map(streams, map);
+    entries::say_slots(streams, map, nodes, colours);
     moved::clear(was);
     s.changed(map, false, U)
 }
 
 pub(crate) fn build(
+    streams: &Streams,
     s: State,
     list: &[u64],
     nodes: &mut [u64],
@@ -28,16 +37,21 @@ pub(crate) fn build(
 ) -> State {
     let m = s.map;
     match m.build(nodes, colours, list) {
-        Built::Done(map) => built(s, map, nodes, colours, was),
-        Built::Refused(why) => refused(s, why.number(), 0),
+        Built::Done(map) => built(streams, s, map, nodes, colours, was),
+        Built::Refused(why) => refused(streams, s, why.number(), 0),
     }
 }
 
-fn say_change(map: Map, reach: u64) {
-    say(b"version %, reach %\n", &[map.version as u64, reach]);
+fn say_change(streams: &Streams, map: Map, reach: u64) {
+    say(
+        streams,
+        b"version %, reach %\n",
+        &[map.version as u64, reach],
+    );
 }
 
 pub(crate) fn inserted(
+    streams: &Streams,
     s: State,
     a: Inserted,
     nodes: &[u64],
@@ -45,14 +59,15 @@ pub(crate) fn inserted(
     was: &mut [u64],
 ) -> State {
     let map = a.map;
-    send(b"inserted: ");
-    entries::say_entry(map, nodes, colours, a.slot);
-    say_change(map, a.reach);
+    send(streams, b"inserted: ");
+    entries::say_entry(streams, map, nodes, colours, a.slot);
+    say_change(streams, map, a.reach);
     moved::clear(was);
     s.changed(map, false, a.slot)
 }
 
 pub(crate) fn insert(
+    streams: &Streams,
     s: State,
     e: Entry,
     nodes: &mut [u64],
@@ -61,35 +76,36 @@ pub(crate) fn insert(
 ) -> State {
     let m = s.map;
     match m.insert(nodes, colours, e.start, e.end, e.value) {
-        Insertion::Done(a) => inserted(s, a, nodes, colours, was),
-        Insertion::Refused(why) => refused(s, why.number(), 0),
+        Insertion::Done(a) => inserted(streams, s, a, nodes, colours, was),
+        Insertion::Refused(why) => refused(streams, s, why.number(), 0),
     }
 }
 
-fn say_move(map: Map, nodes: &[u64], colours: &[u8], p: Pair) {
+fn say_move(streams: &Streams, map: Map, nodes: &[u64], colours: &[u8], p: Pair) {
     if p.new != U {
-        entries::say_moved(map, nodes, colours, p.old, p.new);
+        entries::say_moved(streams, map, nodes, colours, p.old, p.new);
     }
 }
 
 // Writes the pairs of a removal in their own order, and returns whether there is one.
-fn say_moves(a: Removed, nodes: &[u64], colours: &[u8]) -> bool {
+fn say_moves(streams: &Streams, a: Removed, nodes: &[u64], colours: &[u8]) -> bool {
     let map = a.map;
     let pairs = a.pairs;
     let first = pairs.first;
     let second = pairs.second;
     let third = pairs.third;
     if first.new == U {
-        entry::say_unmoved();
+        entry::say_unmoved(streams);
         return false;
     }
-    say_move(map, nodes, colours, first);
-    say_move(map, nodes, colours, second);
-    say_move(map, nodes, colours, third);
+    say_move(streams, map, nodes, colours, first);
+    say_move(streams, map, nodes, colours, second);
+    say_move(streams, map, nodes, colours, third);
     true
 }
 
 fn removed(
+    streams: &Streams,
     s: State,
     a: Removed,
     slot: u64,
@@ -101,16 +117,18 @@ fn removed(
     let map = a.map;
     let pairs = a.pairs;
     say(
+        streams,
         b"removed: slot %  [%,%) %\n",
         &[slot, e.start, e.end, a.value],
     );
-    let any = say_moves(a, nodes, colours);
-    say_change(map, a.reach);
+    let any = say_moves(streams, a, nodes, colours);
+    say_change(streams, map, a.reach);
     moved::put_pairs(was, pairs);
     s.changed(map, any, U)
 }
 
 fn remove_entry(
+    streams: &Streams,
     s: State,
     slot: u64,
     e: Entry,
@@ -120,13 +138,14 @@ fn remove_entry(
 ) -> State {
     let m = s.map;
     match m.remove(nodes, colours, slot) {
-        Removal::Done(a) => removed(s, a, slot, e, nodes, colours, was),
-        Removal::Refused(why) => refused(s, why.number(), slot),
+        Removal::Done(a) => removed(streams, s, a, slot, e, nodes, colours, was),
+        Removal::Refused(why) => refused(streams, s, why.number(), slot),
     }
 }
 
 // The entry is read before it is removed, so that it can be shown.
 pub(crate) fn remove(
+    streams: &Streams,
     s: State,
     slot: u64,
     nodes: &mut [u64],
@@ -135,7 +154,7 @@ pub(crate) fn remove(
 ) -> State {
     let m = s.map;
     match m.read(nodes, colours, m.ticket(slot)) {
-        Reading::Done(e) => remove_entry(s, slot, e, nodes, colours, was),
-        Reading::Refused(why) => refused(s, why.number(), slot),
+        Reading::Done(e) => remove_entry(streams, s, slot, e, nodes, colours, was),
+        Reading::Refused(why) => refused(streams, s, why.number(), slot),
     }
 }

@@ -1,5 +1,5 @@
 // Standard input, line by line.
-use libc::STDIN_FILENO;
+use lines::streams::Streams;
 use words::numbers::least;
 
 const LINE_END: u8 = 10;
@@ -36,9 +36,9 @@ pub struct Line {
 
 // Reads again, and returns the first byte. A file fills the buffer; a pipe or a terminal gives what
 // it has by now.
-fn refilled(input: &mut [u8]) -> Byte {
-    let got = libc::read(STDIN_FILENO, input);
-    let n = io::count(got, input);
+fn refilled(streams: &Streams, input: &mut [u8]) -> Byte {
+    let got = streams.read(input);
+    let n = got.len;
     if 0 < n {
         Byte {
             byte: input[0],
@@ -53,12 +53,12 @@ fn refilled(input: &mut [u8]) -> Byte {
             at: 0,
             end: 0,
             last: true,
-            failed: got < 0,
+            failed: got.failed,
         }
     }
 }
 
-fn next(input: &mut [u8], at: usize, end: usize) -> Byte {
+fn next(streams: &Streams, input: &mut [u8], at: usize, end: usize) -> Byte {
     if at < least(end, input.len()) {
         Byte {
             byte: input[at],
@@ -68,7 +68,7 @@ fn next(input: &mut [u8], at: usize, end: usize) -> Byte {
             failed: false,
         }
     } else {
-        refilled(input)
+        refilled(streams, input)
     }
 }
 
@@ -96,9 +96,9 @@ fn complete(n: usize, room: usize, b: Byte) -> Line {
 
 // Reads a line. The last line may lack its end. The loop is bounded by 2^64 rounds, so that the
 // proof can show that it ends.
-pub(crate) fn read(input: &mut [u8], p: Place, line: &mut [u8]) -> Line {
+pub(crate) fn read(streams: &Streams, input: &mut [u8], p: Place, line: &mut [u8]) -> Line {
     let mut n = 0;
-    let mut b = next(input, p.at, p.end);
+    let mut b = next(streams, input, p.at, p.end);
     let mut turns = u64::MAX;
     while 0 < turns {
         turns -= 1;
@@ -106,7 +106,7 @@ pub(crate) fn read(input: &mut [u8], p: Place, line: &mut [u8]) -> Line {
             return complete(n, line.len(), b);
         }
         n = keep(line, n, b.byte);
-        b = next(input, b.at, b.end);
+        b = next(streams, input, b.at, b.end);
     }
     complete(n, line.len(), b)
 }

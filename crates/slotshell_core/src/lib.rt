@@ -27,8 +27,8 @@ use crate::command::{Bare, Command, Numbered, Ranged};
 use crate::input::Place;
 use crate::state::State;
 use iset::{Checked, Entry, Map};
-use libc::{STDIN_FILENO, STDOUT_FILENO};
 use lines::output;
+use lines::streams::Streams;
 use slotshell_draw::lists::slot_space;
 use slotshell_text::refusal::say_refused;
 use slotshell_text::{Range, help};
@@ -39,32 +39,33 @@ pub(crate) fn number(numbers: &[u64], k: usize) -> u64 {
     if k < numbers.len() { numbers[k] } else { 0 }
 }
 
-fn check(m: Map, nodes: &[u64], colours: &[u8]) {
+fn check(streams: &Streams, m: Map, nodes: &[u64], colours: &[u8]) {
     match m.check(nodes, colours) {
         Checked::Sound => {
-            output::send(b"sound: ");
-            entries::say_map(m);
+            output::send(streams, b"sound: ");
+            entries::say_map(streams, m);
         }
-        Checked::Refused(why) => say_refused(why.number(), 0, 0),
+        Checked::Refused(why) => say_refused(streams, why.number(), 0, 0),
     }
 }
 
 // The commands that only show.
-fn show(s: State, c: Bare, nodes: &[u64], colours: &[u8], was: &[u64]) {
+fn show(streams: &Streams, s: State, c: Bare, nodes: &[u64], colours: &[u8], was: &[u64]) {
     let m = s.map;
     match c {
         Bare::Tree | Bare::Slots | Bare::Svg | Bare::Dot => {
-            pictures::show(s, c, nodes, colours, was)
+            pictures::show(streams, s, c, nodes, colours, was)
         }
-        Bare::Check => check(m, nodes, colours),
-        Bare::Disjoint => apart::check(m, nodes, colours),
-        Bare::Plan => tidying::plan(m, nodes, colours),
-        Bare::Help => help::say_all(),
+        Bare::Check => check(streams, m, nodes, colours),
+        Bare::Disjoint => apart::check(streams, m, nodes, colours),
+        Bare::Plan => tidying::plan(streams, m, nodes, colours),
+        Bare::Help => help::say_all(streams),
         _ => {}
     }
 }
 
 fn do_bare(
+    streams: &Streams,
     s: State,
     c: Bare,
     nodes: &mut [u64],
@@ -73,17 +74,18 @@ fn do_bare(
     image: &mut [u8],
 ) -> State {
     match c {
-        Bare::Save => images::save(s, nodes, colours, image),
-        Bare::Load => images::load(s, nodes, colours, image, was),
-        Bare::Tidy => tidying::tidy(s, nodes, colours, was),
+        Bare::Save => images::save(streams, s, nodes, colours, image),
+        Bare::Load => images::load(streams, s, nodes, colours, image, was),
+        Bare::Tidy => tidying::tidy(streams, s, nodes, colours, was),
         _ => {
-            show(s, c, nodes, colours, was);
+            show(streams, s, c, nodes, colours, was);
             s
         }
     }
 }
 
 fn do_ranged(
+    streams: &Streams,
     s: State,
     c: Ranged,
     r: Range,
@@ -92,13 +94,14 @@ fn do_ranged(
     was: &mut [u64],
 ) -> State {
     match c {
-        Ranged::Unload => unloading::unload(s, r, nodes, colours, was),
-        _ => looking::ranged(s, c, r, nodes, colours),
+        Ranged::Unload => unloading::unload(streams, s, r, nodes, colours, was),
+        _ => looking::ranged(streams, s, c, r, nodes, colours),
     }
 }
 
 // The commands with numbers that change nothing in the map.
 fn do_look(
+    streams: &Streams,
     s: State,
     c: Numbered,
     a: u64,
@@ -108,18 +111,19 @@ fn do_look(
     tickets: &mut [u64],
 ) -> State {
     match c {
-        Numbered::At => looking::at(s, a, nodes, colours),
-        Numbered::Exact => looking::exact(s, a, b, nodes, colours),
-        Numbered::Ticket => tickets::take(s, a, tickets),
-        Numbered::Point => apart::point(s, a, nodes, colours),
+        Numbered::At => looking::at(streams, s, a, nodes, colours),
+        Numbered::Exact => looking::exact(streams, s, a, b, nodes, colours),
+        Numbered::Ticket => tickets::take(streams, s, a, tickets),
+        Numbered::Point => apart::point(streams, s, a, nodes, colours),
         _ => {
-            tickets::read(s, a, tickets, nodes, colours);
+            tickets::read(streams, s, a, tickets, nodes, colours);
             s
         }
     }
 }
 
 fn do_numbered(
+    streams: &Streams,
     s: State,
     c: Numbered,
     list: &[u64],
@@ -136,41 +140,42 @@ fn do_numbered(
         value: number(list, 2),
     };
     match c {
-        Numbered::Build => changes::build(s, list, nodes, colours, was),
-        Numbered::Insert => changes::insert(s, e, nodes, colours, was),
-        Numbered::Remove => changes::remove(s, a, nodes, colours, was),
-        Numbered::Renumber => tidying::renumber(s, list, nodes, colours, was),
-        Numbered::Fit => apart::fit(s, e, nodes, colours, was),
-        _ => do_look(s, c, a, b, nodes, colours, tickets),
+        Numbered::Build => changes::build(streams, s, list, nodes, colours, was),
+        Numbered::Insert => changes::insert(streams, s, e, nodes, colours, was),
+        Numbered::Remove => changes::remove(streams, s, a, nodes, colours, was),
+        Numbered::Renumber => tidying::renumber(streams, s, list, nodes, colours, was),
+        Numbered::Fit => apart::fit(streams, s, e, nodes, colours, was),
+        _ => do_look(streams, s, c, a, b, nodes, colours, tickets),
     }
 }
 
-fn misused(c: Numbered) {
+fn misused(streams: &Streams, c: Numbered) {
     match c {
-        Numbered::Build => help::say_usage(0),
-        Numbered::Insert => help::say_usage(1),
-        Numbered::Remove => help::say_usage(2),
-        Numbered::At => help::say_usage(3),
-        Numbered::Exact => help::say_usage(4),
-        Numbered::Ticket => help::say_usage(5),
-        Numbered::Read => help::say_usage(6),
-        Numbered::Renumber => help::say_usage(7),
-        Numbered::Point => help::say_usage(8),
-        Numbered::Fit => help::say_usage(9),
+        Numbered::Build => help::say_usage(streams, 0),
+        Numbered::Insert => help::say_usage(streams, 1),
+        Numbered::Remove => help::say_usage(streams, 2),
+        Numbered::At => help::say_usage(streams, 3),
+        Numbered::Exact => help::say_usage(streams, 4),
+        Numbered::Ticket => help::say_usage(streams, 5),
+        Numbered::Read => help::say_usage(streams, 6),
+        Numbered::Renumber => help::say_usage(streams, 7),
+        Numbered::Point => help::say_usage(streams, 8),
+        Numbered::Fit => help::say_usage(streams, 9),
     }
 }
 
 // Says what is to be said of a line that changes nothing.
-fn unknown(c: Command) {
+fn unknown(streams: &Streams, c: Command) {
     match c {
-        Command::Unknown => help::say_unknown(),
-        Command::MisusedRanged(_) => help::say_usage(10),
-        Command::MisusedNumbered(n) => misused(n),
+        Command::Unknown => help::say_unknown(streams),
+        Command::MisusedRanged(_) => help::say_usage(streams, 10),
+        Command::MisusedNumbered(n) => misused(streams, n),
         _ => {}
     }
 }
 
 fn answer(
+    streams: &Streams,
     s: State,
     c: Command,
     numbers: &[u64],
@@ -181,14 +186,14 @@ fn answer(
     tickets: &mut [u64],
 ) -> State {
     match c {
-        Command::Bare(b) => do_bare(s, b, nodes, colours, was, image),
-        Command::Ranged(r, range) => do_ranged(s, r, range, nodes, colours, was),
+        Command::Bare(b) => do_bare(streams, s, b, nodes, colours, was, image),
+        Command::Ranged(r, range) => do_ranged(streams, s, r, range, nodes, colours, was),
         Command::Numbered(n, count) => {
             let k = least(count, numbers.len());
-            do_numbered(s, n, &numbers[..k], nodes, colours, was, tickets)
+            do_numbered(streams, s, n, &numbers[..k], nodes, colours, was, tickets)
         }
         _ => {
-            unknown(c);
+            unknown(streams, c);
             s
         }
     }
@@ -205,39 +210,35 @@ fn is_quit_name(c: Bare) -> bool {
     if let Bare::Quit = c { true } else { false }
 }
 
-// Whether standard output still takes something. A failed write has closed it (lines::output). If
-// it takes not even nothing, it is closed here, so that the end of the program reports it.
-fn is_open() -> bool {
-    if 0 <= libc::write(STDOUT_FILENO, &[]) {
-        return true;
-    }
-    libc::close(STDOUT_FILENO);
-    false
+// Whether standard output still takes something. After a failed write it takes nothing more
+// (lines::streams), and the end of the program reports it.
+fn is_open(streams: &Streams) -> bool {
+    streams.is_open()
 }
 
 // Whether somebody types, and sees the answers.
-fn is_typed_to() -> bool {
-    (libc::isatty(STDIN_FILENO) == 1) & (libc::isatty(STDOUT_FILENO) == 1)
+fn is_typed_to(streams: &Streams) -> bool {
+    streams.is_typed_to()
 }
 
 // Says how to begin, if somebody types.
-fn greet() {
-    if is_typed_to() {
-        help::say_greeting();
+fn greet(streams: &Streams) {
+    if is_typed_to(streams) {
+        help::say_greeting(streams);
     }
 }
 
 // Asks for a line, if somebody types.
-fn prompt() {
-    if is_typed_to() {
-        output::send(b"> ");
+fn prompt(streams: &Streams) {
+    if is_typed_to(streams) {
+        output::send(streams, b"> ");
     }
 }
 
 // Ends the line of the last prompt, if the input ended there.
-fn leave(last: bool) {
-    if last & is_typed_to() {
-        output::send(b"\n");
+fn leave(streams: &Streams, last: bool) {
+    if last & is_typed_to(streams) {
+        output::send(streams, b"\n");
     }
 }
 
@@ -267,6 +268,7 @@ struct Round {
 
 // Answers a line that was read.
 fn respond(
+    streams: &Streams,
     s: State,
     got: input::Line,
     line: &[u8],
@@ -278,19 +280,20 @@ fn respond(
     tickets: &mut [u64],
 ) -> Round {
     let c = asked_by(got, line, numbers);
-    let state = answer(s, c, numbers, nodes, colours, was, image, tickets);
-    leave(got.last);
+    let state = answer(streams, s, c, numbers, nodes, colours, was, image, tickets);
+    leave(streams, got.last);
     Round {
         state,
         at: got.at,
         end: got.end,
-        stop: got.last | is_quit(c) | !is_open(),
+        stop: got.last | is_quit(c) | !is_open(streams),
         failed: got.failed,
     }
 }
 
 // Reads a line and answers it.
 fn one_round(
+    streams: &Streams,
     s: State,
     place: Place,
     input: &mut [u8],
@@ -302,15 +305,18 @@ fn one_round(
     image: &mut [u8],
     tickets: &mut [u64],
 ) -> Round {
-    prompt();
-    let got = input::read(input, place, line);
-    respond(s, got, line, numbers, nodes, colours, was, image, tickets)
+    prompt(streams);
+    let got = input::read(streams, input, place, line);
+    respond(
+        streams, s, got, line, numbers, nodes, colours, was, image, tickets,
+    )
 }
 
 // Answers line after line to the end of the input, to `quit`, or until a read or a write fails.
 // Returns whether a read failed. The loop is bounded by 2^64 rounds, so that the proof can show
 // that it ends.
 fn session(
+    streams: &Streams,
     input: &mut [u8],
     line: &mut [u8],
     numbers: &mut [u64],
@@ -326,7 +332,7 @@ fn session(
     while 0 < turns {
         turns -= 1;
         let t = one_round(
-            s, place, input, line, numbers, nodes, colours, was, image, tickets,
+            streams, s, place, input, line, numbers, nodes, colours, was, image, tickets,
         );
         if t.stop {
             return t.failed;
@@ -340,7 +346,7 @@ fn session(
     false
 }
 
-fn talk_with(name: &[u8], line: &mut [u8], numbers: &mut [u64]) {
+fn talk_with(streams: &Streams, name: &[u8], line: &mut [u8], numbers: &mut [u64]) {
     let mut input = io::buffer();
     let mut nodes = memory::node_space();
     let mut colours = memory::colour_space();
@@ -348,6 +354,7 @@ fn talk_with(name: &[u8], line: &mut [u8], numbers: &mut [u64]) {
     let mut image = memory::image_space();
     let mut tickets = memory::ticket_space();
     if session(
+        streams,
         &mut input,
         line,
         numbers,
@@ -357,16 +364,17 @@ fn talk_with(name: &[u8], line: &mut [u8], numbers: &mut [u64]) {
         &mut image,
         &mut tickets,
     ) {
-        output::complain(name, b"read");
+        output::complain(streams, name, b"read");
     }
 }
 
 // Answers the lines of standard input on standard output. A failed read or write is reported on
 // standard error, after the name of the program.
-pub fn talk(name: &[u8]) {
+pub fn talk(rt: &HostRuntime, name: &[u8]) {
+    let streams = Streams::new(rt);
     let mut line = memory::line_space();
     let mut numbers = memory::number_space();
-    greet();
-    talk_with(name, &mut line, &mut numbers);
-    output::close(name);
+    greet(&streams);
+    talk_with(&streams, name, &mut line, &mut numbers);
+    output::close(&streams, name);
 }

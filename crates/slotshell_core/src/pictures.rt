@@ -9,6 +9,7 @@ use crate::order::in_order;
 use crate::state::State;
 use iset::Map;
 use iset::save::Written;
+use lines::streams::Streams;
 use slotshell_draw::Head;
 use slotshell_draw::dot::say_dot;
 use slotshell_draw::lists::slot_space;
@@ -36,22 +37,29 @@ pub(crate) fn head_of(m: Map) -> Head {
     }
 }
 
-fn draw(s: State, c: Bare, image: &[u8], was: &[u64], order: &[u64]) {
+fn draw(streams: &Streams, s: State, c: Bare, image: &[u8], was: &[u64], order: &[u64]) {
     let m = s.map;
     let marks = s.marks;
     match c {
-        Bare::Tree => say_tree(image, head_of(m), was, marks, order),
-        Bare::Svg => say_svg(image, head_of(m), was, marks, order),
-        Bare::Dot => say_dot(image, m.count, was, marks),
-        _ => say_table(image, m.count),
+        Bare::Tree => say_tree(streams, image, head_of(m), was, marks, order),
+        Bare::Svg => say_svg(streams, image, head_of(m), was, marks, order),
+        Bare::Dot => say_dot(streams, image, m.count, was, marks),
+        _ => say_table(streams, image, m.count),
     }
 }
 
-pub(crate) fn show(s: State, c: Bare, nodes: &[u64], colours: &[u8], was: &[u64]) {
+pub(crate) fn show(
+    streams: &Streams,
+    s: State,
+    c: Bare,
+    nodes: &[u64],
+    colours: &[u8],
+    was: &[u64],
+) {
     let m = s.map;
     let mut image = image_space();
     let mut order = slot_space();
     let bytes = image_of(m, nodes, colours, &mut image);
     let n = in_order(m, nodes, colours, &mut order);
-    draw(s, c, &image[..bytes], was, &order[..n]);
+    draw(streams, s, c, &image[..bytes], was, &order[..n]);
 }

@@ -1,5 +1,6 @@
 // What stays from line to line.
 use iset::{Interval, Map, Query};
+use lines::streams::Streams;
 use slotshell_draw::marks::Marks;
 use slotshell_text::refusal::say_refused;
 use words::ix::U;
@@ -15,8 +16,8 @@ pub struct State {
 }
 
 // Says a refusal, which changes nothing. The slot belongs to the words of some refusals.
-pub(crate) fn refused(s: State, number: u64, slot: u64) -> State {
-    say_refused(number, slot, 0);
+pub(crate) fn refused(streams: &Streams, s: State, number: u64, slot: u64) -> State {
+    say_refused(streams, number, slot, 0);
     s
 }
 

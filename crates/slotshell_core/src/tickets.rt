@@ -4,6 +4,7 @@ use crate::number;
 use crate::state::State;
 use iset::Entry;
 use iset::ticket::{Reading, Ticket};
+use lines::streams::Streams;
 use slotshell_say::say;
 use slotshell_text::refusal::say_refused;
 
@@ -18,15 +19,16 @@ fn keep(tickets: &mut [u64], n: usize, t: Ticket) -> usize {
     }
 }
 
-pub(crate) fn take(s: State, slot: u64, tickets: &mut [u64]) -> State {
+pub(crate) fn take(streams: &Streams, s: State, slot: u64, tickets: &mut [u64]) -> State {
     let m = s.map;
     let t = m.ticket(slot);
     let n = keep(tickets, s.tickets, t);
     if n == s.tickets {
-        say_refused(1, 0, 0);
+        say_refused(streams, 1, 0, 0);
         return s;
     }
     say(
+        streams,
         b"ticket %: slot % at version %\n",
         &[n as u64, slot, t.version as u64],
     );
@@ -52,45 +54,57 @@ fn ticket_at(tickets: &[u64], k: usize) -> Ticket {
     }
 }
 
-fn say_reading(number: u64, t: Ticket, e: Entry) {
+fn say_reading(streams: &Streams, number: u64, t: Ticket, e: Entry) {
     say(
+        streams,
         b"ticket %: slot %  [%,%) %\n",
         &[number, t.slot, e.start, e.end, e.value],
     );
 }
 
 // Says a refusal of a ticket: its slot, or the two versions.
-fn say_no(why: u64, t: Ticket, now: u32) {
+fn say_no(streams: &Streams, why: u64, t: Ticket, now: u32) {
     if why == 11 {
-        say_refused(why, t.version as u64, now as u64);
+        say_refused(streams, why, t.version as u64, now as u64);
     } else {
-        say_refused(why, t.slot, 0);
+        say_refused(streams, why, t.slot, 0);
     }
 }
 
-fn read_ticket(s: State, number: u64, t: Ticket, nodes: &[u64], colours: &[u8]) {
+fn read_ticket(streams: &Streams, s: State, number: u64, t: Ticket, nodes: &[u64], colours: &[u8]) {
     let m = s.map;
     match m.read(nodes, colours, t) {
-        Reading::Done(e) => say_reading(number, t, e),
-        Reading::Refused(why) => say_no(why.number(), t, m.version),
+        Reading::Done(e) => say_reading(streams, number, t, e),
+        Reading::Refused(why) => say_no(streams, why.number(), t, m.version),
     }
 }
 
-fn say_missing(number: u64, taken: u64) {
-    say(b"there is no ticket %; % were taken\n", &[number, taken]);
+fn say_missing(streams: &Streams, number: u64, taken: u64) {
+    say(
+        streams,
+        b"there is no ticket %; % were taken\n",
+        &[number, taken],
+    );
 }
 
 // Reads through the ticket of a number, counted from 1.
-pub(crate) fn read(s: State, number: u64, tickets: &[u64], nodes: &[u64], colours: &[u8]) {
+pub(crate) fn read(
+    streams: &Streams,
+    s: State,
+    number: u64,
+    tickets: &[u64],
+    nodes: &[u64],
+    colours: &[u8],
+) {
     let taken = s.tickets as u64;
     if number == 0 {
-        say_missing(number, taken);
+        say_missing(streams, number, taken);
         return;
     }
     if taken < number {
-        say_missing(number, taken);
+        say_missing(streams, number, taken);
         return;
     }
     let t = ticket_at(tickets, (number - 1) as usize);
-    read_ticket(s, number, t, nodes, colours);
+    read_ticket(streams, s, number, t, nodes, colours);
 }

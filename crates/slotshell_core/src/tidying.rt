@@ -4,30 +4,32 @@ use crate::state::{State, refused};
 use crate::{entries, moved};
 use iset::tidy::Renumbering;
 use iset::{Checked, Map};
+use lines::streams::Streams;
 use slotshell_draw::lists::slot_space;
 use slotshell_say::say;
 use slotshell_text::refusal::say_refused;
 use words::ix::U;
 use words::numbers::least;
 
-fn say_plan(m: Map, nodes: &[u64], colours: &[u8], plan: &[u64]) {
+fn say_plan(streams: &Streams, m: Map, nodes: &[u64], colours: &[u8], plan: &[u64]) {
     let mut order = slot_space();
     in_order(m, nodes, colours, &mut order);
-    entries::say_plan(m, nodes, colours, plan, &order);
+    entries::say_plan(streams, m, nodes, colours, plan, &order);
 }
 
 // Shows the plan that `propose` makes, and changes nothing.
-pub(crate) fn plan(m: Map, nodes: &[u64], colours: &[u8]) {
+pub(crate) fn plan(streams: &Streams, m: Map, nodes: &[u64], colours: &[u8]) {
     let mut plan = slot_space();
     match m.propose(nodes, colours, &mut plan) {
-        Checked::Sound => say_plan(m, nodes, colours, &plan),
-        Checked::Refused(why) => say_refused(why.number(), 0, 0),
+        Checked::Sound => say_plan(streams, m, nodes, colours, &plan),
+        Checked::Refused(why) => say_refused(streams, why.number(), 0, 0),
     }
 }
 
 // Says which entries moved. A renumbering keeps the tree order, and `before` has the slots in that
 // order before it.
 fn renumbered(
+    streams: &Streams,
     s: State,
     map: Map,
     before: &[u64],
@@ -39,12 +41,13 @@ fn renumbered(
     let mut after = slot_space();
     in_order(map, nodes, colours, &mut after);
     moved::put_moves(was, before, &none, &after);
-    let any = entries::say_moves(map, nodes, colours, was, &after);
-    say(b"version %\n", &[map.version as u64]);
+    let any = entries::say_moves(streams, map, nodes, colours, was, &after);
+    say(streams, b"version %\n", &[map.version as u64]);
     s.changed(map, any, U)
 }
 
 fn renumber_from(
+    streams: &Streams,
     s: State,
     plan: &[u64],
     before: &[u64],
@@ -54,13 +57,14 @@ fn renumber_from(
 ) -> State {
     let m = s.map;
     match m.renumber(nodes, colours, plan) {
-        Renumbering::Done(map) => renumbered(s, map, before, nodes, colours, was),
-        Renumbering::Refused(why) => refused(s, why.number(), 0),
+        Renumbering::Done(map) => renumbered(streams, s, map, before, nodes, colours, was),
+        Renumbering::Refused(why) => refused(streams, s, why.number(), 0),
     }
 }
 
 // Renumbers by a plan: at the place of each slot its new one.
 pub(crate) fn renumber(
+    streams: &Streams,
     s: State,
     plan: &[u64],
     nodes: &mut [u64],
@@ -70,18 +74,24 @@ pub(crate) fn renumber(
     let m = s.map;
     let mut before = slot_space();
     in_order(m, nodes, colours, &mut before);
-    renumber_from(s, plan, &before, nodes, colours, was)
+    renumber_from(streams, s, plan, &before, nodes, colours, was)
 }
 
 // Renumbers by the plan that `propose` makes.
-pub(crate) fn tidy(s: State, nodes: &mut [u64], colours: &mut [u8], was: &mut [u64]) -> State {
+pub(crate) fn tidy(
+    streams: &Streams,
+    s: State,
+    nodes: &mut [u64],
+    colours: &mut [u8],
+    was: &mut [u64],
+) -> State {
     let m = s.map;
     let mut plan = slot_space();
     match m.propose(nodes, colours, &mut plan) {
         Checked::Sound => {
             let n = least(m.count as usize, plan.len());
-            renumber(s, &plan[..n], nodes, colours, was)
+            renumber(streams, s, &plan[..n], nodes, colours, was)
         }
-        Checked::Refused(why) => refused(s, why.number(), 0),
+        Checked::Refused(why) => refused(streams, s, why.number(), 0),
     }
 }

@@ -7,6 +7,7 @@ use crate::lists::slot_space;
 use crate::marks::{Marks, Note};
 use crate::measures::{longest_address, longest_value};
 use crate::numbers::{digits, if_there, minus, plus, times};
+use lines::streams::Streams;
 use slotshell_text::outline;
 use slotshell_view::nodes::{child, entry_at, height_of, hull_at, is_red, parent};
 
@@ -29,69 +30,70 @@ fn turns(image: &[u8], count: u64, upper: u64, lower: u64) -> bool {
 }
 
 // Writes the lines of upper nodes that go past a node.
-fn say_bars(image: &[u8], count: u64, slot: u64, depth: u64) {
+fn say_bars(streams: &Streams, image: &[u8], count: u64, slot: u64, depth: u64) {
     let mut left = depth;
     while 1 < left {
         left -= 1;
         let upper = above(image, count, slot, left);
         let lower = above(image, count, slot, left - 1);
-        outline::say_bar(turns(image, count, upper, lower));
+        outline::say_bar(streams, turns(image, count, upper, lower));
     }
 }
 
 // Writes what is on the left of a node.
-fn say_way(image: &[u8], count: u64, slot: u64, depth: u64) {
-    say_bars(image, count, slot, depth);
+fn say_way(streams: &Streams, image: &[u8], count: u64, slot: u64, depth: u64) {
+    say_bars(streams, image, count, slot, depth);
     if 0 < depth {
-        outline::say_corner(is_left(image, count, slot));
+        outline::say_corner(streams, is_left(image, count, slot));
     }
 }
 
 // Writes what is on the left of a node's second line: the lines to its parent and to its right
 // child, if they go down from here.
-fn say_way_below(image: &[u8], count: u64, slot: u64, depth: u64) {
-    say_bars(image, count, slot, depth);
+fn say_way_below(streams: &Streams, image: &[u8], count: u64, slot: u64, depth: u64) {
+    say_bars(streams, image, count, slot, depth);
     if 0 < depth {
-        outline::say_bar(is_left(image, count, slot));
+        outline::say_bar(streams, is_left(image, count, slot));
     }
-    outline::say_bar(child(image, count, slot, false) < count);
+    outline::say_bar(streams, child(image, count, slot, false) < count);
 }
 
-fn say_marks(note: Note) {
+fn say_marks(streams: &Streams, note: Note) {
     if note.is_changed() {
-        outline::say_change(note.old, note.is_new);
+        outline::say_change(streams, note.old, note.is_new);
     }
     if note.entered {
-        outline::say_entered();
+        outline::say_entered(streams);
     }
-    outline::say_end();
+    outline::say_end(streams);
 }
 
-fn say_entry(image: &[u8], count: u64, slot: u64) {
+fn say_entry(streams: &Streams, image: &[u8], count: u64, slot: u64) {
     let e = entry_at(image, count, slot);
-    outline::say_slot(slot, is_red(image, count, slot));
-    outline::say_entry(e.start, e.end, e.value);
+    outline::say_slot(streams, slot, is_red(image, count, slot));
+    outline::say_entry(streams, e.start, e.end, e.value);
 }
 
 // Begins a second line, if a node takes two.
-fn say_turn(long: bool, image: &[u8], count: u64, slot: u64, depth: u64) {
+fn say_turn(streams: &Streams, long: bool, image: &[u8], count: u64, slot: u64, depth: u64) {
     if long {
-        outline::say_end();
-        say_way_below(image, count, slot, depth);
+        outline::say_end(streams);
+        say_way_below(streams, image, count, slot, depth);
     }
 }
 
-fn say_node(long: bool, image: &[u8], count: u64, note: Note, slot: u64) {
+fn say_node(streams: &Streams, long: bool, image: &[u8], count: u64, note: Note, slot: u64) {
     let depth = depth(image, count, slot);
     let hull = hull_at(image, count, slot);
-    say_way(image, count, slot, depth);
-    say_entry(image, count, slot);
-    say_turn(long, image, count, slot, depth);
-    outline::say_hull(hull.start, hull.end);
-    say_marks(note);
+    say_way(streams, image, count, slot, depth);
+    say_entry(streams, image, count, slot);
+    say_turn(streams, long, image, count, slot, depth);
+    outline::say_hull(streams, hull.start, hull.end);
+    say_marks(streams, note);
 }
 
 fn say_rows(
+    streams: &Streams,
     long: bool,
     image: &[u8],
     count: u64,
@@ -104,7 +106,14 @@ fn say_rows(
     while i < order.len() {
         let slot = order[i];
         i += 1;
-        say_node(long, image, count, marks.at(was, entered, slot), slot);
+        say_node(
+            streams,
+            long,
+            image,
+            count,
+            marks.at(was, entered, slot),
+            slot,
+        );
     }
 }
 
@@ -130,17 +139,26 @@ fn is_long(image: &[u8], head: Head, marks: Marks) -> bool {
     WIDEST < plus(plus(way, node), marks_width(marks, slot))
 }
 
-fn say_if_empty(count: u64) {
+fn say_if_empty(streams: &Streams, count: u64) {
     if count == 0 {
-        outline::say_empty();
+        outline::say_empty(streams);
     }
 }
 
 // Writes the tree in text, with marks. The list `order` has the slots in tree order.
-pub fn say_tree(image: &[u8], head: Head, was: &[u64], marks: Marks, order: &[u64]) {
+pub fn say_tree(
+    streams: &Streams,
+    image: &[u8],
+    head: Head,
+    was: &[u64],
+    marks: Marks,
+    order: &[u64],
+) {
     let mut entered = slot_space();
     marks.put_entered(image, head.count, &mut entered);
-    say_if_empty(head.count);
+    say_if_empty(streams, head.count);
     let long = is_long(image, head, marks);
-    say_rows(long, image, head.count, was, marks, &entered, order);
+    say_rows(
+        streams, long, image, head.count, was, marks, &entered, order,
+    );
 }

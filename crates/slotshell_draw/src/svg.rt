@@ -7,6 +7,7 @@ use crate::lists::{place_in, slot_space};
 use crate::marks::{Marks, Note};
 use crate::measures::{longest_address, longest_value};
 use crate::numbers::{if_there, minus, plus, times};
+use lines::streams::Streams;
 use slotshell_text::svg;
 use slotshell_view::nodes::{entry_at, height_of, hull_at, is_red, parent};
 use words::interval::{Interval, larger};
@@ -80,32 +81,33 @@ fn middle(s: Sheet, order: &[u64], slot: u64) -> u64 {
 }
 
 // Writes what the borders mean, below the rows.
-fn say_legend(s: Sheet, bottom: u64) {
+fn say_legend(streams: &Streams, s: Sheet, bottom: u64) {
     if s.changed {
-        svg::say_thick_means(bottom);
+        svg::say_thick_means(streams, bottom);
     }
     if s.looked {
-        svg::say_dashed_means(plus(bottom, if_there(s.changed, 18)));
+        svg::say_dashed_means(streams, plus(bottom, if_there(s.changed, 18)));
     }
 }
 
 // The line from a slot to its parent.
-fn say_edge(s: Sheet, image: &[u8], count: u64, order: &[u64], slot: u64) {
+fn say_edge(streams: &Streams, s: Sheet, image: &[u8], count: u64, order: &[u64], slot: u64) {
     let up = parent(image, count, slot);
     if count <= up {
         return;
     }
     let x = middle(s, order, slot);
     let y = down(s, depth(image, count, slot));
-    svg::say_edge(middle(s, order, up), minus(y, GAP), x, y);
+    svg::say_edge(streams, middle(s, order, up), minus(y, GAP), x, y);
 }
 
-fn say_borders(s: Sheet, left: u64, y: u64, note: Note) {
+fn say_borders(streams: &Streams, s: Sheet, left: u64, y: u64, note: Note) {
     if note.is_changed() {
-        svg::say_thick(left, y, s.width, s.height);
+        svg::say_thick(streams, left, y, s.width, s.height);
     }
     if note.entered {
         svg::say_dashed(
+            streams,
             minus(left, 7),
             minus(y, 7),
             plus(s.width, 14),
@@ -115,64 +117,78 @@ fn say_borders(s: Sheet, left: u64, y: u64, note: Note) {
 }
 
 // Writes a range in one line or two, and returns the height of the next line.
-fn say_range(long: bool, x: u64, y: u64, start: u64, end: u64) -> u64 {
+fn say_range(streams: &Streams, long: bool, x: u64, y: u64, start: u64, end: u64) -> u64 {
     if long {
-        svg::say_long_range(x, y, plus(y, 16), start, end);
+        svg::say_long_range(streams, x, y, plus(y, 16), start, end);
         plus(y, 32)
     } else {
-        svg::say_range(x, y, start, end);
+        svg::say_range(streams, x, y, start, end);
         plus(y, 16)
     }
 }
 
-fn say_hull(long: bool, x: u64, y: u64, hull: Interval) -> u64 {
+fn say_hull(streams: &Streams, long: bool, x: u64, y: u64, hull: Interval) -> u64 {
     if long {
-        svg::say_long_hull(x, y, plus(y, 13), hull.start, hull.end);
+        svg::say_long_hull(streams, x, y, plus(y, 13), hull.start, hull.end);
         plus(y, 27)
     } else {
-        svg::say_hull(x, y, hull.start, hull.end);
+        svg::say_hull(streams, x, y, hull.start, hull.end);
         plus(y, 14)
     }
 }
 
 // Writes the lines about the last change and the last lookup.
-fn say_note(x: u64, y: u64, note: Note) {
+fn say_note(streams: &Streams, x: u64, y: u64, note: Note) {
     if note.is_changed() {
-        svg::say_change(x, y, note.old, note.is_new);
+        svg::say_change(streams, x, y, note.old, note.is_new);
     }
     if note.entered {
-        svg::say_entered(x, plus(y, if_there(note.is_changed(), 14)));
+        svg::say_entered(streams, x, plus(y, if_there(note.is_changed(), 14)));
     }
 }
 
 // Writes an entry's lines, and returns the height of the next line.
-fn say_entry(long: bool, x: u64, y: u64, e: Entry) -> u64 {
-    let value = say_range(long, x, y, e.start, e.end);
-    svg::say_value(x, value, e.value);
+fn say_entry(streams: &Streams, long: bool, x: u64, y: u64, e: Entry) -> u64 {
+    let value = say_range(streams, long, x, y, e.start, e.end);
+    svg::say_value(streams, x, value, e.value);
     plus(value, 15)
 }
 
 // Writes the box of a slot, with its middle at x.
-fn say_node(s: Sheet, image: &[u8], count: u64, note: Note, x: u64, slot: u64) {
+fn say_node(streams: &Streams, s: Sheet, image: &[u8], count: u64, note: Note, x: u64, slot: u64) {
     let y = down(s, depth(image, count, slot));
     let left = minus(x, s.width / 2);
-    svg::say_box(is_red(image, count, slot), left, y, s.width, s.height);
-    say_borders(s, left, y, note);
-    svg::say_slot(x, plus(y, 18), slot);
-    let hull = say_entry(s.long, x, plus(y, 34), entry_at(image, count, slot));
-    let after = say_hull(s.long, x, hull, hull_at(image, count, slot));
-    say_note(x, after, note);
+    svg::say_box(
+        streams,
+        is_red(image, count, slot),
+        left,
+        y,
+        s.width,
+        s.height,
+    );
+    say_borders(streams, s, left, y, note);
+    svg::say_slot(streams, x, plus(y, 18), slot);
+    let hull = say_entry(
+        streams,
+        s.long,
+        x,
+        plus(y, 34),
+        entry_at(image, count, slot),
+    );
+    let after = say_hull(streams, s.long, x, hull, hull_at(image, count, slot));
+    say_note(streams, x, after, note);
 }
 
-fn say_edges(s: Sheet, image: &[u8], count: u64, order: &[u64]) {
+fn say_edges(streams: &Streams, s: Sheet, image: &[u8], count: u64, order: &[u64]) {
     let mut slot = 0;
     while slot < count {
-        say_edge(s, image, count, order, slot);
+        say_edge(streams, s, image, count, order, slot);
         slot += 1;
     }
 }
 
 fn say_nodes(
+    streams: &Streams,
     s: Sheet,
     image: &[u8],
     count: u64,
@@ -184,7 +200,7 @@ fn say_nodes(
     let mut slot = 0;
     while slot < count {
         let note = marks.at(was, entered, slot);
-        say_node(s, image, count, note, middle(s, order, slot), slot);
+        say_node(streams, s, image, count, note, middle(s, order, slot), slot);
         slot += 1;
     }
 }
@@ -197,9 +213,10 @@ fn width_of(s: Sheet, n: u64) -> u64 {
     )
 }
 
-fn say_head(s: Sheet, head: Head, n: u64, bottom: u64) {
+fn say_head(streams: &Streams, s: Sheet, head: Head, n: u64, bottom: u64) {
     let notes = plus(if_there(s.changed, 18), if_there(s.looked, 18));
     svg::say_head(
+        streams,
         width_of(s, n),
         plus(bottom, notes),
         head.count,
@@ -209,14 +226,21 @@ fn say_head(s: Sheet, head: Head, n: u64, bottom: u64) {
 }
 
 // Writes the tree as an SVG picture, with marks. The list `order` has the slots in tree order.
-pub fn say_svg(image: &[u8], head: Head, was: &[u64], marks: Marks, order: &[u64]) {
+pub fn say_svg(
+    streams: &Streams,
+    image: &[u8],
+    head: Head,
+    was: &[u64],
+    marks: Marks,
+    order: &[u64],
+) {
     let mut entered = slot_space();
     marks.put_entered(image, head.count, &mut entered);
     let s = sheet_of(image, head.count, marks);
     let bottom = down(s, height_of(image, head.count, head.root));
-    say_head(s, head, order.len() as u64, bottom);
-    say_edges(s, image, head.count, order);
-    say_nodes(s, image, head.count, was, marks, &entered, order);
-    say_legend(s, bottom);
-    svg::say_end();
+    say_head(streams, s, head, order.len() as u64, bottom);
+    say_edges(streams, s, image, head.count, order);
+    say_nodes(streams, s, image, head.count, was, marks, &entered, order);
+    say_legend(streams, s, bottom);
+    svg::say_end(streams);
 }

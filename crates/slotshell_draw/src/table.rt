@@ -1,5 +1,6 @@
 // A table of the slots.
 use crate::numbers::{digits, minus, plus};
+use lines::streams::Streams;
 use slotshell_text::table;
 use slotshell_view::nodes::{child, entry_at, hull_at, is_red, parent};
 use words::interval::{Interval, larger};
@@ -49,16 +50,17 @@ fn blanks(column: u64, width: u64) -> u64 {
     minus(plus(column, 1), width)
 }
 
-fn say_cell(column: u64, x: u64) {
-    table::say_cell(blanks(column, digits(x)), x);
+fn say_cell(streams: &Streams, column: u64, x: u64) {
+    table::say_cell(streams, blanks(column, digits(x)), x);
 }
 
-fn say_link(column: u64, x: u64) {
-    table::say_link(blanks(column, digits(x)), column, x);
+fn say_link(streams: &Streams, column: u64, x: u64) {
+    table::say_link(streams, blanks(column, digits(x)), column, x);
 }
 
-fn say_head(w: Widths) {
+fn say_head(streams: &Streams, w: Widths) {
     table::say_head(
+        streams,
         minus(w.start, 4),
         minus(w.end, 2),
         minus(w.value, 4),
@@ -66,31 +68,36 @@ fn say_head(w: Widths) {
     );
 }
 
-fn say_hull(column: u64, hull: Interval) {
-    table::say_hull(blanks(column, hull_width(hull)), hull.start, hull.end);
+fn say_hull(streams: &Streams, column: u64, hull: Interval) {
+    table::say_hull(
+        streams,
+        blanks(column, hull_width(hull)),
+        hull.start,
+        hull.end,
+    );
 }
 
-fn say_row(w: Widths, image: &[u8], count: u64, slot: u64) {
+fn say_row(streams: &Streams, w: Widths, image: &[u8], count: u64, slot: u64) {
     let e = entry_at(image, count, slot);
-    table::say_cell(minus(4, digits(slot)), slot);
-    say_cell(w.start, e.start);
-    say_cell(w.end, e.end);
-    say_cell(w.value, e.value);
-    table::say_colour(is_red(image, count, slot));
-    say_hull(w.hull, hull_at(image, count, slot));
-    say_link(4, child(image, count, slot, true));
-    say_link(5, child(image, count, slot, false));
-    say_link(6, parent(image, count, slot));
-    table::say_end();
+    table::say_cell(streams, minus(4, digits(slot)), slot);
+    say_cell(streams, w.start, e.start);
+    say_cell(streams, w.end, e.end);
+    say_cell(streams, w.value, e.value);
+    table::say_colour(streams, is_red(image, count, slot));
+    say_hull(streams, w.hull, hull_at(image, count, slot));
+    say_link(streams, 4, child(image, count, slot, true));
+    say_link(streams, 5, child(image, count, slot, false));
+    say_link(streams, 6, parent(image, count, slot));
+    table::say_end(streams);
 }
 
 // Writes the table.
-pub fn say_table(image: &[u8], count: u64) {
+pub fn say_table(streams: &Streams, image: &[u8], count: u64) {
     let w = widths_of(image, count);
-    say_head(w);
+    say_head(streams, w);
     let mut slot = 0;
     while slot < count {
-        say_row(w, image, count, slot);
+        say_row(streams, w, image, count, slot);
         slot += 1;
     }
 }

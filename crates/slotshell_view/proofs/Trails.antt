@@ -15,7 +15,7 @@ use Rattle.iter.specs.declared.rules.Query.{Query}
 use Rattle.iter_laws.specs.Entered.{goes, entered}
 use Rattle.image_rule.specs.Stored.{child_in_lem}
 use Rattle.little.proofs.Numbers.{sets_append}
-use Rattle.slotshell_view.specs.View.{hull_in_lem, goes_in_lem, Trail, trail, noted, trail_below_lem, trail_beside_lem}
+use Rattle.slotshell_view.specs.View.{hull_in_lem, Trail, trail, noted, trail_below_lem, trail_beside_lem}
 use Rattle.slotshell_view.specs.Shown.{noticed}
 use Rattle.slotshell_view.proofs.Hulls.{Alike}
 use Rattle.slotshell_view.proofs.Turns.{entry_rule, turns_are}

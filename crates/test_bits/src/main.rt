@@ -5,6 +5,7 @@
 
 use bitvec::{Answer, BitVec};
 use lines::output;
+use lines::streams::Streams;
 use words::numbers::wide;
 use words::refusal::Refusal;
 
@@ -13,37 +14,37 @@ fn pattern() -> [u8; 3] {
     [165, 90, 15]
 }
 
-fn number(x: u64) {
-    output::send(b" ");
-    output::send_number(x);
+fn number(streams: &Streams, x: u64) {
+    output::send(streams, b" ");
+    output::send_number(streams, x);
 }
 
-fn bit(v: bool) {
+fn bit(streams: &Streams, v: bool) {
     if v {
-        number(1);
+        number(streams, 1);
     } else {
-        number(0);
+        number(streams, 0);
     }
 }
 
-fn finish(no: u64, v: bool, len: usize, bytes: &[u8]) {
-    output::send(b" :");
-    number(no);
-    bit(v);
-    number(len as u64);
-    output::send(b" @");
+fn finish(streams: &Streams, no: u64, v: bool, len: usize, bytes: &[u8]) {
+    output::send(streams, b" :");
+    number(streams, no);
+    bit(streams, v);
+    number(streams, len as u64);
+    output::send(streams, b" @");
     let mut j = 0;
     while j < bytes.len() {
-        number(wide(bytes[j]));
+        number(streams, wide(bytes[j]));
         j += 1;
     }
-    output::send(b"\n");
+    output::send(streams, b"\n");
 }
 
-fn show(a: Answer, given: usize, bytes: &[u8]) {
+fn show(streams: &Streams, a: Answer, given: usize, bytes: &[u8]) {
     match a {
-        Answer::Done(v, now) => finish(0, v, now.len, bytes),
-        Answer::Refused(why) => finish(why.number(), false, given, bytes),
+        Answer::Done(v, now) => finish(streams, 0, v, now.len, bytes),
+        Answer::Refused(why) => finish(streams, why.number(), false, given, bytes),
     }
 }
 
@@ -97,112 +98,113 @@ fn from_elem_of(bytes: &mut [u8], n: usize, len: usize, elem: bool) -> Answer {
     }
 }
 
-fn call(n: usize, name: &[u8], len: usize) {
-    output::send_number(n as u64);
-    output::send(name);
-    number(len as u64);
+fn call(streams: &Streams, n: usize, name: &[u8], len: usize) {
+    output::send_number(streams, n as u64);
+    output::send(streams, name);
+    number(streams, len as u64);
 }
 
-fn get(n: usize, len: usize, i: usize) {
+fn get(streams: &Streams, n: usize, len: usize, i: usize) {
     let bytes = pattern();
-    call(n, b" get", len);
-    number(i as u64);
+    call(streams, n, b" get", len);
+    number(streams, i as u64);
     let a = get_of(&bytes, n, BitVec { len }, i);
-    show(a, len, &bytes);
+    show(streams, a, len, &bytes);
 }
 
-fn set(n: usize, len: usize, i: usize, v: bool) {
+fn set(streams: &Streams, n: usize, len: usize, i: usize, v: bool) {
     let mut bytes = pattern();
-    call(n, b" set", len);
-    number(i as u64);
-    bit(v);
+    call(streams, n, b" set", len);
+    number(streams, i as u64);
+    bit(streams, v);
     let a = set_of(&mut bytes, n, BitVec { len }, i, v);
-    show(a, len, &bytes);
+    show(streams, a, len, &bytes);
 }
 
-fn push(n: usize, len: usize, v: bool) {
+fn push(streams: &Streams, n: usize, len: usize, v: bool) {
     let mut bytes = pattern();
-    call(n, b" push", len);
-    bit(v);
+    call(streams, n, b" push", len);
+    bit(streams, v);
     let a = push_of(&mut bytes, n, BitVec { len }, v);
-    show(a, len, &bytes);
+    show(streams, a, len, &bytes);
 }
 
-fn pop(n: usize, len: usize) {
+fn pop(streams: &Streams, n: usize, len: usize) {
     let bytes = pattern();
-    call(n, b" pop", len);
+    call(streams, n, b" pop", len);
     let a = pop_of(&bytes, n, BitVec { len });
-    show(a, len, &bytes);
+    show(streams, a, len, &bytes);
 }
 
-fn swap_remove(n: usize, len: usize, i: usize) {
+fn swap_remove(streams: &Streams, n: usize, len: usize, i: usize) {
     let mut bytes = pattern();
-    call(n, b" swap_remove", len);
-    number(i as u64);
+    call(streams, n, b" swap_remove", len);
+    number(streams, i as u64);
     let a = swap_remove_of(&mut bytes, n, BitVec { len }, i);
-    show(a, len, &bytes);
+    show(streams, a, len, &bytes);
 }
 
-fn from_elem(n: usize, len: usize, v: bool) {
+fn from_elem(streams: &Streams, n: usize, len: usize, v: bool) {
     let mut bytes = pattern();
-    call(n, b" from_elem", len);
-    bit(v);
+    call(streams, n, b" from_elem", len);
+    bit(streams, v);
     let a = from_elem_of(&mut bytes, n, len, v);
-    show(a, 0, &bytes);
+    show(streams, a, 0, &bytes);
 }
 
 // Reads every place of a vector of len bits in n bytes, and the one past the last.
-fn places(n: usize, len: usize) {
+fn places(streams: &Streams, n: usize, len: usize) {
     let mut i = 0;
     while i < len {
-        get(n, len, i);
+        get(streams, n, len, i);
         i += 1;
     }
-    get(n, len, len);
+    get(streams, n, len, len);
 }
 
 // Makes the other calls on a vector of len bits in n bytes, at its first bit, its last bit and the
 // place past the last.
-fn edges(n: usize, len: usize) {
-    push(n, len, false);
-    push(n, len, true);
-    pop(n, len);
+fn edges(streams: &Streams, n: usize, len: usize) {
+    push(streams, n, len, false);
+    push(streams, n, len, true);
+    pop(streams, n, len);
     if 0 < len {
-        set(n, len, len - 1, false);
-        set(n, len, len - 1, true);
-        swap_remove(n, len, 0);
-        swap_remove(n, len, len - 1);
+        set(streams, n, len, len - 1, false);
+        set(streams, n, len, len - 1, true);
+        swap_remove(streams, n, len, 0);
+        swap_remove(streams, n, len, len - 1);
     }
-    set(n, len, len, true);
-    swap_remove(n, len, len);
-    from_elem(n, len, false);
-    from_elem(n, len, true);
+    set(streams, n, len, len, true);
+    swap_remove(streams, n, len, len);
+    from_elem(streams, n, len, false);
+    from_elem(streams, n, len, true);
 }
 
-fn main() {
-    places(0, 0);
-    places(1, 1);
-    places(1, 7);
-    places(1, 8);
-    places(2, 9);
-    places(3, 24);
-    edges(0, 0);
-    edges(3, 0);
-    edges(1, 1);
-    edges(1, 7);
-    edges(1, 8);
-    edges(2, 9);
-    edges(2, 16);
-    edges(3, 24);
+fn main(rt: HostRuntime) {
+    let streams = Streams::new(&rt);
+    places(&streams, 0, 0);
+    places(&streams, 1, 1);
+    places(&streams, 1, 7);
+    places(&streams, 1, 8);
+    places(&streams, 2, 9);
+    places(&streams, 3, 24);
+    edges(&streams, 0, 0);
+    edges(&streams, 3, 0);
+    edges(&streams, 1, 1);
+    edges(&streams, 1, 7);
+    edges(&streams, 1, 8);
+    edges(&streams, 2, 9);
+    edges(&streams, 2, 16);
+    edges(&streams, 3, 24);
     // the length is above bytes × 8
-    edges(0, 1);
-    edges(1, 9);
-    edges(2, 17);
-    edges(3, 25);
-    edges(3, 18446744073709551615);
-    get(1, 9, 0);
-    get(3, 18446744073709551615, 0);
+    edges(&streams, 0, 1);
+    edges(&streams, 1, 9);
+    edges(&streams, 2, 17);
+    edges(&streams, 3, 25);
+    edges(&streams, 3, 18446744073709551615);
+    get(&streams, 1, 9, 0);
+    get(&streams, 3, 18446744073709551615, 0);
     // 10 ones fill two bytes, and the third byte is unchanged
-    from_elem(3, 10, true);
-    output::close(b"test_bits");
+    from_elem(&streams, 3, 10, true);
+    output::close(&streams, b"test_bits");
 }

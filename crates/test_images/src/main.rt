@@ -17,8 +17,9 @@ use image::judge::judge;
 use image::layout::{count_in, has_layout, image_length, root_in};
 use image::load::load;
 use image::write::write;
-use libc::STDIN_FILENO;
 use lines::output;
+use lines::streams::Streams;
+use lines::whole::read_all;
 use words::node::capacity;
 use words::numbers::{least, wide};
 
@@ -101,17 +102,17 @@ fn no_tally() -> Tally {
     }
 }
 
-fn show_tally(t: Tally) {
-    output::send(b" ");
-    output::send_number(t.layout);
-    output::send(b" ");
-    output::send_number(t.room);
-    output::send(b" ");
-    output::send_number(t.broken);
-    output::send(b" ");
-    output::send_number(t.same);
-    output::send(b" ");
-    output::send_number(t.other);
+fn show_tally(streams: &Streams, t: Tally) {
+    output::send(streams, b" ");
+    output::send_number(streams, t.layout);
+    output::send(streams, b" ");
+    output::send_number(streams, t.room);
+    output::send(streams, b" ");
+    output::send_number(streams, t.broken);
+    output::send(streams, b" ");
+    output::send_number(streams, t.same);
+    output::send(streams, b" ");
+    output::send_number(streams, t.other);
 }
 
 // Whether the bytes of an image are the first of `out`.
@@ -210,13 +211,13 @@ fn cuts(bytes: &[u8], n: usize) -> Tally
     t
 }
 
-fn show(bytes: &mut [u8], n: usize)
+fn show(streams: &Streams, bytes: &mut [u8], n: usize)
     requires { n < 4096 }
 {
-    output::send_number(n as u64);
-    show_tally(flips(bytes, n));
-    show_tally(cuts(bytes, n));
-    output::send(b"\n");
+    output::send_number(streams, n as u64);
+    show_tally(streams, flips(bytes, n));
+    show_tally(streams, cuts(bytes, n));
+    output::send(streams, b"\n");
 }
 
 // Returns the value of a hexadecimal digit, and 16 for any other byte.
@@ -288,40 +289,42 @@ fn decode(input: &[u8], at: usize, image: &mut [u8]) -> Line
 }
 
 // Decodes the line at a place, and damages its image. Returns the place after the line.
-fn line_at(input: &[u8], at: usize) -> usize
+fn line_at(streams: &Streams, input: &[u8], at: usize) -> usize
     requires { at < length input.now }
     ensures { (at < result) × (result ≤ length input.now + 1) }
 {
     let mut image = image_space();
     let line = decode(input, at, &mut image);
-    show(&mut image, line.bytes);
+    show(streams, &mut image, line.bytes);
     line.after
 }
 
-fn all_lines(input: &[u8]) {
+fn all_lines(streams: &Streams, input: &[u8]) {
     let mut at = 0;
     while at < input.len() {
-        at = line_at(input, at);
+        at = line_at(streams, input, at);
     }
 }
 
 // Whether the input has ended. After a failed read the next read fails too.
-fn is_read() -> bool {
+fn is_read(streams: &Streams) -> bool {
     let mut more = [0u8; 1];
-    libc::read(STDIN_FILENO, &mut more) == 0
+    let got = streams.read(&mut more);
+    (got.len == 0) & !got.failed
 }
 
-fn read_lines(input: &mut [u8]) {
-    let n = io::read_full(STDIN_FILENO, input);
-    if is_read() {
-        all_lines(&input[..n]);
+fn read_lines(streams: &Streams, input: &mut [u8]) {
+    let got = read_all(streams, input);
+    if is_read(streams) {
+        all_lines(streams, &input[..got.len]);
     } else {
-        output::complain(b"test_images", b"read all of its input");
+        output::complain(streams, b"test_images", b"read all of its input");
     }
 }
 
-fn main() {
+fn main(rt: HostRuntime) {
+    let streams = Streams::new(&rt);
     let mut input = input_space();
-    read_lines(&mut input);
-    output::close(b"test_images");
+    read_lines(&streams, &mut input);
+    output::close(&streams, b"test_images");
 }

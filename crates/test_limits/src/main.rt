@@ -20,6 +20,7 @@ use iset::build::Built;
 use iset::tidy::Renumbering;
 use iset::unload::Unloading;
 use lines::output;
+use lines::streams::Streams;
 use words::interval::{Bound, Interval, Span, smaller};
 use words::ix::U;
 use words::node::{Entry, capacity, put_node};
@@ -43,9 +44,9 @@ fn bytes_space() -> [u8; 8192]
     [0; 8192]
 }
 
-fn number(x: u64) {
-    output::send_number(x);
-    output::send(b" ");
+fn number(streams: &Streams, x: u64) {
+    output::send_number(streams, x);
+    output::send(streams, b" ");
 }
 
 // Writes the k-th entry. The entries overlap, and two entries at a time begin at the same address.
@@ -74,17 +75,17 @@ fn words_for(n: usize, narrow: bool) -> usize
     if narrow { n * 6 } else { n * 8 }
 }
 
-fn show_map(m: Map, nodes: &[u64], narrow: bool, colours: &[u8]) {
-    number(0);
-    number(m.count);
-    number(m.root);
-    number(m.check_in(nodes, narrow, colours).number());
+fn show_map(streams: &Streams, m: Map, nodes: &[u64], narrow: bool, colours: &[u8]) {
+    number(streams, 0);
+    number(streams, m.count);
+    number(streams, m.root);
+    number(streams, m.check_in(nodes, narrow, colours).number());
 }
 
-fn show_built(a: Built, nodes: &[u64], narrow: bool, colours: &[u8]) {
+fn show_built(streams: &Streams, a: Built, nodes: &[u64], narrow: bool, colours: &[u8]) {
     match a {
-        Built::Refused(why) => number(why.number()),
-        Built::Done(m) => show_map(m, nodes, narrow, colours),
+        Built::Refused(why) => number(streams, why.number()),
+        Built::Done(m) => show_map(streams, m, nodes, narrow, colours),
     }
 }
 
@@ -94,29 +95,51 @@ fn built(k: usize, list: &[u64], nodes: &mut [u64], narrow: bool, colours: &mut 
     Map::new().build_in(nodes, narrow, colours, &list[..n])
 }
 
-fn build_list(k: usize, list: &[u64], nodes: &mut [u64], narrow: bool, colours: &mut [u8]) {
+fn build_list(
+    streams: &Streams,
+    k: usize,
+    list: &[u64],
+    nodes: &mut [u64],
+    narrow: bool,
+    colours: &mut [u8],
+) {
     let a = built(k, list, nodes, narrow, colours);
-    show_built(a, nodes, narrow, colours);
-    output::send(b"\n");
+    show_built(streams, a, nodes, narrow, colours);
+    output::send(streams, b"\n");
 }
 
 // Builds the map of the first n entries of the list in so many words.
-fn build(n: usize, words: usize, list: &[u64], nodes: &mut [u64], narrow: bool, colours: &mut [u8])
+fn build(
+    streams: &Streams,
+    n: usize,
+    words: usize,
+    list: &[u64],
+    nodes: &mut [u64],
+    narrow: bool,
+    colours: &mut [u8],
+)
     requires { (n ≤ 65536) × (words ≤ length nodes.old) }
 {
-    number(n as u64);
-    number(words as u64);
-    build_list(n * 3, list, &mut nodes[..words], narrow, colours);
+    number(streams, n as u64);
+    number(streams, words as u64);
+    build_list(streams, n * 3, list, &mut nodes[..words], narrow, colours);
 }
 
 // Builds n entries in the words that they take, and in one word less.
-fn build_both(n: usize, list: &mut [u64], nodes: &mut [u64], narrow: bool, colours: &mut [u8])
+fn build_both(
+    streams: &Streams,
+    n: usize,
+    list: &mut [u64],
+    nodes: &mut [u64],
+    narrow: bool,
+    colours: &mut [u8],
+)
     requires { (1 ≤ n) × (n ≤ 65536) × (524288 ≤ length nodes.old) }
 {
     put_triples(list, n);
     let w = words_for(n, narrow);
-    build(n, w, list, nodes, narrow, colours);
-    build(n, w - 1, list, nodes, narrow, colours);
+    build(streams, n, w, list, nodes, narrow, colours);
+    build(streams, n, w - 1, list, nodes, narrow, colours);
 }
 
 fn next_of(n: u64, k: u64) -> u64
@@ -159,7 +182,7 @@ fn put_chain(nodes: &mut [u64], narrow: bool, n: u64)
 
 // Checks a map of `count` entries whose nodes are a chain. The chain has no more nodes than the
 // words hold.
-fn check_chain(count: u64, nodes: &mut [u64], narrow: bool, colours: &[u8]) {
+fn check_chain(streams: &Streams, count: u64, nodes: &mut [u64], narrow: bool, colours: &[u8]) {
     let room = capacity(nodes.len(), narrow, colours.len());
     put_chain(nodes, narrow, smaller(count, room));
     let m = Map {
@@ -167,26 +190,26 @@ fn check_chain(count: u64, nodes: &mut [u64], narrow: bool, colours: &[u8]) {
         root: 0,
         version: 0,
     };
-    number(m.check_in(nodes, narrow, colours).number());
-    output::send(b"\n");
+    number(streams, m.check_in(nodes, narrow, colours).number());
+    output::send(streams, b"\n");
 }
 
 // A chain of n in so many words.
-fn chain(n: usize, words: usize, nodes: &mut [u64], narrow: bool, colours: &[u8])
+fn chain(streams: &Streams, n: usize, words: usize, nodes: &mut [u64], narrow: bool, colours: &[u8])
     requires { words ≤ length nodes.old }
 {
-    number(n as u64);
-    number(words as u64);
-    check_chain(n as u64, &mut nodes[..words], narrow, colours);
+    number(streams, n as u64);
+    number(streams, words as u64);
+    check_chain(streams, n as u64, &mut nodes[..words], narrow, colours);
 }
 
 // A chain of n in the words that it takes, and in one word less.
-fn chain_both(n: usize, nodes: &mut [u64], narrow: bool, colours: &[u8])
+fn chain_both(streams: &Streams, n: usize, nodes: &mut [u64], narrow: bool, colours: &[u8])
     requires { (1 ≤ n) × (n ≤ 65536) × (524288 ≤ length nodes.old) }
 {
     let w = words_for(n, narrow);
-    chain(n, w, nodes, narrow, colours);
-    chain(n, w - 1, nodes, narrow, colours);
+    chain(streams, n, w, nodes, narrow, colours);
+    chain(streams, n, w - 1, nodes, narrow, colours);
 }
 
 // How many entries build k has. The last build but one has as many as a map can have, and the last
@@ -203,60 +226,66 @@ fn size(k: u64) -> usize
     }
 }
 
-fn builds(list: &mut [u64], nodes: &mut [u64], narrow: bool, colours: &mut [u8])
+fn builds(streams: &Streams, list: &mut [u64], nodes: &mut [u64], narrow: bool, colours: &mut [u8])
     requires { 524288 ≤ length nodes.old }
 {
     let mut k = 0;
     while k < 5 {
         let n = size(k);
         k += 1;
-        build_both(n, list, nodes, narrow, colours);
+        build_both(streams, n, list, nodes, narrow, colours);
     }
 }
 
-fn chains(nodes: &mut [u64], narrow: bool, colours: &[u8])
+fn chains(streams: &Streams, nodes: &mut [u64], narrow: bool, colours: &[u8])
     requires { 524288 ≤ length nodes.old }
 {
-    chain_both(1, nodes, narrow, colours);
-    chain_both(2, nodes, narrow, colours);
-    chain_both(4000, nodes, narrow, colours);
-    chain_both(65535, nodes, narrow, colours);
-    chain_both(65536, nodes, narrow, colours);
+    chain_both(streams, 1, nodes, narrow, colours);
+    chain_both(streams, 2, nodes, narrow, colours);
+    chain_both(streams, 4000, nodes, narrow, colours);
+    chain_both(streams, 65535, nodes, narrow, colours);
+    chain_both(streams, 65536, nodes, narrow, colours);
 }
 
-fn show_unloaded(a: Unloading, nodes: &[u64], narrow: bool, colours: &[u8]) {
+fn show_unloaded(streams: &Streams, a: Unloading, nodes: &[u64], narrow: bool, colours: &[u8]) {
     match a {
-        Unloading::Refused(why) => number(why.number()),
+        Unloading::Refused(why) => number(streams, why.number()),
         Unloading::Done(left) => {
-            number(left.gone);
-            show_map(left.map, nodes, narrow, colours);
+            number(streams, left.gone);
+            show_map(streams, left.map, nodes, narrow, colours);
         }
     }
 }
 
 // Unloads every entry.
-fn unload_all(m: Map, nodes: &mut [u64], narrow: bool, colours: &mut [u8]) {
+fn unload_all(streams: &Streams, m: Map, nodes: &mut [u64], narrow: bool, colours: &mut [u8]) {
     let all = Span {
         lo: Bound::Unbounded,
         hi: Bound::Unbounded,
     };
     let a = m.unload_in(nodes, narrow, colours, 1, all);
-    show_unloaded(a, nodes, narrow, colours);
+    show_unloaded(streams, a, nodes, narrow, colours);
 }
 
-fn unload_built(a: Built, nodes: &mut [u64], narrow: bool, colours: &mut [u8]) {
+fn unload_built(streams: &Streams, a: Built, nodes: &mut [u64], narrow: bool, colours: &mut [u8]) {
     match a {
-        Built::Refused(why) => number(why.number()),
-        Built::Done(m) => unload_all(m, nodes, narrow, colours),
+        Built::Refused(why) => number(streams, why.number()),
+        Built::Done(m) => unload_all(streams, m, nodes, narrow, colours),
     }
 }
 
 // Builds a map of as many entries as there can be, and unloads it.
-fn unload(list: &mut [u64], nodes: &mut [u64], narrow: bool, colours: &mut [u8]) {
+fn unload(
+    streams: &Streams,
+    list: &mut [u64],
+    nodes: &mut [u64],
+    narrow: bool,
+    colours: &mut [u8],
+) {
     put_triples(list, 65535);
     let a = built(196605, list, nodes, narrow, colours);
-    unload_built(a, nodes, narrow, colours);
-    output::send(b"\n");
+    unload_built(streams, a, nodes, narrow, colours);
+    output::send(streams, b"\n");
 }
 
 // The slot of slot k in a plan for n slots. By a shift that is the next one, and slot 0 for the
@@ -319,29 +348,54 @@ fn renumbered(m: Map, nodes: &mut [u64], narrow: bool, colours: &mut [u8], plan:
 }
 
 // Renumbers by a plan, which the next proposal then replaces.
-fn move_all(m: Map, nodes: &mut [u64], narrow: bool, colours: &mut [u8], plan: &mut [u64]) -> Map {
+fn move_all(
+    streams: &Streams,
+    m: Map,
+    nodes: &mut [u64],
+    narrow: bool,
+    colours: &mut [u8],
+    plan: &mut [u64],
+) -> Map {
     let new = renumbered(m, nodes, narrow, colours, plan);
-    show_map(new, nodes, narrow, colours);
-    number(new.propose_in(nodes, narrow, colours, plan).number());
+    show_map(streams, new, nodes, narrow, colours);
+    number(
+        streams,
+        new.propose_in(nodes, narrow, colours, plan).number(),
+    );
     new
 }
 
-fn tidy(m: Map, nodes: &mut [u64], narrow: bool, colours: &mut [u8], plan: &mut [u64]) {
-    let moved = move_all(m, nodes, narrow, colours, plan);
-    let tidied = move_all(moved, nodes, narrow, colours, plan);
-    number(at_home(plan, plan.len()));
-    number(tidied.version as u64);
+fn tidy(
+    streams: &Streams,
+    m: Map,
+    nodes: &mut [u64],
+    narrow: bool,
+    colours: &mut [u8],
+    plan: &mut [u64],
+) {
+    let moved = move_all(streams, m, nodes, narrow, colours, plan);
+    let tidied = move_all(streams, moved, nodes, narrow, colours, plan);
+    number(streams, at_home(plan, plan.len()));
+    number(streams, tidied.version as u64);
 }
 
-fn tidy_built(a: Built, nodes: &mut [u64], narrow: bool, colours: &mut [u8], plan: &mut [u64]) {
+fn tidy_built(
+    streams: &Streams,
+    a: Built,
+    nodes: &mut [u64],
+    narrow: bool,
+    colours: &mut [u8],
+    plan: &mut [u64],
+) {
     match a {
-        Built::Refused(why) => number(why.number()),
-        Built::Done(m) => tidy(m, nodes, narrow, colours, plan),
+        Built::Refused(why) => number(streams, why.number()),
+        Built::Done(m) => tidy(streams, m, nodes, narrow, colours, plan),
     }
 }
 
 // Renumbers a map that was built, by a plan for as many slots as the list has places.
 fn tidy_by(
+    streams: &Streams,
     a: Built,
     plan: &mut [u64],
     shift: bool,
@@ -350,35 +404,49 @@ fn tidy_by(
     colours: &mut [u8],
 ) {
     put_plan(plan, plan.len(), shift);
-    tidy_built(a, nodes, narrow, colours, plan);
-    output::send(b"\n");
+    tidy_built(streams, a, nodes, narrow, colours, plan);
+    output::send(streams, b"\n");
 }
 
 // Builds a map of as many entries as there can be, and renumbers it. The plan stands where the list
 // stood.
-fn renumber(list: &mut [u64], shift: bool, nodes: &mut [u64], narrow: bool, colours: &mut [u8]) {
+fn renumber(
+    streams: &Streams,
+    list: &mut [u64],
+    shift: bool,
+    nodes: &mut [u64],
+    narrow: bool,
+    colours: &mut [u8],
+) {
     put_triples(list, 65535);
     let a = built(196605, list, nodes, narrow, colours);
     let n = least(65535, list.len());
-    tidy_by(a, &mut list[..n], shift, nodes, narrow, colours);
+    tidy_by(streams, a, &mut list[..n], shift, nodes, narrow, colours);
 }
 
-fn changes(list: &mut [u64], nodes: &mut [u64], narrow: bool, colours: &mut [u8]) {
-    unload(list, nodes, narrow, colours);
-    renumber(list, false, nodes, narrow, colours);
-    renumber(list, true, nodes, narrow, colours);
+fn changes(
+    streams: &Streams,
+    list: &mut [u64],
+    nodes: &mut [u64],
+    narrow: bool,
+    colours: &mut [u8],
+) {
+    unload(streams, list, nodes, narrow, colours);
+    renumber(streams, list, false, nodes, narrow, colours);
+    renumber(streams, list, true, nodes, narrow, colours);
 }
 
-fn main() {
+fn main(rt: HostRuntime) {
+    let streams = Streams::new(&rt);
     let mut list = list_space();
     let mut nodes = words_space();
     let mut colours = bytes_space();
     let black = bytes_space();
-    builds(&mut list, &mut nodes, false, &mut colours);
-    chains(&mut nodes, false, &black);
-    changes(&mut list, &mut nodes, false, &mut colours);
-    builds(&mut list, &mut nodes, true, &mut colours);
-    chains(&mut nodes, true, &black);
-    changes(&mut list, &mut nodes, true, &mut colours);
-    output::close(b"test_limits");
+    builds(&streams, &mut list, &mut nodes, false, &mut colours);
+    chains(&streams, &mut nodes, false, &black);
+    changes(&streams, &mut list, &mut nodes, false, &mut colours);
+    builds(&streams, &mut list, &mut nodes, true, &mut colours);
+    chains(&streams, &mut nodes, true, &black);
+    changes(&streams, &mut list, &mut nodes, true, &mut colours);
+    output::close(&streams, b"test_limits");
 }

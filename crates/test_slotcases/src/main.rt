@@ -4,9 +4,10 @@
 
 ghost use Rattle.std.specs.Prelude.{◌≡◌, ◌<◌, ◌≤◌, length};
 
-use libc::STDIN_FILENO;
 use lines::input::{Digit, digit_of};
 use lines::output;
+use lines::streams::Streams;
+use lines::whole::read_all;
 use slotlist_core::{State, memory};
 use words::numbers::least;
 
@@ -77,6 +78,7 @@ fn feed_pieces(
 }
 
 fn run(
+    streams: &Streams,
     input: &[u8],
     size: usize,
     nodes: &mut [u64],
@@ -86,16 +88,17 @@ fn run(
 ) {
     let state = feed_pieces(input, size, nodes, colours, entries);
     let n = state.finish(nodes, colours, entries, out);
-    output::flush(out, n);
+    output::flush(streams, out, n);
 }
 
 // Runs one case, in memory that no other case uses. `size` is one less than the bytes of a piece.
-fn case(input: &[u8], size: usize) {
+fn case(streams: &Streams, input: &[u8], size: usize) {
     let mut nodes = memory::node_words();
     let mut colours = memory::colour_bytes();
     let mut entries = memory::entry_numbers();
     let mut out = memory::text_bytes();
     run(
+        streams,
         input,
         size,
         &mut nodes,
@@ -110,23 +113,23 @@ fn below(size: usize) -> usize {
 }
 
 // Runs the case at a place, and returns the place after it.
-fn case_at(cases: &[u8], at: usize) -> usize
+fn case_at(streams: &Streams, cases: &[u8], at: usize) -> usize
     ensures { result ≤ length cases.now }
 {
     let len = read_number(cases, at);
     let size = read_number(cases, len.after);
     let from = size.after;
     let to = from + least(len.value, cases.len() - from);
-    case(&cases[from..to], below(size.value));
+    case(streams, &cases[from..to], below(size.value));
     to
 }
 
 // Runs all cases. A case has at least two bytes, so the places rise. If a place does not rise, the
 // run ends.
-fn all_cases(cases: &[u8]) {
+fn all_cases(streams: &Streams, cases: &[u8]) {
     let mut at = 0;
     while at < cases.len() {
-        let next = case_at(cases, at);
+        let next = case_at(streams, cases, at);
         if next <= at {
             return;
         }
@@ -135,22 +138,24 @@ fn all_cases(cases: &[u8]) {
 }
 
 // Whether the input has ended. After a failed read the next read fails too.
-fn is_read() -> bool {
+fn is_read(streams: &Streams) -> bool {
     let mut more = [0u8; 1];
-    libc::read(STDIN_FILENO, &mut more) == 0
+    let got = streams.read(&mut more);
+    (got.len == 0) & !got.failed
 }
 
-fn read_cases(cases: &mut [u8]) {
-    let n = io::read_full(STDIN_FILENO, cases);
-    if is_read() {
-        all_cases(&cases[..n]);
+fn read_cases(streams: &Streams, cases: &mut [u8]) {
+    let got = read_all(streams, cases);
+    if is_read(streams) {
+        all_cases(streams, &cases[..got.len]);
     } else {
-        output::complain(b"test_slotcases", b"read all of its input");
+        output::complain(streams, b"test_slotcases", b"read all of its input");
     }
 }
 
-fn main() {
+fn main(rt: HostRuntime) {
+    let streams = Streams::new(&rt);
     let mut cases = cases_space();
-    read_cases(&mut cases);
-    output::close(b"test_slotcases");
+    read_cases(&streams, &mut cases);
+    output::close(&streams, b"test_slotcases");
 }

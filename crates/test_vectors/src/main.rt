@@ -2,6 +2,6 @@
 // crate's. tests/differential/README.md says how they were made.
 #![tactic(auto)]
 
-fn main() {
-    drive_core::answer_lines(b"test_vectors");
+fn main(rt: HostRuntime) {
+    drive_core::answer_lines(&rt, b"test_vectors");
 }

@@ -5,8 +5,8 @@
 use image_text::memory;
 use image_text::reading::{Outcome, State};
 use image_text::writing::put_refusal;
-use libc::STDIN_FILENO;
 use lines::output;
+use lines::streams::Streams;
 
 // What was read, and whether a read failed.
 #[derive(Clone, Copy)]
@@ -17,17 +17,17 @@ struct Fed {
 
 // Reads to the end of the input. The loop is bounded by 2^64 rounds, so that the proof can show
 // that it ends.
-fn feed_all(input: &mut [u8], image: &mut [u8]) -> Fed {
+fn feed_all(streams: &Streams, input: &mut [u8], image: &mut [u8]) -> Fed {
     let mut state = State::new();
     let mut turns = u64::MAX;
     while 0 < turns {
         turns -= 1;
-        let got = libc::read(STDIN_FILENO, input);
-        let n = io::count(got, input);
+        let got = streams.read(input);
+        let n = got.len;
         if n == 0 {
             return Fed {
                 state,
-                failed: got < 0,
+                failed: got.failed,
             };
         }
         state = state.feed(&input[..n], image);
@@ -38,32 +38,33 @@ fn feed_all(input: &mut [u8], image: &mut [u8]) -> Fed {
     }
 }
 
-fn refuse(why: u64, out: &mut [u8]) {
-    let end = put_refusal(out, why);
-    output::flush(out, end);
+fn refuse(streams: &Streams, why: u64, out: &mut [u8]) {
+    let end = put_refusal(streams, out, why);
+    output::flush(streams, out, end);
 }
 
-fn print(state: State, image: &mut [u8], out: &mut [u8]) {
+fn print(streams: &Streams, state: State, image: &mut [u8], out: &mut [u8]) {
     match state.finish(image) {
         Outcome::Done(n) => {
-            output::flush(image, n);
+            output::flush(streams, image, n);
         }
-        Outcome::Refused(why) => refuse(why, out),
+        Outcome::Refused(why) => refuse(streams, why, out),
     }
 }
 
-fn run(input: &mut [u8], image: &mut [u8]) {
-    let fed = feed_all(input, image);
+fn run(streams: &Streams, input: &mut [u8], image: &mut [u8]) {
+    let fed = feed_all(streams, input, image);
     if fed.failed {
-        output::complain(b"textimage", b"read");
+        output::complain(streams, b"textimage", b"read");
     } else {
-        print(fed.state, image, input);
+        print(streams, fed.state, image, input);
     }
 }
 
-fn main() {
+fn main(rt: HostRuntime) {
+    let streams = Streams::new(&rt);
     let mut input = io::large_buffer();
     let mut image = memory::image_bytes();
-    run(&mut input, &mut image);
-    output::close(b"textimage");
+    run(&streams, &mut input, &mut image);
+    output::close(&streams, b"textimage");
 }

@@ -6,53 +6,83 @@
 use iset::build::Built;
 use iset::{Checked, Map};
 use lines::output;
+use lines::streams::Streams;
 use lines::whole::read_all;
 use plan_text::memory;
 use plan_text::refusing::refuse_image;
 use plan_text::writing::put_plan;
 use words::numbers::least;
 
-fn print(count: u64, plan: &[u64], out: &mut [u8]) {
+fn print(streams: &Streams, count: u64, plan: &[u64], out: &mut [u8]) {
     let n = least(count as usize, plan.len());
-    let end = put_plan(out, &plan[..n]);
-    output::flush(out, end);
+    let end = put_plan(streams, out, &plan[..n]);
+    output::flush(streams, out, end);
 }
 
 // Prints the plan of a map that was read.
-fn propose(map: Map, nodes: &[u64], colours: &[u8], plan: &mut [u64], out: &mut [u8]) {
+fn propose(
+    streams: &Streams,
+    map: Map,
+    nodes: &[u64],
+    colours: &[u8],
+    plan: &mut [u64],
+    out: &mut [u8],
+) {
     match map.propose_in(nodes, true, colours, plan) {
-        Checked::Sound => print(map.count, plan, out),
-        Checked::Refused(why) => refuse_image(b"tidyplan", why.number()),
+        Checked::Sound => print(streams, map.count, plan, out),
+        Checked::Refused(why) => refuse_image(streams, b"tidyplan", why.number()),
     }
 }
 
 // Prints the plan of an image.
-fn load(image: &[u8], nodes: &mut [u64], colours: &mut [u8], plan: &mut [u64], out: &mut [u8]) {
+fn load(
+    streams: &Streams,
+    image: &[u8],
+    nodes: &mut [u64],
+    colours: &mut [u8],
+    plan: &mut [u64],
+    out: &mut [u8],
+) {
     match Map::new().read_image_in(nodes, true, colours, image) {
-        Built::Done(map) => propose(map, nodes, colours, plan, out),
-        Built::Refused(why) => refuse_image(b"tidyplan", why.number()),
+        Built::Done(map) => propose(streams, map, nodes, colours, plan, out),
+        Built::Refused(why) => refuse_image(streams, b"tidyplan", why.number()),
     }
 }
 
 // If the bytes fill the input, it is longer than any image.
-fn run(input: &mut [u8], nodes: &mut [u64], colours: &mut [u8], plan: &mut [u64], out: &mut [u8]) {
-    let got = read_all(input);
+fn run(
+    streams: &Streams,
+    input: &mut [u8],
+    nodes: &mut [u64],
+    colours: &mut [u8],
+    plan: &mut [u64],
+    out: &mut [u8],
+) {
+    let got = read_all(streams, input);
     let n = got.len;
     if got.failed {
-        output::complain(b"tidyplan", b"read");
+        output::complain(streams, b"tidyplan", b"read");
     } else if n < input.len() {
-        load(&input[..n], nodes, colours, plan, out);
+        load(streams, &input[..n], nodes, colours, plan, out);
     } else {
-        refuse_image(b"tidyplan", 1);
+        refuse_image(streams, b"tidyplan", 1);
     }
 }
 
-fn main() {
+fn main(rt: HostRuntime) {
+    let streams = Streams::new(&rt);
     let mut input = memory::image_bytes();
     let mut nodes = memory::node_words();
     let mut colours = memory::colour_bytes();
     let mut plan = memory::plan_numbers();
     let mut out = io::large_buffer();
-    run(&mut input, &mut nodes, &mut colours, &mut plan, &mut out);
-    output::close(b"tidyplan");
+    run(
+        &streams,
+        &mut input,
+        &mut nodes,
+        &mut colours,
+        &mut plan,
+        &mut out,
+    );
+    output::close(&streams, b"tidyplan");
 }

@@ -1,4 +1,3 @@
-use borrow.Author.Rules.{rules}
 use Rattle.slotshell_view.proofs.Laws.{leans_left, leans_right}
 use Rattle.slotshell_view.proofs.lookups.can_be.Goals as goal
 

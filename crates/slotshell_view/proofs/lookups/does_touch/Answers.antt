@@ -1,4 +1,3 @@
-use borrow.Author.Rules.{rules}
 use Rattle.slotshell_view.proofs.Laws.{touch_yes, touch_no}
 use Rattle.slotshell_view.proofs.lookups.does_touch.Goals as goal
 

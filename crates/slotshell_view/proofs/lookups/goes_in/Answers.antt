@@ -1,4 +1,3 @@
-use borrow.Author.Rules.{rules}
 use Rattle.slotshell_view.proofs.Laws.{stays, goes_on}
 use Rattle.slotshell_view.proofs.lookups.goes_in.Goals as goal
 

@@ -1,4 +1,3 @@
-use borrow.Author.Rules.{rules}
 use Rattle.slotshell_view.proofs.Laws.{by_overlap, by_ruled, by_exact}
 use Rattle.slotshell_view.proofs.lookups.is_admitted.Goals as goal
 

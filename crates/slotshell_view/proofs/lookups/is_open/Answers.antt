@@ -1,4 +1,3 @@
-use borrow.Author.Rules.{rules}
 use Rattle.slotshell_view.proofs.Laws.{opens_left, opens_right}
 use Rattle.slotshell_view.proofs.lookups.is_open.Goals as goal
 

@@ -1,4 +1,3 @@
-use borrow.Author.Rules.{rules}
 use Rattle.slotshell_view.proofs.Laws.{noted_there, noted_full}
 use Rattle.slotshell_view.proofs.lookups.note.Goals as goal
 

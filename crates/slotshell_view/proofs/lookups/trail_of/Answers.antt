@@ -1,4 +1,3 @@
-use borrow.Author.Rules.{rules}
 use Rattle.slotshell_view.proofs.Laws.{bodies, walked, nowhere}
 use Rattle.slotshell_view.proofs.lookups.trail_of.Goals as goal
 

@@ -1,4 +1,3 @@
-use borrow.Author.Rules.{rules}
 use Rattle.slotshell_view.proofs.Laws.{child_is}
 use Rattle.slotshell_view.proofs.nodes.child_in.Goals as goal
 

@@ -1,4 +1,3 @@
-use borrow.Author.Rules.{rules}
 use Rattle.slotshell_view.proofs.Laws.{bodies}
 use Rattle.words.proofs.Tests.{picked, passed}
 use Rattle.slotshell_view.proofs.nodes.entry_at.Goals as goal

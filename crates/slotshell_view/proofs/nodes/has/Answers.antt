@@ -1,4 +1,3 @@
-use borrow.Author.Rules.{rules}
 use Rattle.slotshell_view.proofs.Laws.{shows_is, shows_many, shows_none}
 use Rattle.slotshell_view.proofs.nodes.has.Goals as goal
 

@@ -1,4 +1,3 @@
-use borrow.Author.Rules.{rules}
 use Rattle.slotshell_view.proofs.Laws.{hull_whole}
 use Rattle.slotshell_view.proofs.nodes.hull_in.Goals as goal
 

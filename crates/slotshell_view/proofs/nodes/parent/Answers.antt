@@ -1,5 +1,4 @@
 use native.Mathlib.Omega.{arith}
-use borrow.Author.Rules.{rules}
 use Rattle.slotshell_view.proofs.Laws.{bodies}
 use Rattle.words.proofs.Tests.{picked, passed}
 use Rattle.slotshell_view.proofs.nodes.parent.Goals as goal

@@ -1,0 +1,5 @@
+use borrow.Author.Rules.{rules}
+use Rattle.iset_c.proofs.check_in.Goals as goal
+
+pub returns : goal.returns
+returns c = cc

@@ -1,0 +1,6 @@
+use Rattle.slotshell_say.proofs.Laws.{past}
+use borrow.Author.Rules.{rules}
+use Rattle.slotshell_say.proofs.number_at.Goals as goal
+
+pub returns : goal.returns
+returns c = search past
