@@ -8,7 +8,6 @@ use native.Mathlib.Omega.{arith}
 use lib.ListN.{length, take, replicate}
 use lib.Dec.{eqb}
 use borrow.Author.Tests.{le-ltb}
-use Rattle.lines.specs.Output.{page}
 use Rattle.slotlist_core.specs.Printed.{Stand, listed, onto, lines, settled, after, after_all, text, printed_in, printed}
 use Rattle.slotlist_core.specs.Reading.{byte_rule, end_rule, new_rule}
 use Rattle.slotlist_core.specs.Working.{Desk, desk, listed_in}

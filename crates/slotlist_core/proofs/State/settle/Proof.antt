@@ -1,9 +1,0 @@
-use Rattle.slotlist_core.proofs.Arms.{settled_then}
-use borrow.Author.Rules.{rules}
-use Rattle.slotlist_core.proofs.State.settle.Statement.{statement}
-use Rattle.slotlist_core.proofs.State.settle.Tie as tie
-
-pub settle-spec : {M : Type 1} → statement M
-settle-spec =
-    tie.close
-    (tie.spec (λ c κs. search rules) (λ c κs. search rules) (λ c. search rules) (λ c. search rules) (λ c. search rules) (λ c. search settled_then))

@@ -1,9 +1,0 @@
-use Rattle.lines.proofs.Laws.{value_is, value_over}
-use Rattle.slotlist_core.specs.Reading.{longer}
-use borrow.Author.Rules.{rules}
-use Rattle.slotlist_core.proofs.reading.longer.Statement.{statement}
-use Rattle.slotlist_core.proofs.reading.longer.Tie as tie
-
-pub longer-spec : {M : Type 1} → statement M
-unfolding longer
-longer-spec = tie.close (tie.spec (λ c κs. search rules) (λ c. search rules) (λ c. search rules) (λ c. search value_is) (λ c. search value_over))

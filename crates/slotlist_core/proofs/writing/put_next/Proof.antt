@@ -1,7 +1,0 @@
-use Rattle.slotlist_core.proofs.Pages.{then_byte}
-use borrow.Author.Rules.{rules}
-use Rattle.slotlist_core.proofs.writing.put_next.Statement.{statement}
-use Rattle.slotlist_core.proofs.writing.put_next.Tie as tie
-
-pub put-next-spec : {M : Type 1} → statement M
-put-next-spec = tie.close (tie.spec (λ c κs. search rules) (λ c κs. search rules) (λ c. search rules) (λ c. search then_byte))
