@@ -17,7 +17,7 @@ if [ "$(uname -m)" = x86_64 ]; then
     rustc=rustc gcc=gcc gxx=g++ target= emulator=
 else
     rustc=/usr/bin/rustc gcc=x86_64-linux-gnu-gcc gxx=x86_64-linux-gnu-g++ target='--target x86_64-unknown-linux-gnu'
-    emulator=$(dirname "$(dirname "$(rt doc)")")/on/$(uname -m)/toolchain/bin/qemu-x86_64
+    emulator=$(dirname "$(rt doc)")/toolchain/bin/qemu-x86_64
 fi
 
 # Prints what of the given tools is not here: its name, or for a rustc without its library for

@@ -2,14 +2,13 @@
 """The programs `imagetext` and `textimage` by docs/IMAGE.md, 'As text', and not by their code.
 
     imagetext.py          runs the two programs on images and texts, damaged ones too, and compares
-                          what they write with this model; the programs must be built (rt check)
+                          what they write with this model; the programs must be built (rt ci)
     imagetext.py print    what imagetext prints for the image on standard input
     imagetext.py image    what textimage writes for the text on standard input
 
 The last line of a run is 'imagetext: N passed, M failed'.
 """
 import pathlib
-import platform
 import re
 import subprocess
 import sys
@@ -154,17 +153,10 @@ ODD = [
     b'count 1 root 0\n0 1 2 3 - - - red\n', b'count 1 root -\n0 1 2 3 - - - black\n', b'count 1 root 0\n0 1 2 3 0 - - black\n',
 ]
 
-COMMAND = {}
-
 
 def command(name):
-    """How a program is started: by the kit's emulator, on a machine that is not x86-64."""
-    if not COMMAND:
-        kit = pathlib.Path(subprocess.run(['rt', 'doc'], capture_output=True, text=True, check=True).stdout.strip()).parent.parent
-        tools = kit / 'on' / platform.machine() / 'toolchain'
-        emulator = tools / 'bin/qemu-x86_64'
-        COMMAND[''] = ([str(emulator)] if emulator.exists() else []) + [str(tools / 'lib/ld-linux-x86-64.so.2'), '--library-path', str(tools / 'lib')]
-    return COMMAND[''] + [str(TOP / 'target/bin' / name)]
+    """How a proved program is started."""
+    return [str(TOP / 'crates' / name / 'out' / name)]
 
 
 def runs(name, text, pieces=0):

@@ -1,17 +1,13 @@
 #!/usr/bin/env bash
 # Runs the program `slotlist` on each case of tests/slotlist.py, as a file and through a pipe that
 # gives it in small pieces. Compares its output, byte by byte, with the model's. The program must be
-# built (rt check slotlist). The last line is 'slotlist: N passed, M failed'.
+# built (rt ci, or ./run --build slotlist). The last line is 'slotlist: N passed, M failed'.
 set -eu
 top=$(cd "$(dirname "$0")/.." && pwd)
-kit=$(dirname "$(dirname "$(rt doc)")")
-tools=$kit/on/$(uname -m)/toolchain
-emulator=$tools/bin/qemu-x86_64
-[ -x "$emulator" ] || emulator=
 room=$(mktemp -d)
 trap 'rm -rf "$room"' EXIT
 python3 "$top/tests/slotlist.py" files "$room"
-slotlist() { ${emulator:+"$emulator"} "$tools/lib/ld-linux-x86-64.so.2" --library-path "$tools/lib" "$top/target/bin/slotlist"; }
+slotlist() { "$top/crates/slotlist/out/slotlist"; }
 passed=0
 failed=0
 compare() {

@@ -4,7 +4,7 @@
     slotshell.py          runs the program on many random talks and compares what it prints with this
                           model; tries that trees of up to 31 entries fit 100 columns, that nothing
                           overlaps in a picture, and that every command and refusal was met; the
-                          program must be built (rt check)
+                          program must be built (rt ci)
     slotshell.py COMMAND  the same with the program that a command runs
     slotshell.py print    what slotshell prints for the commands on standard input
 
@@ -12,7 +12,6 @@ The last line of a run is 'slotshell: N passed, M failed'.
 """
 import os
 import pathlib
-import platform
 import random
 import re
 import select
@@ -561,11 +560,7 @@ A RANGE is [20,25), (20,25], [20,..) or the like, or .. for everything."""
 
 def built_program():
     """The command that runs the proved program."""
-    kit = pathlib.Path(subprocess.run(['rt', 'doc'], capture_output=True, text=True).stdout.strip()).parent.parent
-    tools = kit / 'on' / platform.machine() / 'toolchain'
-    emulator = tools / 'bin/qemu-x86_64'
-    loader = [tools / 'lib/ld-linux-x86-64.so.2', '--library-path', tools / 'lib', TOP / 'target/bin/slotshell']
-    return [str(word) for word in ([emulator] if emulator.exists() else []) + loader]
+    return [str(TOP / 'crates/slotshell/out/slotshell')]
 
 
 # Random talks

@@ -4,8 +4,8 @@ code.
 
     tidyplan.py           runs the two programs on images and plans, damaged ones too, and compares
                           what they write and say with this model; the programs must be built (rt
-                          check)
-    tidyplan.py files     writes the files that `rt check` runs the two programs on
+                          ci)
+    tidyplan.py files     writes the files that `rt ci` runs the two programs on
 
 The last line of a run is 'tidyplan: N passed, M failed'.
 """
