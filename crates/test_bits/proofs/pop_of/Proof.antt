@@ -1,8 +1,0 @@
-use native.Mathlib.Omega.{arith}
-use lib.ListN.{length-take}
-use borrow.Author.Rules.{rules}
-use Rattle.test_bits.proofs.pop_of.Statement.{statement}
-use Rattle.test_bits.proofs.pop_of.Tie as tie
-
-pub pop-of-spec : {M : Type 1} → statement M
-pop-of-spec = tie.close (tie.spec (λ c. simp length-take (omega arith)) (λ c κs. search rules) (λ c. search rules) (λ c. search rules))

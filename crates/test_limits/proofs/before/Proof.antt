@@ -1,9 +1,0 @@
-use mathlib.Core.Bool.{true}
-use native.Mathlib.Omega.{arith}
-use Rattle.words.proofs.Layouts.{slot_fits, none_fits}
-use borrow.Author.Rules.{rules}
-use Rattle.test_limits.proofs.before.Statement.{statement}
-use Rattle.test_limits.proofs.before.Tie as tie
-
-pub before-spec : {M : Type 1} → statement M
-before-spec = tie.close (tie.spec (λ c. search rules) (λ c. none_fits true) (λ c. slot_fits true _ (omega arith)))

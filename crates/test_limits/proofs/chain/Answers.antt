@@ -1,0 +1,7 @@
+use lib.ListN.{length-take}
+use native.Mathlib.Omega.{arith}
+use borrow.Author.Rules.{rules}
+use Rattle.test_limits.proofs.chain.Goals as goal
+
+pub slice_bounds-check_chain-end-2 : goal.slice_bounds-check_chain-end-2
+slice_bounds-check_chain-end-2 c = simp length-take (omega arith)
