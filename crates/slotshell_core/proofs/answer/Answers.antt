@@ -1,6 +1,5 @@
 use lib.ListN.{length-take}
 use native.Mathlib.Omega.{arith}
-use borrow.Author.Rules.{rules}
 use Rattle.slotshell_core.proofs.answer.Goals as goal
 
 pub slice_bounds-do_numbered-end : goal.slice_bounds-do_numbered-end

@@ -1,5 +1,4 @@
-use Prim.Native.Nat.{◌≤◌, ◌-◌}
-use native.Mathlib.Omega.{arith}
+use Prim.Native.Nat.{◌≤◌}
 use Rattle.slotshell_say.proofs.indent.Given as goal
 
 abbrev pub invariant-loop-left : goal.invariant-loop-left

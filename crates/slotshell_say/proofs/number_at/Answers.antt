@@ -1,5 +1,4 @@
 use Rattle.slotshell_say.proofs.Laws.{past}
-use borrow.Author.Rules.{rules}
 use Rattle.slotshell_say.proofs.number_at.Goals as goal
 
 pub returns : goal.returns

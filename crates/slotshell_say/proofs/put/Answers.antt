@@ -1,6 +1,5 @@
 use Rattle.slotshell_say.specs.Said.{out_piece}
 use Rattle.words.proofs.Tests.{equal, unequal}
-use borrow.Author.Rules.{rules}
 use Rattle.slotshell_say.proofs.put.Goals as goal
 
 pub returns-then-b-eq37 : goal.returns-then-b-eq37

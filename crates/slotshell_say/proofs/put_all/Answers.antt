@@ -1,9 +1,5 @@
-use mathlib.Core.Path.{◌≡◌, refl}
-use Prim.Native.Nat.{◌≤◌, ◌-◌}
-use lib.ListN.{length, drop}
+use mathlib.Core.Path.{refl}
 use native.Mathlib.Omega.{arith}
-use Rattle.lines.specs.Output.{page}
-use Rattle.slotshell_say.specs.Said.{out_said}
 use Rattle.slotshell_say.proofs.Laws.{said_on, said_end}
 use Rattle.slotshell_say.proofs.put_all.Goals as goal
 

@@ -1,10 +1,8 @@
-use mathlib.Core.Path.{◌≡◌, refl}
+use mathlib.Core.Path.{◌≡◌}
 use Prim.Native.Nat.{◌≤◌, ◌-◌}
 use lib.ListN.{length, drop}
-use native.Mathlib.Omega.{arith}
 use Rattle.lines.specs.Output.{page}
 use Rattle.slotshell_say.specs.Said.{out_said}
-use Rattle.slotshell_say.proofs.Laws.{said_on, said_end}
 use Rattle.slotshell_say.proofs.put_all.Given as goal
 
 abbrev pub invariant-loop-i : goal.invariant-loop-i

@@ -1,6 +1,5 @@
 use Rattle.slotshell_say.specs.Said.{out_link}
 use Rattle.words.proofs.Tests.{equal, unequal}
-use borrow.Author.Rules.{rules}
 use Rattle.slotshell_say.proofs.put_link.Goals as goal
 
 pub returns-then-x-eq-U : goal.returns-then-x-eq-U

@@ -1,6 +1,5 @@
 use Rattle.slotshell_say.specs.Said.{out_other}
 use Rattle.words.proofs.Tests.{equal, unequal}
-use borrow.Author.Rules.{rules}
 use Rattle.slotshell_say.proofs.put_other.Goals as goal
 
 pub returns-then-b-eq64 : goal.returns-then-b-eq64

@@ -1,7 +1,6 @@
 use Prim.Native.Nat.{◌-◌}
 use mathlib.Core.Path.{◌≡◌}
-use lib.ListN.{length, length-set}
-use native.Mathlib.Omega.{arith}
+use lib.ListN.{length}
 use Rattle.slotshell_core.proofs.asked.numbers.Given as goal
 
 abbrev pub invariant-loop-n : goal.invariant-loop-n

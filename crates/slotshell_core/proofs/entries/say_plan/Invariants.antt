@@ -1,6 +1,5 @@
 use Prim.Native.Nat.{◌≤◌, ◌-◌}
 use lib.ListN.{length}
-use native.Mathlib.Omega.{arith}
 use Rattle.slotshell_core.proofs.entries.say_plan.Given as goal
 
 abbrev pub invariant-loop-i : goal.invariant-loop-i

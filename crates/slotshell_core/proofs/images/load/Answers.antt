@@ -1,6 +1,5 @@
 use lib.ListN.{length-take}
 use native.Mathlib.Omega.{arith}
-use borrow.Author.Rules.{rules}
 use Rattle.slotshell_core.proofs.images.load.Goals as goal
 
 pub slice_bounds-read_image-end : goal.slice_bounds-read_image-end

@@ -1,6 +1,5 @@
 use mathlib.Core.Path.{◌≡◌}
 use lib.ListN.{length}
-use native.Mathlib.Omega.{arith}
 use Rattle.slotshell_core.proofs.input.read.Given as goal
 
 abbrev pub invariant-loop-turns : goal.invariant-loop-turns

@@ -1,6 +1,5 @@
 use lib.ListN.{length-take}
 use native.Mathlib.Omega.{arith}
-use borrow.Author.Rules.{rules}
 use Rattle.slotshell_core.proofs.lookups.say_plain.Goals as goal
 
 pub slice_bounds-say_hits-end : goal.slice_bounds-say_hits-end

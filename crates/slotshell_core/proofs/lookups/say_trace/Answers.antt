@@ -1,6 +1,5 @@
 use lib.ListN.{length-take}
 use native.Mathlib.Omega.{arith}
-use borrow.Author.Rules.{rules}
 use Rattle.slotshell_core.proofs.lookups.say_trace.Goals as goal
 
 pub slice_bounds-say_walk-end : goal.slice_bounds-say_walk-end

@@ -1,7 +1,6 @@
 use Prim.Native.Nat.{◌-◌}
 use mathlib.Core.Path.{◌≡◌}
-use lib.ListN.{length, length-set}
-use native.Mathlib.Omega.{arith}
+use lib.ListN.{length}
 use Rattle.slotshell_core.proofs.moved.clear.Given as goal
 
 abbrev pub invariant-loop-i : goal.invariant-loop-i

@@ -1,7 +1,6 @@
 use Prim.Native.Nat.{◌≤◌, ◌-◌}
 use mathlib.Core.Path.{◌≡◌}
 use lib.ListN.{length}
-use native.Mathlib.Omega.{arith}
 use Rattle.slotshell_core.proofs.moved.put_moves.Given as goal
 
 abbrev pub invariant-loop-i : goal.invariant-loop-i

@@ -1,6 +1,5 @@
 use lib.ListN.{length-take}
 use native.Mathlib.Omega.{arith}
-use borrow.Author.Rules.{rules}
 use Rattle.slotshell_core.proofs.tidying.tidy.Goals as goal
 
 pub slice_bounds-renumber-end : goal.slice_bounds-renumber-end

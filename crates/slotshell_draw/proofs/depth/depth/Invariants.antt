@@ -1,5 +1,4 @@
 use Prim.Native.Nat.{◌≤◌, ◌-◌}
-use native.Mathlib.Omega.{arith}
 use Rattle.slotshell_draw.proofs.depth.depth.Given as goal
 
 abbrev pub invariant-loop-n : goal.invariant-loop-n

@@ -1,5 +1,4 @@
 use Prim.Native.Nat.{◌≤◌, ◌-◌}
-use native.Mathlib.Omega.{arith}
 use Rattle.slotshell_draw.proofs.dot.say_all.Given as goal
 
 abbrev pub invariant-loop-slot : goal.invariant-loop-slot

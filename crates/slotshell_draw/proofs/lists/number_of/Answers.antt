@@ -1,4 +1,3 @@
-use borrow.Author.Rules.{rules}
 use Rattle.slotshell_draw.proofs.Laws.{within, past}
 use Rattle.slotshell_draw.proofs.lists.number_of.Goals as goal
 

@@ -1,5 +1,4 @@
 use Prim.Native.Nat.{◌≤◌, ◌-◌}
-use native.Mathlib.Omega.{arith}
 use Rattle.slotshell_draw.proofs.measures.longest_address.Given as goal
 
 abbrev pub invariant-loop-slot : goal.invariant-loop-slot

@@ -1,5 +1,4 @@
-use Prim.Native.Nat.{◌≤◌, ◌-◌}
-use native.Mathlib.Omega.{arith}
+use Prim.Native.Nat.{◌≤◌}
 use Rattle.slotshell_draw.proofs.numbers.digits.Given as goal
 
 abbrev pub invariant-loop-rest : goal.invariant-loop-rest

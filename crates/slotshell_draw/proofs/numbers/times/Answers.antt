@@ -1,6 +1,5 @@
 use native.Mathlib.Omega.{arith}
 use native.Mathlib.Nat.{mul-le-mul_left, mul-le-mul_right}
-use borrow.Author.Rules.{rules}
 use Rattle.slotshell_draw.proofs.numbers.times.Goals as goal
 
 pub overflow_mul-result : goal.overflow_mul-result

@@ -1,5 +1,4 @@
-use Prim.Native.Nat.{◌≤◌, ◌-◌}
-use native.Mathlib.Omega.{arith}
+use Prim.Native.Nat.{◌≤◌}
 use Rattle.slotshell_draw.proofs.outline.above.Given as goal
 
 abbrev pub invariant-loop-left : goal.invariant-loop-left

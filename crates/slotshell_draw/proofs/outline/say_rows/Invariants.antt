@@ -1,6 +1,5 @@
 use Prim.Native.Nat.{◌≤◌, ◌-◌}
 use lib.ListN.{length}
-use native.Mathlib.Omega.{arith}
 use Rattle.slotshell_draw.proofs.outline.say_rows.Given as goal
 
 abbrev pub invariant-loop-i : goal.invariant-loop-i

@@ -1,5 +1,4 @@
 use Prim.Native.Nat.{◌≤◌, ◌-◌}
-use native.Mathlib.Omega.{arith}
 use Rattle.slotshell_draw.proofs.svg.say_edges.Given as goal
 
 abbrev pub invariant-loop-slot : goal.invariant-loop-slot
