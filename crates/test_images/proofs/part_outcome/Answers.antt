@@ -1,0 +1,7 @@
+use native.Mathlib.Omega.{arith}
+use lib.ListN.{length-take}
+use borrow.Author.Rules.{rules}
+use Rattle.test_images.proofs.part_outcome.Goals as goal
+
+pub slice_bounds-outcome-end : goal.slice_bounds-outcome-end
+slice_bounds-outcome-end c = simp length-take (omega arith)
