@@ -268,10 +268,11 @@ def make(edits):
     names = sorted({edit.parts[-3] for edit in edits})
     with kept.Room(rt, names) as room:
         wrong += room.prove_lacking()
+        # a check begins with what an earlier one of the same crate left, here or in another checkout
+        here = {it.name: it for it in rt.rtlib.crates_below(str(TOP))}
 
         def seed(name, jobs):
-            crate, start = room.crates[name], TOP / 'crates' / name / 'out/incremental'
-            made = rt.seeded(crate, ['--jobs', str(jobs)], str(start) if start.is_dir() else None)
+            made = rt.seeded(room.crates[name], ['--jobs', str(jobs)], rt.work_for(here[name]))
             if not made:
                 wrong.append(f'{name} is not proved as it stands, so its edits were not tried')
             return made

@@ -24,7 +24,7 @@ import sys
 import tempfile
 
 TOP = pathlib.Path(__file__).resolve().parent.parent
-PARTS = ('rtlib', 'Crate', 'Kept', 'copy_crates', 'crates_of', 'handles_of', 'in_lanes', 'need', 'seeded', 'linked', 'checked', 'read_edit', 'edits_of')
+PARTS = ('rtlib', 'Crate', 'Kept', 'copy_crates', 'crates_of', 'handles_of', 'in_lanes', 'need', 'seeded', 'work_for', 'linked', 'checked', 'read_edit')
 
 
 def stop(why):
