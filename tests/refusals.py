@@ -8,8 +8,11 @@ them would be enough for that. So this compares each edit, crates/NAME/must-fail
 the form below. Then it has the prover check the crate with the edit, as rt does, over the libraries
 that `rt ci` kept on this machine, and compares the names in the edit with all that the prover says.
 It leaves that in target/must-fail/NAME/LABEL/.log, and makes anew only what is out of date: a log
-that is older than the edit, than a file of the crate, or than a file of a crate below it. RT_JOBS
-says how many checks may run at a time: as many as there are processors, if it is not set.
+that is older than the edit, than a file of the crate, or than a file of a crate below it. What it
+made of the same files, over the same libraries, in another checkout on this machine, it takes from
+~/.cache/pilkhusan-refusals (or below XDG_CACHE_HOME). RT_JOBS says how many checks may run at a
+time: as many as there are processors, if it is not set. With REFUSALS_MINUTES=N no check begins
+after N minutes, and the edits that were not tried by then are counted and not judged.
 
 The form. An edit is a list of changes. A change is, in this order:
   `# ..`              a sentence on what the change makes wrong, on one line or more. A change
@@ -31,12 +34,14 @@ code changes the name. Such a name is brought up to date in the changed crate's 
 check is made once more: then the old answer meets the new goal.
 """
 import difflib
+import hashlib
 import os
 import pathlib
 import re
 import shutil
 import sys
 import tempfile
+import time
 
 sys.path.insert(0, str(pathlib.Path(__file__).resolve().parent.parent / 'tools'))
 import kept
@@ -262,16 +267,64 @@ def tried(rt, crate, edit, seed):
         return '\n'.join([*lines, ran.stdout]), ran.returncode
 
 
+# What earlier runs on this machine made, by a sum of all that a log rests on. CACHED goes up by one
+# if `tried` comes to do something else.
+CACHE = pathlib.Path(os.environ.get('XDG_CACHE_HOME') or pathlib.Path.home() / '.cache') / 'pilkhusan-refusals'
+CACHED = 1
+DAYS = 30
+
+
+def place_of(room, edit):
+    """Where the cache has the log of an edit; None if the libraries below were not kept by rt ci."""
+    crate = room.crates[edit.parts[-3]]
+    if room.lacking and {crate.name, *(it.name for it in crate.below())} & {*room.lacking}:
+        return None
+    rests_on = (CACHED, room.kept.key(crate), edit.name, edit.read_bytes())
+    return CACHE / f'{hashlib.sha256(repr(rests_on).encode()).hexdigest()}.log'
+
+
+def put(path, text):
+    """Writes a file whole, so that no other run meets half of it."""
+    path.parent.mkdir(parents=True, exist_ok=True)
+    with tempfile.NamedTemporaryFile('w', dir=path.parent, prefix='new-', delete=False, encoding='utf-8') as file:
+        file.write(text)
+    os.replace(file.name, path)
+
+
+def take(room, edits):
+    """Takes the logs that the cache has. Returns the edits that it lacks."""
+    lacking = []
+    for edit in edits:
+        place = place_of(room, edit)
+        text = place.read_text() if place and place.is_file() else ''
+        if ENDED.search(text):
+            os.utime(place)
+            put(log_of(edit), text)
+        else:
+            lacking.append(edit)
+    for file in CACHE.glob('*'):
+        if file.stat().st_mtime < time.time() - DAYS * 86400:
+            file.unlink()
+    return lacking
+
+
 def make(edits):
-    """Makes the logs of these edits. Returns what went wrong."""
-    rt, wrong = kept.loaded(), []
+    """Makes the logs of these edits. Returns what went wrong, and the edits that were not tried in
+    the time."""
+    rt, wrong, late = kept.loaded(), [], []
+    minutes = os.environ.get('REFUSALS_MINUTES', '')
+    end = time.time() + 60 * float(minutes) if minutes else float('inf')
     names = sorted({edit.parts[-3] for edit in edits})
     with kept.Room(rt, names) as room:
+        edits = take(room, edits)
+        names = sorted({edit.parts[-3] for edit in edits})
         wrong += room.prove_lacking()
         # a check begins with what an earlier one of the same crate left, here or in another checkout
         here = {it.name: it for it in rt.rtlib.crates_below(str(TOP))}
 
         def seed(name, jobs):
+            if time.time() > end:
+                return None
             made = rt.seeded(room.crates[name], ['--jobs', str(jobs)], rt.work_for(here[name]))
             if not made:
                 wrong.append(f'{name} is not proved as it stands, so its edits were not tried')
@@ -279,11 +332,16 @@ def make(edits):
 
         def one(given, edit):
             made = given[edit.parts[-3], 'seed']
-            if made:
+            if time.time() > end:
+                late.append(edit)
+            elif made:
                 said, status = tried(rt, room.crates[edit.parts[-3]], edit, f'{made}/seed')
-                log = log_of(edit)
-                log.parent.mkdir(parents=True, exist_ok=True)
-                log.write_text(f'{said.rstrip()}\nrefusals: the check ended with status {status}\n')
+                text, place = f'{said.rstrip()}\nrefusals: the check ended with status {status}\n', place_of(room, edit)
+                put(log_of(edit), text)
+                # any other status may be of this run alone
+                if place and status in (0, 1):
+                    put(place, text)
+            if made:
                 left[edit.parts[-3]] -= 1
                 if not left[edit.parts[-3]]:
                     shutil.rmtree(made, ignore_errors=True)
@@ -298,14 +356,15 @@ def make(edits):
             for edit in own:
                 tasks[name, 'edits', edit.stem] = ([(name, 'seed')], lines, 0.7 * rt.need(crate), lambda given, jobs, edit=edit: one(given, edit))
         rt.in_lanes(tasks)
-    return wrong
+    return wrong, late
 
 
 def main():
     edits = sorted(it for it in TOP.glob('crates/*/must-fail/*.edit') if it.parts[-3] in (sys.argv[1:] or [it.parts[-3]]))
     changes = names = bad = 0
     old = [edit for edit in edits if not is_made(edit)]
-    for line in make(old) if old else []:
+    unmade, late = make(old) if old else ([], [])
+    for line in unmade:
         bad += 1
         print(f'refusals: {line}')
     for edit in edits:
@@ -313,12 +372,14 @@ def main():
         groups, wrong = form(edit.parents[1], edit.read_text())
         named = [name for group in groups for name in group]
         changes, names = changes + len(groups), names + len(named)
-        wrong += of_log(crate, edit, named)
+        wrong += of_log(crate, edit, named) if edit not in late else []
         bad += len(wrong)
         for line in wrong:
             print(f'refusals: {crate}/{edit.stem}: {line}')
     if not edits:
         print('refusals: there is no edit')
+    if late:
+        print(f'refusals: {len(late)} edits were not tried in the time')
     print(f'refusals: {len(edits)} edits, {changes} changes, {names} names, {bad} wrong')
     return 1 if bad or not edits else 0
 

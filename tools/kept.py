@@ -77,7 +77,7 @@ class Room:
             wanted = {below for it in every if it.name in self.names for below in [it, *it.below()]}
             self.crates = {it.name: it for it in every if it in wanted}
             self.lacking = []
-            kept = rt.Kept([*self.crates.values()])
+            self.kept = kept = rt.Kept([*self.crates.values()])
             for crate in self.crates.values():
                 if any(it.name in self.lacking for it in crate.below()):
                     self.lacking.append(crate.name)
