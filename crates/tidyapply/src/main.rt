@@ -31,8 +31,8 @@ struct Fed {
     failed: bool,
 }
 
-// Reads once from the plan, to the front of the space. No byte is read at the end of the plan, and if
-// the read failed.
+// Reads once from the plan, to the front of the space. No byte is read at the end of the plan, and
+// if the read failed.
 fn read_some(file: &mut File, space: &mut [u8]) -> Got
     ensures { IsPrefixLen result.len space.new }
 {
@@ -68,6 +68,9 @@ fn feed_all(file: &mut File, input: &mut [u8], plan: &mut [u64], lines: &mut [u6
     }
 }
 
+// The system's number of the error that a name is too long.
+const NAME_TOO_LONG: i32 = 36;
+
 // Opens the plan, whose name is the program's argument. It has to be text.
 fn open_plan(rt: &HostRuntime) -> Result<File, Error> {
     let mut name = io::buffer();
@@ -76,7 +79,8 @@ fn open_plan(rt: &HostRuntime) -> Result<File, Error> {
             Ok(path) => File::open(rt, path),
             Err(_) => Err(Error::from(ErrorKind::InvalidFilename)),
         },
-        Err(_) => Err(Error::from(ErrorKind::InvalidFilename)),
+        Err(FillError::TooLong) => Err(Error::from_raw_os_error(NAME_TOO_LONG)),
+        Err(FillError::NotPresent) => Err(Error::from(ErrorKind::NotFound)),
     }
 }
 
