@@ -381,7 +381,7 @@ def main():
     if late:
         print(f'refusals: {len(late)} edits were not tried in the time')
     print(f'refusals: {len(edits)} edits, {changes} changes, {names} names, {bad} wrong')
-    return 1 if bad or not edits else 0
+    return 1 if bad or late or not edits else 0
 
 
 if __name__ == '__main__':
