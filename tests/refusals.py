@@ -12,7 +12,7 @@ that is older than the edit, than a file of the crate, or than a file of a crate
 made of the same files, over the same libraries, in another checkout on this machine, it takes from
 ~/.cache/pilkhusan-refusals (or below XDG_CACHE_HOME). RT_JOBS says how many checks may run at a
 time: as many as there are processors, if it is not set. With REFUSALS_MINUTES=N no check begins
-after N minutes, and the edits that were not tried by then are counted and not judged.
+after N minutes, and this fails if an edit was not tried by then.
 
 The form. An edit is a list of changes. A change is, in this order:
   `# ..`              a sentence on what the change makes wrong, on one line or more. A change
