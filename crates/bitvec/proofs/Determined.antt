@@ -1,6 +1,7 @@
 -- Any two answers, and any two exits, that a promise allows are equal.
 use mathlib.Core.Path.{◌≡◌, refl, sym, ap, ◌∙◌}
-use mathlib.Core.Bool.{cond}
+use mathlib.Core.Bool.{Bool, cond}
+use Rattle.std.specs.Prelude.{Result, Ok, Err}
 use Prim.Native.Nat.{ℕ}
 use lib.Dec.{eqb}
 use borrow.Author.Tests.{ne_eqb}
@@ -11,8 +12,8 @@ use denote.Triple.Clauses.{AtExit}
 use Rattle.words.proofs.Refusals.{refusal_at, at_number, number_pos}
 use Rattle.words.specs.Refusals.{refusal_number}
 use Rattle.bitvec.specs.Calls.{Bits, numbers}
-use Rattle.bitvec.specs.declared.Answer.{Answer}
-use Rattle.bitvec.specs.declared.Answer.TheVariants.{Done, Refused}
+use Rattle.words.specs.declared.refusal.Refusal.{Refusal}
+use Rattle.bitvec.specs.declared.BitVec.{BitVec}
 use Rattle.bitvec.proofs.BitVec.from_elem.Reads as from-elem-reads
 use Rattle.bitvec.proofs.BitVec.from_elem.Kinds as from-elem-kinds
 use Rattle.bitvec.proofs.BitVec.get.Reads as get-reads
@@ -27,14 +28,14 @@ use Rattle.bitvec.proofs.BitVec.swap_remove.Reads as swap-remove-reads
 use Rattle.bitvec.proofs.BitVec.swap_remove.Kinds as swap-remove-kinds
 
 -- its numbers say which answer it is
-abbrev answer_of : Bits → Answer
-answer_of x = cond (eqb x.no 0) (Done x.bit (record { len = x.len })) (Refused (refusal_at x.no))
+abbrev answer_of : Bits → Result (Bool × BitVec) Refusal
+answer_of x = cond (eqb x.no 0) (Ok (x.bit, record { len = x.len })) (Err (refusal_at x.no))
 
-answer_back : (given : ℕ) (r : Answer) → answer_of (numbers given r) ≡ r
-answer_back given (Done b v) = refl
-answer_back given (Refused y) = rw (ne_eqb (refusal_number y) 0 (omega (arith, number_pos y)), at_number y)
+answer_back : (given : ℕ) (r : Result (Bool × BitVec) Refusal) → answer_of (numbers given r) ≡ r
+answer_back given (Ok (b, v)) = refl
+answer_back given (Err y) = rw (ne_eqb (refusal_number y) 0 (omega (arith, number_pos y)), at_number y)
 
-pub numbers_injective : (given : ℕ) (r t : Answer) (x : Bits) → numbers given r ≡ x → numbers given t ≡ x → r ≡ t
+pub numbers_injective : (given : ℕ) (r t : Result (Bool × BitVec) Refusal) (x : Bits) → numbers given r ≡ x → numbers given t ≡ x → r ≡ t
 numbers_injective given r t x p q = sym (answer_back given r) ∙ ap answer_of (p ∙ sym q) ∙ answer_back given t
 
 pub from-elem-determined :

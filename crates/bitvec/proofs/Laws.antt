@@ -1,18 +1,16 @@
 -- What the code's tests say of a rule, in the form that `search` takes.
 use mathlib.Core.Path.{◌≡◌, refl, sym, ap, ◌∙◌}
 use mathlib.Core.Bool.{Bool, true, false, not, ◌&&◌, true≢false}
-use mathlib.Core.List.{List, [], ◌∷◌}
+use mathlib.Core.List.{List, [], ◌∷◌, ◌++◌}
 use Prim.Native.Nat.{ℕ, zero, suc, ◌+◌, ◌-◌, ◌*◌, ◌/◌, ◌%◌, ◌^◌, ◌<◌, ◌≤◌}
 use native.Mathlib.Omega.{arith}
-use native.Mathlib.Numerals.{add-one}
-use lib.ListN.{length, set}
+use lib.ListN.{length, length-take, set, take, drop, replicate}
 use lib.Bits.{bit_and}
 use lib.Dec.{eqb, ltb, leb}
 use borrow.Author.Tests.{ltb-true, ltb-false, leb-true, leb-false, le-leb, lt-leb, lt-ltb, le-ltb, eq-eqb, ne_eqb}
 use Rattle.words.proofs.Laws.{linked, unlinked}
 use Rattle.words.specs.Ix.{link_of, on_link}
-use Rattle.words.specs.declared.ix.Link.{Link}
-use Rattle.words.specs.declared.ix.Link.TheVariants.{Slot, Nil}
+use Rattle.std.specs.Prelude.{Option, Some, None}
 use Rattle.bitvec.specs.Bits.{bit, put, bit_at, set_bit, fill}
 use Rattle.bitvec.specs.Calls.{done, allowed, roomy, bytes_for, gap_closed}
 use Rattle.bitvec.proofs.Numbers.{num, put_small}
@@ -52,18 +50,15 @@ bytes_hold n len b e = go (leb b n) refl
     go true q = sym (le-leb len (n * 8) (omega (arith, leb-true b n q)))
     go false q = sym (lt-leb len (n * 8) (omega (arith, leb-false b n q)))
 
--- the first bytes are filled one by one
-pub fill_more : (j x : ℕ) (s : List ℕ) → j < length s → set (fill j x s) j x ≡ fill (suc j) x s
+-- the first bytes are filled, and the others are kept
+all_filled : (n x : ℕ) (s : List ℕ) → n ≤ length s → replicate n x ++ drop n s ≡ fill n x s
 unfolding fill
-fill_more j x [] h = absurd (omega arith)
-fill_more zero x (b ∷ s) h = refl
-fill_more (suc j) x (b ∷ s) h = ap (λ (l : List ℕ). x ∷ l) (fill_more j x s (omega arith))
+all_filled zero x s h = refl
+all_filled (suc n) x [] h = absurd (omega arith)
+all_filled (suc n) x (b ∷ s) h = ap (λ (l : List ℕ). x ∷ l) (all_filled n x s (omega arith))
 
-pub fill_next : (j x : ℕ) (s t : List ℕ) → t ≡ fill j x s → length t ≡ length s → j < length t → set t j x ≡ fill (j + 1) x s
-fill_next j x s t e q h = rw (e, add-one) (fill_more j x s (omega arith))
-
-pub fill_end : (j n x : ℕ) (s t : List ℕ) → t ≡ fill j x s → j ≤ n → n ≤ j → t ≡ fill n x s
-fill_end j n x s t e h k = let q : j ≡ n = omega arith in rw q at e
+pub filled : (n x : ℕ) (s t : List ℕ) → n ≤ length s → t ≡ replicate (length (take n s)) x → t ++ drop n s ≡ fill n x s
+filled n x s t h e = let k : length (take n s) ≡ n = simp length-take (omega arith) in rw (e, k) (all_filled n x s h)
 
 -- what is allowed is there
 pub allowed_in : (n len i : ℕ) (b : Bool) → b ≡ allowed n len i → b ≡ true → (len ≤ n * 8) × (i < len)
@@ -139,8 +134,8 @@ pub fill_is : (s t : List ℕ) (b len x y : ℕ) → t ≡ fill b x s → b ≡ 
 fill_is s t b len x y e q f = rw (← q, ← f) e
 
 -- a link to no red slot
-pub black_slot : (r b : Bool) (n w k : ℕ) (l : Link) (f : ℕ → Bool) → l ≡ link_of n w → l ≡ Slot k → b ≡ f k → r ≡ not b → r ≡ not (on_link n w f false)
+pub black_slot : (r b : Bool) (n w k : ℕ) (l : Option ℕ) (f : ℕ → Bool) → l ≡ link_of n w → l ≡ Some k → b ≡ f k → r ≡ not b → r ≡ not (on_link n w f false)
 black_slot r b n w k l f e q h p = p ∙ ap not (linked b n w k l f false e q h)
 
-pub no_slot_black : (n w : ℕ) (l : Link) (f : ℕ → Bool) → l ≡ link_of n w → l ≡ Nil → true ≡ not (on_link n w f false)
+pub no_slot_black : (n w : ℕ) (l : Option ℕ) (f : ℕ → Bool) → l ≡ link_of n w → l ≡ None → true ≡ not (on_link n w f false)
 no_slot_black n w l f e q = ap not (unlinked false n w l f false e q refl)

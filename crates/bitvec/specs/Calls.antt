@@ -1,11 +1,11 @@
 -- What the bit calls answer and leave.
 -- Letters: s bytes, n size in bytes, i place of a bit, v vector of bits or bit to write, b bit that
 --   was read, y refusal
-use Rattle.std.specs.Prelude.{Bool, false, cond, ◌&&◌, List, ℕ, ◌+◌, ◌-◌, ◌/◌, length, eqb, ltb, leb}
+use Rattle.std.specs.Prelude.{Bool, false, Result, Ok, Err, cond, ◌&&◌, List, ℕ, ◌+◌, ◌-◌, ◌/◌, length, eqb, ltb, leb}
 use Rattle.words.specs.Refusals.{refusal_number}
 use Rattle.bitvec.specs.Bits.{bit_at, set_bit, fill}
-use Rattle.bitvec.specs.declared.Answer.{Answer}
-use Rattle.bitvec.specs.declared.Answer.TheVariants.{Done, Refused}
+use Rattle.words.specs.declared.refusal.Refusal.{Refusal}
+use Rattle.bitvec.specs.declared.BitVec.{BitVec}
 use Rattle.words.specs.Nodes.{bits_of}
 
 -- an answer by its numbers: the refusal's, 0 for none; the bit that was read; the length
@@ -15,9 +15,9 @@ pub record Bits : Type 0 where
   pub len : ℕ
 
 -- a refusal has no bit, and the length as it was given
-abbrev pub numbers : (given : ℕ) (answer : Answer) → Bits
-numbers given (Done b v) = record { no = 0; bit = b; len = v.len }
-numbers given (Refused y) = record { no = refusal_number y; bit = false; len = given }
+abbrev pub numbers : (given : ℕ) (answer : Result (Bool × BitVec) Refusal) → Bits
+numbers given (Ok (b, v)) = record { no = 0; bit = b; len = v.len }
+numbers given (Err y) = record { no = refusal_number y; bit = false; len = given }
 
 abbrev pub done : (bit : Bool) (len : ℕ) → Bits
 done b len = record { no = 0; bit = b; len = len }

@@ -3,7 +3,7 @@ ghost use Rattle.std.specs.Prelude.{◌≡◌, true, false, not};
 ghost use Rattle.bitvec.specs.Colours.{red, red_at, paint, paint_at};
 ghost use Rattle.words.specs.Nodes.{HasBit, HoldsBits};
 
-use words::ix::Link;
+use words::ix::slot_at;
 
 pub fn is_red(colours: &[u8], ix: u64) -> bool
     requires { HasBit colours.now ix }
@@ -24,7 +24,7 @@ pub fn is_black_or_nil(colours: &[u8], count: u64, word: u64) -> bool
     requires { HoldsBits colours.now count }
     ensures { result ≡ not (red_at count colours.now word) }
 {
-    let Link::Slot(ix) = Link::new(word, count) else {
+    let Some(ix) = slot_at(word, count) else {
         return true;
     };
     is_black(colours, ix)
@@ -58,7 +58,7 @@ pub fn set_black_at(colours: &mut [u8], count: u64, word: u64)
     requires { HoldsBits colours.old count }
     ensures { colours.new ≡ paint_at count colours.old word false }
 {
-    let Link::Slot(ix) = Link::new(word, count) else {
+    let Some(ix) = slot_at(word, count) else {
         return;
     };
     set_black(colours, ix);

@@ -17,14 +17,6 @@ pub struct BitVec {
     pub len: usize,
 }
 
-// What a call returns: the bit that it read and the vector after the call, or the refusal. The bit
-// is false if the call reads no bit.
-#[derive(Clone, Copy)]
-pub enum Answer {
-    Done(bool, BitVec),
-    Refused(Refusal),
-}
-
 // The weights of the bits of a byte: bit j weighs 2 to the j.
 const WEIGHTS: [u8; 8] = [1, 2, 4, 8, 16, 32, 64, 128];
 
@@ -119,11 +111,7 @@ fn fill_bytes(bytes: &mut [u8], n: usize, x: u8)
     requires { n ≤ length bytes.old }
     ensures { bytes.new ≡ fill n x bytes.old }
 {
-    let mut j = 0;
-    while j < n {
-        bytes[j] = x;
-        j += 1;
-    }
+    bytes[..n].fill(x);
 }
 
 // Copies the last of len bits to bit i, unless bit i is the last one.
@@ -137,77 +125,73 @@ fn close_gap(bytes: &mut [u8], len: usize, i: usize)
     }
 }
 
+// Each call returns the bit that it read and the vector after the call, or the refusal. The bit is
+// false if the call reads no bit.
 impl BitVec {
     // Makes a vector of len bits, each of which is `elem`. Writes only the bytes that these bits
     // take.
-    pub fn from_elem(bytes: &mut [u8], len: usize, elem: bool) -> Answer
+    pub fn from_elem(bytes: &mut [u8], len: usize, elem: bool) -> Result<(bool, BitVec), Refusal>
         ensures { (numbers 0 result ≡ from_elem_rule bytes.old len) × (bytes.new ≡ from_elem_bytes bytes.old len elem) }
     {
-        if holds(bytes.len(), len) {
-            fill_bytes(bytes, get_byte_len(len), byte_of(elem));
-            Answer::Done(false, BitVec { len })
-        } else {
-            Answer::Refused(Refusal::BadBit)
+        if !holds(bytes.len(), len) {
+            return Err(Refusal::BadBit);
         }
+        fill_bytes(bytes, get_byte_len(len), byte_of(elem));
+        Ok((false, BitVec { len }))
     }
 
-    pub fn get(self, bytes: &[u8], i: usize) -> Answer
+    pub fn get(self, bytes: &[u8], i: usize) -> Result<(bool, BitVec), Refusal>
         ensures { numbers self.len result ≡ get_rule bytes.now self.len i }
     {
-        if has_bit(bytes.len(), self.len, i) {
-            Answer::Done(bit_at(bytes, i), self)
-        } else {
-            Answer::Refused(Refusal::BadBit)
+        if !has_bit(bytes.len(), self.len, i) {
+            return Err(Refusal::BadBit);
         }
+        Ok((bit_at(bytes, i), self))
     }
 
-    pub fn set(self, bytes: &mut [u8], i: usize, value: bool) -> Answer
+    pub fn set(self, bytes: &mut [u8], i: usize, value: bool) -> Result<(bool, BitVec), Refusal>
         ensures { (numbers self.len result ≡ set_rule bytes.old self.len i) × (bytes.new ≡ set_bytes bytes.old self.len i value) }
     {
-        if has_bit(bytes.len(), self.len, i) {
-            put_bit(bytes, i, value);
-            Answer::Done(false, self)
-        } else {
-            Answer::Refused(Refusal::BadBit)
+        if !has_bit(bytes.len(), self.len, i) {
+            return Err(Refusal::BadBit);
         }
+        put_bit(bytes, i, value);
+        Ok((false, self))
     }
 
     // Writes the new bit. The other bits of its byte stay unchanged.
-    pub fn push(self, bytes: &mut [u8], value: bool) -> Answer
+    pub fn push(self, bytes: &mut [u8], value: bool) -> Result<(bool, BitVec), Refusal>
         ensures { (numbers self.len result ≡ push_rule bytes.old self.len) × (bytes.new ≡ push_bytes bytes.old self.len value) }
     {
         let len = self.len;
-        if has_room(bytes.len(), len) {
-            put_bit(bytes, len, value);
-            Answer::Done(false, BitVec { len: len + 1 })
-        } else {
-            Answer::Refused(Refusal::BadBit)
+        if !has_room(bytes.len(), len) {
+            return Err(Refusal::BadBit);
         }
+        put_bit(bytes, len, value);
+        Ok((false, BitVec { len: len + 1 }))
     }
 
     // Returns the last bit. Writes no byte.
-    pub fn pop(self, bytes: &[u8]) -> Answer
+    pub fn pop(self, bytes: &[u8]) -> Result<(bool, BitVec), Refusal>
         ensures { numbers self.len result ≡ pop_rule bytes.now self.len }
     {
         let len = self.len;
-        if has_bit(bytes.len(), len, 0) {
-            Answer::Done(bit_at(bytes, len - 1), BitVec { len: len - 1 })
-        } else {
-            Answer::Refused(Refusal::BadBit)
+        if !has_bit(bytes.len(), len, 0) {
+            return Err(Refusal::BadBit);
         }
+        Ok((bit_at(bytes, len - 1), BitVec { len: len - 1 }))
     }
 
     // Returns bit i. The last bit takes its place.
-    pub fn swap_remove(self, bytes: &mut [u8], i: usize) -> Answer
+    pub fn swap_remove(self, bytes: &mut [u8], i: usize) -> Result<(bool, BitVec), Refusal>
         ensures { (numbers self.len result ≡ swap_remove_rule bytes.old self.len i) × (bytes.new ≡ swap_remove_bytes bytes.old self.len i) }
     {
         let len = self.len;
-        if has_bit(bytes.len(), len, i) {
-            let old_val = bit_at(bytes, i);
-            close_gap(bytes, len, i);
-            Answer::Done(old_val, BitVec { len: len - 1 })
-        } else {
-            Answer::Refused(Refusal::BadBit)
+        if !has_bit(bytes.len(), len, i) {
+            return Err(Refusal::BadBit);
         }
+        let old_val = bit_at(bytes, i);
+        close_gap(bytes, len, i);
+        Ok((old_val, BitVec { len: len - 1 }))
     }
 }

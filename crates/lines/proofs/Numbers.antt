@@ -13,7 +13,7 @@ glyph_is : (n : ℕ) → hex_digit_ascii (n % 10) ≡ 48 + n % 10
 glyph_is n = rw (lt-ltb (n % 10) 10 (omega arith))
 
 -- as many digits k as the number has, where it has no more than f
-spelled : (f k n : ℕ) → 0 < f → n < 10 ^ f → IsDigitCount 10 1 n k → last_digits 10 k n ≡ decimal f n
+pub spelled : (f k n : ℕ) → 0 < f → n < 10 ^ f → IsDigitCount 10 1 n k → last_digits 10 k n ≡ decimal f n
 unfolding decimal
 spelled zero k n z h d = absurd (omega arith)
 spelled (suc f) zero n z h (a, b, c) = absurd (omega arith)

@@ -1,41 +1,32 @@
 -- A line of a name and numbers, byte by byte.
--- Letters: b byte, d digit, l line, p part, v value, s slice, f found (for the number), z otherwise
---   (if there is none)
-use Rattle.std.specs.Prelude.{Bool, true, false, cond, List, ℕ, ◌+◌, ◌-◌, ◌*◌, set, eqb, ltb, leb}
+-- Letters: n number, b byte, d digit, l line, p part, v value, s slice, f found (for the number),
+--   z otherwise (if there is none)
+use Rattle.std.specs.Prelude.{Bool, true, false, Option, Some, None, cond, List, ℕ, ◌+◌, ◌-◌, ◌*◌, set, eqb, ltb, leb}
 use Rattle.lines.specs.declared.input.Line.{Line}
 use Rattle.lines.specs.declared.input.Part.{Part}
 use Rattle.lines.specs.declared.input.Part.TheVariants.{Start, Name, Number, Gap, Wrong}
-use Rattle.lines.specs.declared.input.Digit.{Digit}
-use Rattle.lines.specs.declared.input.Digit.TheVariants.{Is, Not}
-use Rattle.lines.specs.declared.input.Value.{Value}
-use Rattle.lines.specs.declared.input.Value.TheVariants as value
 
 abbrev pub start_of : Line
 start_of = record { part = Start; name = 0; count = 0; value = 0 }
 
 -- the digits are the bytes 48 to 57
-unfoldable pub digit_of_lem : (byte : ℕ) → Digit
-digit_of_lem b = cond (ltb b 48) Not (cond (ltb 57 b) Not (Is (b - 48)))
+unfoldable pub digit_of_lem : (byte : ℕ) → Option ℕ
+digit_of_lem b = cond (ltb b 48) None (cond (ltb 57 b) None (Some (b - 48)))
 
--- by cases on a byte: f of its digit, or z where it is none
-unfoldable pub on_digit : {A : Type 0} → (digit : Digit) (found : ℕ → A) (otherwise : A) → A
-on_digit (Is d) f z = f d
-on_digit Not f z = z
+-- by cases on a number that may be missing: f of it, or z if there is none
+unfoldable pub on_some : {A : Type 0} → (number : Option ℕ) (found : ℕ → A) (otherwise : A) → A
+on_some (Some n) f z = f n
+on_some None f z = z
 
 abbrev pub line_at : (line : Line) (part : Part) (value : ℕ) → Line
 line_at l p v = record { part = p; name = l.name; count = l.count; value = v }
 
 -- a number with one more digit has at most 64 bits; zeros in front count for nothing
-unfoldable pub appended : (value digit : ℕ) → Value
-appended v d = cond (ltb (v * 10 + d) 18446744073709551616) (value.Is (v * 10 + d)) value.Over
-
--- by cases on such a number: f of it, or z where it is too great
-unfoldable pub on_value : {A : Type 0} → (value : Value) (found : ℕ → A) (otherwise : A) → A
-on_value (value.Is v) f z = f v
-on_value value.Over f z = z
+unfoldable pub appended : (value digit : ℕ) → Option ℕ
+appended v d = cond (ltb (v * 10 + d) 18446744073709551616) (Some (v * 10 + d)) None
 
 abbrev pub with_digit_lem : (line : Line) (digit : ℕ) → Line
-with_digit_lem l d = on_value (appended l.value d) (λ v. line_at l Number v) (line_at l Wrong 0)
+with_digit_lem l d = on_some (appended l.value d) (λ v. line_at l Number v) (line_at l Wrong 0)
 
 -- one more byte of the name; after a space a number may begin
 unfoldable pub with_letter_lem : (line : Line) (byte room : ℕ) → Line
@@ -58,15 +49,15 @@ numbers_after l s = set s l.count l.value
 -- One more byte, which is no line end: the line, the name's slice and the numbers' slice after it.
 -- What does not fit makes the line wrong; `room` and `places` are how much the slices hold.
 abbrev pub byte_line : (part : Part) (line : Line) (byte room places : ℕ) → Line
-byte_line Start l b room places = on_digit (digit_of_lem b) (λ d. line_at l Number d) (with_letter_lem l b room)
-byte_line Name l b room places = on_digit (digit_of_lem b) (λ d. line_at l Wrong 0) (with_letter_lem l b room)
-byte_line Number l b room places = on_digit (digit_of_lem b) (λ d. with_digit_lem l d) (cond (eqb b 32) (closed l places) (line_at l Wrong 0))
-byte_line Gap l b room places = on_digit (digit_of_lem b) (λ d. line_at l Number d) (line_at l Wrong 0)
+byte_line Start l b room places = on_some (digit_of_lem b) (λ d. line_at l Number d) (with_letter_lem l b room)
+byte_line Name l b room places = on_some (digit_of_lem b) (λ d. line_at l Wrong 0) (with_letter_lem l b room)
+byte_line Number l b room places = on_some (digit_of_lem b) (λ d. with_digit_lem l d) (cond (eqb b 32) (closed l places) (line_at l Wrong 0))
+byte_line Gap l b room places = on_some (digit_of_lem b) (λ d. line_at l Number d) (line_at l Wrong 0)
 byte_line Wrong l b room places = l
 
 abbrev pub byte_name : (part : Part) (line : Line) (byte : ℕ) (slice : List ℕ) → List ℕ
-byte_name Start l b s = on_digit (digit_of_lem b) (λ d. s) (name_after l b s)
-byte_name Name l b s = on_digit (digit_of_lem b) (λ d. s) (name_after l b s)
+byte_name Start l b s = on_some (digit_of_lem b) (λ d. s) (name_after l b s)
+byte_name Name l b s = on_some (digit_of_lem b) (λ d. s) (name_after l b s)
 byte_name Number l b s = s
 byte_name Gap l b s = s
 byte_name Wrong l b s = s
@@ -74,7 +65,7 @@ byte_name Wrong l b s = s
 abbrev pub byte_numbers : (part : Part) (line : Line) (byte : ℕ) (slice : List ℕ) → List ℕ
 byte_numbers Start l b s = s
 byte_numbers Name l b s = s
-byte_numbers Number l b s = on_digit (digit_of_lem b) (λ d. s) (cond (eqb b 32) (numbers_after l s) s)
+byte_numbers Number l b s = on_some (digit_of_lem b) (λ d. s) (cond (eqb b 32) (numbers_after l s) s)
 byte_numbers Gap l b s = s
 byte_numbers Wrong l b s = s
 

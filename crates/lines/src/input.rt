@@ -5,13 +5,11 @@ ghost use Rattle.lines.specs.Input.{start_of, digit_of_lem, line_at, appended, w
 ghost use Rattle.lines.specs.Input.{byte_line, byte_name, byte_numbers, end_line_lem, end_numbers, wrong};
 ghost use Rattle.lines.specs.declared.input.Part.TheVariants.{Start, Name, Number, Gap};
 
-use words::numbers::wide;
-
 const SPACE: u8 = 32;
 
 // What the next byte may be. At Start a number may begin, or the name continues. A wrong line stays
 // wrong.
-#[derive(Clone, Copy)]
+#[derive(Clone, Copy, PartialEq, Eq)]
 pub enum Part {
     Start,
     Name,
@@ -30,41 +28,22 @@ pub struct Line {
     pub value: u64,
 }
 
-#[derive(Clone, Copy)]
-pub enum Digit {
-    Is(u64),
-    Not,
-}
-
-// A number with one digit more, or Over if it is above 2^64 - 1.
-#[derive(Clone, Copy)]
-pub enum Value {
-    Is(u64),
-    Over,
-}
-
-pub fn digit_of(b: u8) -> Digit
+// Returns the value of a digit.
+pub fn digit_of(b: u8) -> Option<u64>
     ensures { result ≡ digit_of_lem b }
 {
-    if b < 48 {
-        return Digit::Not;
+    if b.is_ascii_digit() {
+        Some(u64::from(b - b'0'))
+    } else {
+        None
     }
-    if 57 < b {
-        return Digit::Not;
-    }
-    Digit::Is(wide(b) - 48)
 }
 
-pub fn append_digit(value: u64, d: u64) -> Value
+// Returns a number with one digit more, if it is not above 2^64 - 1.
+pub fn append_digit(value: u64, d: u64) -> Option<u64>
     ensures { result ≡ appended value d }
 {
-    if 1844674407370955161 < value {
-        return Value::Over;
-    }
-    if 18446744073709551615 - value * 10 < d {
-        return Value::Over;
-    }
-    Value::Is(value * 10 + d)
+    value.checked_mul(10)?.checked_add(d)
 }
 
 impl Line {
@@ -84,9 +63,8 @@ impl Line {
     {
         Line {
             part,
-            name: self.name,
-            count: self.count,
             value,
+            ..self
         }
     }
 
@@ -95,8 +73,8 @@ impl Line {
         ensures { result ≡ with_digit_lem self d }
     {
         match append_digit(self.value, d) {
-            Value::Is(value) => self.at(Part::Number, value),
-            Value::Over => self.at(Part::Wrong, 0),
+            Some(value) => self.at(Part::Number, value),
+            None => self.at(Part::Wrong, 0),
         }
     }
 
@@ -109,19 +87,12 @@ impl Line {
             return self.at(Part::Wrong, 0);
         }
         name[n] = b;
-        if b == SPACE {
-            return Line {
-                part: Part::Start,
-                name: n + 1,
-                count: self.count,
-                value: 0,
-            };
-        }
+        let part = if b == SPACE { Part::Start } else { Part::Name };
         Line {
-            part: Part::Name,
+            part,
             name: n + 1,
-            count: self.count,
             value: 0,
+            ..self
         }
     }
 
@@ -136,9 +107,9 @@ impl Line {
         numbers[n] = self.value;
         Line {
             part: Part::Gap,
-            name: self.name,
             count: n + 1,
             value: 0,
+            ..self
         }
     }
 
@@ -146,8 +117,8 @@ impl Line {
         ensures { (result ≡ byte_line Start self b (length name.old) 0) × (name.new ≡ byte_name Start self b name.old) }
     {
         match digit_of(b) {
-            Digit::Is(d) => self.at(Part::Number, d),
-            Digit::Not => self.with_letter(b, name),
+            Some(d) => self.at(Part::Number, d),
+            None => self.with_letter(b, name),
         }
     }
 
@@ -156,8 +127,8 @@ impl Line {
         ensures { (result ≡ byte_line Name self b (length name.old) 0) × (name.new ≡ byte_name Name self b name.old) }
     {
         match digit_of(b) {
-            Digit::Is(_) => self.at(Part::Wrong, 0),
-            Digit::Not => self.with_letter(b, name),
+            Some(_) => self.at(Part::Wrong, 0),
+            None => self.with_letter(b, name),
         }
     }
 
@@ -165,8 +136,8 @@ impl Line {
         ensures { (result ≡ byte_line Number self b 0 (length numbers.old)) × (numbers.new ≡ byte_numbers Number self b numbers.old) }
     {
         match digit_of(b) {
-            Digit::Is(d) => self.with_digit(d),
-            Digit::Not => if b == SPACE {
+            Some(d) => self.with_digit(d),
+            None => if b == SPACE {
                 self.close(numbers)
             } else {
                 self.at(Part::Wrong, 0)
@@ -178,8 +149,8 @@ impl Line {
         ensures { result ≡ byte_line Gap self b 0 0 }
     {
         match digit_of(b) {
-            Digit::Is(d) => self.at(Part::Number, d),
-            Digit::Not => self.at(Part::Wrong, 0),
+            Some(d) => self.at(Part::Number, d),
+            None => self.at(Part::Wrong, 0),
         }
     }
 
@@ -190,8 +161,7 @@ impl Line {
             × (name.new ≡ byte_name self.part self b name.old)
             × (numbers.new ≡ byte_numbers self.part self b numbers.old) }
     {
-        let part = self.part;
-        match part {
+        match self.part {
             Part::Start => self.in_start(b, name),
             Part::Name => self.in_name(b, name),
             Part::Number => self.in_number(b, numbers),
@@ -204,26 +174,16 @@ impl Line {
     pub fn end(self, numbers: &mut [u64]) -> Line
         ensures { (result ≡ end_line_lem self.part self (length numbers.old)) × (numbers.new ≡ end_numbers self.part self numbers.old) }
     {
-        let part = self.part;
-        match part {
-            Part::Start => self,
-            Part::Name => self,
+        match self.part {
+            Part::Start | Part::Name | Part::Wrong => self,
             Part::Number => self.close(numbers),
             Part::Gap => self.at(Part::Wrong, 0),
-            Part::Wrong => self,
         }
     }
 
     pub fn is_wrong(self) -> bool
         ensures { result ≡ wrong self.part }
     {
-        let part = self.part;
-        match part {
-            Part::Start => false,
-            Part::Name => false,
-            Part::Number => false,
-            Part::Gap => false,
-            Part::Wrong => true,
-        }
+        self.part == Part::Wrong
     }
 }

@@ -46,7 +46,7 @@ pub fn flush(streams: &Streams, out: &[u8], at: usize) -> usize
 fn first_byte(out: &mut [u8], b: u8) -> usize
     ensures { page result out.new ≡ front out.old b }
 {
-    if out.len() == 0 {
+    if out.is_empty() {
         return 0;
     }
     out[0] = b;
@@ -68,10 +68,7 @@ pub fn put_text(streams: &Streams, out: &mut [u8], at: usize, text: &[u8]) -> us
     ensures { page result out.new ≡ out_text (page at out.old) text.now }
 {
     let mut to = at;
-    let mut i = 0;
-    while i < text.len() {
-        let b = text[i];
-        i += 1;
+    for &b in text {
         to = put_byte(streams, out, to, b);
     }
     to

@@ -1,11 +1,10 @@
-// The standard streams. A program makes them from its runtime once, and lends them to what reads and
-// writes.
-ghost use Rattle.std.specs.Prelude.{◌≡◌, length};
+// The standard streams. A program makes them from its runtime once, and lends them to what reads
+// and writes.
+ghost use Rattle.std.specs.Prelude.{IfOk};
 ghost use Rattle.io.specs.Counts.{IsPrefixLen};
 
-use crate::whole::Got;
 use std::cell::Cell;
-use std::io::{IsTerminal, Read};
+use std::io::{self, IsTerminal, Read};
 use std::rt::{HostRuntime, Stderr, Stdin, Stdout};
 
 // The streams, and whether a write to standard output has failed.
@@ -27,19 +26,13 @@ impl Streams {
         }
     }
 
-    // Reads once from standard input, to the front of the space. No byte is read at the end of the
-    // input, and if the read failed.
-    pub fn read(&self, space: &mut [u8]) -> Got
-        ensures { IsPrefixLen result.len space.new }
+    // Reads once from standard input, to the front of the space. Returns how many bytes were read,
+    // which is 0 at the end of the input.
+    pub fn read(&self, space: &mut [u8]) -> io::Result<usize>
+        ensures { IfOk result (λ len. IsPrefixLen len space.new) }
     {
         let mut input = self.input;
-        match input.read(space) {
-            Ok(len) => Got { len, failed: false },
-            Err(_) => Got {
-                len: 0,
-                failed: true,
-            },
-        }
+        input.read(space)
     }
 
     // Writes a text to standard output. If that fails, nothing more is written, so that nothing

@@ -1,6 +1,6 @@
 -- Any two answers that a promise allows are equal.
 use mathlib.Core.Path.{◌≡◌, refl, sym, ap, ◌∙◌}
-use mathlib.Core.Bool.{cond}
+use mathlib.Core.Bool.{Bool, cond}
 use lib.Dec.{eqb}
 use borrow.Author.Tests.{ne_eqb}
 use native.Mathlib.Omega.{arith}
@@ -11,8 +11,8 @@ use Rattle.words.proofs.Refusals.{refusal_at, at_number, number_pos}
 use Rattle.words.specs.Refusals.{refusal_number}
 use Rattle.stack.specs.Calls.{Told, numbers}
 use Rattle.stack.specs.declared.ActionStack.{ActionStack}
-use Rattle.stack.specs.declared.Answer.{Answer}
-use Rattle.stack.specs.declared.Answer.TheVariants.{Done, Refused}
+use Rattle.std.specs.Prelude.{Result, Ok, Err}
+use Rattle.words.specs.declared.refusal.Refusal.{Refusal}
 use Rattle.stack.proofs.ActionStack.new.Reads as new-reads
 use Rattle.stack.proofs.ActionStack.new.Kinds as new-kinds
 use Rattle.stack.proofs.ActionStack.push.Reads as push-reads
@@ -35,14 +35,14 @@ use Rattle.stack.proofs.ActionStack.is_empty.Reads as is-empty-reads
 use Rattle.stack.proofs.ActionStack.is_empty.Kinds as is-empty-kinds
 
 -- its numbers say which answer it is
-abbrev answer_of : Told → Answer
-answer_of x = cond (eqb x.no 0) (Done x.yes x.stack) (Refused (refusal_at x.no))
+abbrev answer_of : Told → Result (Bool × ActionStack) Refusal
+answer_of x = cond (eqb x.no 0) (Ok (x.yes, x.stack)) (Err (refusal_at x.no))
 
-answer_back : (given : ActionStack) (r : Answer) → answer_of (numbers given r) ≡ r
-answer_back given (Done b s) = refl
-answer_back given (Refused y) = rw (ne_eqb (refusal_number y) 0 (omega (arith, number_pos y)), at_number y)
+answer_back : (given : ActionStack) (r : Result (Bool × ActionStack) Refusal) → answer_of (numbers given r) ≡ r
+answer_back given (Ok (b, s)) = refl
+answer_back given (Err y) = rw (ne_eqb (refusal_number y) 0 (omega (arith, number_pos y)), at_number y)
 
-pub numbers_injective : (given : ActionStack) (r t : Answer) (x : Told) → numbers given r ≡ x → numbers given t ≡ x → r ≡ t
+pub numbers_injective : (given : ActionStack) (r t : Result (Bool × ActionStack) Refusal) (x : Told) → numbers given r ≡ x → numbers given t ≡ x → r ≡ t
 numbers_injective given r t x p q = sym (answer_back given r) ∙ ap answer_of (p ∙ sym q) ∙ answer_back given t
 
 pub new-determined :

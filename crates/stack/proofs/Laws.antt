@@ -12,8 +12,8 @@ use Rattle.bitvec.proofs.Weights.{and_weight, digit_put, digit_le}
 use Rattle.stack.specs.States.{state_at_lem, put_state_lem, top, marked, pushed, popped}
 use Rattle.stack.specs.Calls.{Told, numbers, lent, outcome_of, done, bad_bit, some, mark_rule, push_rule, pop_rule, just_entered, not_returned, not_right, went_left}
 use Rattle.stack.specs.declared.ActionStack.{ActionStack}
-use Rattle.stack.specs.declared.Answer.{Answer}
-use Rattle.stack.specs.declared.Answer.TheVariants.{Done, Refused}
+use Rattle.std.specs.Prelude.{Result, Ok, Err}
+use Rattle.words.specs.declared.refusal.Refusal.{Refusal}
 use Rattle.stack.proofs.Levels.{four_two, put_low, state_low}
 
 -- the weight of a level's first bit, from that in its byte
@@ -104,6 +104,10 @@ unfolding mark_rule
 mark_quiet gives s = both_quiet (some s) (done false (marked (gives (top s)) s)) (bad_bit s) refl refl
 
 -- what a call on the record itself returns, by what the call by value returned
-pub lent_back : (given : ActionStack) (a : Answer) (r : Told) → numbers given a ≡ r → r.yes ≡ false → lent (outcome_of a) (numbers given a).stack ≡ r
-lent_back given (Done b s) r e q = let z : b ≡ false = ap (λ (t : Told). t.yes) e ∙ q in subst (λ (x : Bool). done x s ≡ r) z e
-lent_back given (Refused y) r e q = e
+pub lent_back : (given : ActionStack) (a : Result (Bool × ActionStack) Refusal) (r : Told) → numbers given a ≡ r → r.yes ≡ false → lent (outcome_of a) (numbers given a).stack ≡ r
+lent_back given (Ok (b, s)) r e q = let z : b ≡ false = ap (λ (t : Told). t.yes) e ∙ q in subst (λ (x : Bool). done x s ≡ r) z e
+lent_back given (Err y) r e q = e
+
+pub lent_from : (given after : ActionStack) (r : Result Unit Refusal) (x : Told)
+    → (a : Result (Bool × ActionStack) Refusal) × (ActionStack × (numbers given a ≡ x)) × (r ≡ outcome_of a) × (after ≡ (numbers given a).stack) → x.yes ≡ false → lent r after ≡ x
+lent_from given after r x (a, p, e, f) q = rw (e, f) (lent_back given a x p.1 q)

@@ -19,8 +19,8 @@ use Rattle.words.proofs.Refusals.{refusal_at, at_number, number_pos}
 use Rattle.words.specs.Refusals.{refusal_number}
 use Rattle.stack.specs.Calls.{Told, lent}
 use Rattle.stack.specs.declared.ActionStack.{ActionStack}
-use Rattle.stack.specs.declared.lent.Outcome.{Outcome}
-use Rattle.stack.specs.declared.lent.Outcome.TheVariants.{Done, Refused}
+use Rattle.std.specs.Prelude.{Result, Ok, Err}
+use Rattle.words.specs.declared.refusal.Refusal.{Refusal}
 use Rattle.stack.specs.declared.lending.After.{After}
 use Rattle.stack.specs.contracts.lent.push as lent-push
 use Rattle.stack.specs.contracts.lent.go_left as lent-go-left
@@ -35,14 +35,14 @@ use Rattle.stack.proofs.lending.go_right.Reads as go-right-reads
 use Rattle.stack.proofs.lending.pop.Reads as pop-reads
 
 -- its numbers say which outcome it is
-abbrev outcome_at : Told → Outcome
-outcome_at x = cond (eqb x.no 0) Done (Refused (refusal_at x.no))
+abbrev outcome_at : Told → Result Unit Refusal
+outcome_at x = cond (eqb x.no 0) (Ok tt) (Err (refusal_at x.no))
 
-outcome_back : (r : Outcome) (s : ActionStack) → (outcome_at (lent r s) ≡ r) × ((lent r s).stack ≡ s)
-outcome_back Done s = (refl, refl)
-outcome_back (Refused y) s = (rw (ne_eqb (refusal_number y) 0 (omega (arith, number_pos y)), at_number y), refl)
+outcome_back : (r : Result Unit Refusal) (s : ActionStack) → (outcome_at (lent r s) ≡ r) × ((lent r s).stack ≡ s)
+outcome_back (Ok tt) s = (refl, refl)
+outcome_back (Err y) s = (rw (ne_eqb (refusal_number y) 0 (omega (arith, number_pos y)), at_number y), refl)
 
-lent_injective : (r t : Outcome) (s u : ActionStack) → lent r s ≡ lent t u → (r ≡ t) × (s ≡ u)
+lent_injective : (r t : Result Unit Refusal) (s u : ActionStack) → lent r s ≡ lent t u → (r ≡ t) × (s ≡ u)
 lent_injective r t s u e =
     (sym (outcome_back r s).0 ∙ ap outcome_at e ∙ (outcome_back t u).0, sym (outcome_back r s).1 ∙ ap (λ (x : Told). x.stack) e ∙ (outcome_back t u).1)
 
@@ -51,10 +51,10 @@ lent_injective r t s u e =
 module _ {M : Type 1} (𝓤 : Ura M) where
   abbrev Determines : Clauses 𝓤 lent-push.ended → Type 1
   Determines c =
-      (κs : Lfts 1) (a : Args lent-push.signature κs) (g g' : (c κs a).ghost) (r r' : Outcome) (s s' : AtExit lent-push.ended κs)
+      (κs : Lfts 1) (a : Args lent-push.signature κs) (g g' : (c κs a).ghost) (r r' : Result Unit Refusal) (s s' : AtExit lent-push.ended κs)
       → ent 𝓤 (sep 𝓤 ((c κs a).ensures g r s) ((c κs a).ensures g' r' s')) (fact 𝓤 ((r ≡ r') × (s.0.now ≡ s'.0.now)))
 
-  module _ (x : Told) (r r' : Outcome) (s s' : ActionStack) where
+  module _ (x : Told) (r r' : Result Unit Refusal) (s s' : ActionStack) where
     abbrev P : SProp 𝓤
     P = fact 𝓤 (lent r s ≡ x)
 

@@ -1,13 +1,10 @@
 -- What the stack calls answer.
 -- Letters: b yes (what a test says), s stack, v state, y refusal
-use Rattle.std.specs.Prelude.{Bool, false, cond, ◌&&◌, ℕ, ◌+◌, ◌%◌, eqb, ltb, leb}
+use Rattle.std.specs.Prelude.{Bool, false, Result, Ok, Err, cond, ◌&&◌, ℕ, ◌+◌, ◌%◌, eqb, ltb, leb}
 use Rattle.words.specs.Refusals.{refusal_number}
+use Rattle.words.specs.declared.refusal.Refusal.{Refusal}
 use Rattle.stack.specs.States.{entered, returned, was_right, top, marked, pushed, popped}
 use Rattle.stack.specs.declared.ActionStack.{ActionStack}
-use Rattle.stack.specs.declared.Answer.{Answer}
-use Rattle.stack.specs.declared.Answer.TheVariants.{Done, Refused}
-use Rattle.stack.specs.declared.lent.Outcome.{Outcome}
-use Rattle.stack.specs.declared.lent.Outcome.TheVariants as Lent
 
 -- an answer by its numbers: the refusal's, 0 for none; what was tested; the stack
 pub record Told : Type 0 where
@@ -16,9 +13,9 @@ pub record Told : Type 0 where
   pub stack : ActionStack
 
 -- a refusal has the stack as it was given
-abbrev pub numbers : (given : ActionStack) (answer : Answer) → Told
-numbers given (Done b s) = record { no = 0; yes = b; stack = s }
-numbers given (Refused y) = record { no = refusal_number y; yes = false; stack = given }
+abbrev pub numbers : (given : ActionStack) (answer : Result (Bool × ActionStack) Refusal) → Told
+numbers given (Ok (b, s)) = record { no = 0; yes = b; stack = s }
+numbers given (Err y) = record { no = refusal_number y; yes = false; stack = given }
 
 abbrev pub done : (yes : Bool) (stack : ActionStack) → Told
 done b s = record { no = 0; yes = b; stack = s }
@@ -84,11 +81,11 @@ is_empty_rule s = cond (leb s.levels 32) (done (eqb s.levels 0) s) (bad_bit s)
 
 -- "The functions push, pop and the state marks change the stack record itself": by their
 -- numbers, the answer of such a call, which tests nothing, and the record after it
-abbrev pub lent : (outcome : Outcome) (stack : ActionStack) → Told
-lent Lent.Done s = done false s
-lent (Lent.Refused y) s = record { no = refusal_number y; yes = false; stack = s }
+abbrev pub lent : (outcome : Result Unit Refusal) (stack : ActionStack) → Told
+lent (Ok tt) s = done false s
+lent (Err y) s = record { no = refusal_number y; yes = false; stack = s }
 
 -- an answer without its stack
-abbrev pub outcome_of : (answer : Answer) → Outcome
-outcome_of (Done b s) = Lent.Done
-outcome_of (Refused y) = Lent.Refused y
+abbrev pub outcome_of : (answer : Result (Bool × ActionStack) Refusal) → Result Unit Refusal
+outcome_of (Ok (b, s)) = Ok tt
+outcome_of (Err y) = Err y

@@ -30,14 +30,6 @@ pub struct ActionStack {
     pub bits: u64,
 }
 
-// What a call returns: the result of its test and the stack after the call, or the refusal. The
-// result is false if the call tests nothing.
-#[derive(Clone, Copy)]
-pub enum Answer {
-    Done(bool, ActionStack),
-    Refused(Refusal),
-}
-
 // Returns the state of a level. The shift removes the levels below it. The level's two bits are
 // then bit 0 and bit 1, and each is read by its weight.
 pub fn state_at(bits: u64, level: u64) -> u64
@@ -139,95 +131,88 @@ impl ActionStack {
         }
     }
 
-    pub fn push(self) -> Answer
+    // Each of the calls from here on returns the result of its test and the stack after the call, or
+    // the refusal. The result is false if the call tests nothing.
+    pub fn push(self) -> Result<(bool, ActionStack), Refusal>
         ensures { numbers self result ≡ push_rule self }
     {
-        if self.levels < 32 {
-            Answer::Done(false, self.deepen())
-        } else {
-            Answer::Refused(Refusal::BadBit)
+        if 32 <= self.levels {
+            return Err(Refusal::BadBit);
         }
+        Ok((false, self.deepen()))
     }
 
-    pub fn can_go_left(self) -> Answer
+    pub fn can_go_left(self) -> Result<(bool, ActionStack), Refusal>
         ensures { numbers self result ≡ can_go_left_rule self }
     {
-        if self.has_top() {
-            Answer::Done(self.top() == ENTERED, self)
-        } else {
-            Answer::Refused(Refusal::BadBit)
+        if !self.has_top() {
+            return Err(Refusal::BadBit);
         }
+        Ok((self.top() == ENTERED, self))
     }
 
     // Sets the last bit of the top level and keeps the first.
-    pub fn go_left(self) -> Answer
+    pub fn go_left(self) -> Result<(bool, ActionStack), Refusal>
         ensures { numbers self result ≡ go_left_rule self }
     {
-        if self.has_top() {
-            let state = self.top() % 2 + 2;
-            Answer::Done(false, self.mark(state))
-        } else {
-            Answer::Refused(Refusal::BadBit)
+        if !self.has_top() {
+            return Err(Refusal::BadBit);
         }
+        let state = self.top() % 2 + 2;
+        Ok((false, self.mark(state)))
     }
 
-    pub fn can_match(self) -> Answer
+    pub fn can_match(self) -> Result<(bool, ActionStack), Refusal>
         ensures { numbers self result ≡ can_match_rule self }
     {
-        if self.has_top() {
-            Answer::Done(self.top() % 2 == 0, self)
-        } else {
-            Answer::Refused(Refusal::BadBit)
+        if !self.has_top() {
+            return Err(Refusal::BadBit);
         }
+        Ok((self.top() % 2 == 0, self))
     }
 
-    pub fn make_match(self) -> Answer
+    pub fn make_match(self) -> Result<(bool, ActionStack), Refusal>
         ensures { numbers self result ≡ make_match_rule self }
     {
-        if self.has_top() {
-            Answer::Done(false, self.mark(RETURNED))
-        } else {
-            Answer::Refused(Refusal::BadBit)
+        if !self.has_top() {
+            return Err(Refusal::BadBit);
         }
+        Ok((false, self.mark(RETURNED)))
     }
 
-    pub fn can_go_right(self) -> Answer
+    pub fn can_go_right(self) -> Result<(bool, ActionStack), Refusal>
         ensures { numbers self result ≡ can_go_right_rule self }
     {
-        if self.has_top() {
-            Answer::Done(self.top() < 2, self)
-        } else {
-            Answer::Refused(Refusal::BadBit)
+        if !self.has_top() {
+            return Err(Refusal::BadBit);
         }
+        Ok((self.top() < 2, self))
     }
 
-    pub fn go_right(self) -> Answer
+    pub fn go_right(self) -> Result<(bool, ActionStack), Refusal>
         ensures { numbers self result ≡ go_right_rule self }
     {
-        if self.has_top() {
-            Answer::Done(false, self.mark(WAS_RIGHT))
-        } else {
-            Answer::Refused(Refusal::BadBit)
+        if !self.has_top() {
+            return Err(Refusal::BadBit);
         }
+        Ok((false, self.mark(WAS_RIGHT)))
     }
 
-    pub fn pop(self) -> Answer
+    pub fn pop(self) -> Result<(bool, ActionStack), Refusal>
         ensures { numbers self result ≡ pop_rule self }
     {
-        if self.has_top() {
-            Answer::Done(false, self.shorten())
-        } else {
-            Answer::Refused(Refusal::BadBit)
+        if !self.has_top() {
+            return Err(Refusal::BadBit);
         }
+        Ok((false, self.shorten()))
     }
 
-    pub fn is_empty(self) -> Answer
+    pub fn is_empty(self) -> Result<(bool, ActionStack), Refusal>
         ensures { numbers self result ≡ is_empty_rule self }
     {
-        if self.levels <= 32 {
-            Answer::Done(self.levels == 0, self)
-        } else {
-            Answer::Refused(Refusal::BadBit)
+        if 32 < self.levels {
+            return Err(Refusal::BadBit);
         }
+        Ok((self.levels == 0, self))
     }
 }

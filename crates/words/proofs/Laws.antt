@@ -2,7 +2,7 @@
 use mathlib.Core.Path.{◌≡◌, refl, sym, ap, ◌∙◌}
 use mathlib.Core.Bool.{Bool, true, false, cond, not}
 use mathlib.Core.List.{List}
-use Prim.Native.Nat.{ℕ, ◌+◌, ◌*◌, ◌<◌, ◌≤◌}
+use Prim.Native.Nat.{ℕ, ◌+◌, ◌<◌, ◌≤◌}
 use native.Mathlib.Omega.{arith}
 use lib.Dec.{leb}
 use borrow.Author.Tests.{le-leb, lt-leb, leb-false}
@@ -11,8 +11,8 @@ use Rattle.words.specs.Layouts.{Held}
 use Rattle.words.specs.Intervals.{eq, extended}
 use Rattle.words.specs.Nodes.{hull, hull_of, altered, fix, put_hull_lem}
 use Rattle.words.specs.declared.interval.Interval.{Interval}
-use Rattle.words.specs.declared.ix.Link.{Link}
-use Rattle.words.specs.declared.ix.Link.TheVariants.{Slot, Nil}
+use Rattle.std.specs.declared.option.Option.{Option}
+use Rattle.std.specs.declared.option.Option.TheVariants.{Some, None}
 
 -- a number below the count, and one that is not
 pub there : {A : Type 0} (n k : ℕ) (r x y : A) → k < n → r ≡ y → r ≡ cond (leb n k) x y
@@ -22,43 +22,43 @@ pub missing : {A : Type 0} (n k : ℕ) (r x y : A) → n ≤ k → r ≡ x → r
 missing n k r x y h e = rw (le-leb n k h) e
 
 -- a link that was taken apart: its slot is the word, and below the count
-slot_cases : {X : Type 0} (n w k : ℕ) (l : Link) → l ≡ link_of n w → l ≡ Slot k → (k ≡ w → w < n → X) → X
+slot_cases : {X : Type 0} (n w k : ℕ) (l : Option ℕ) → l ≡ link_of n w → l ≡ Some k → (k ≡ w → w < n → X) → X
 slot_cases {X = X} n w k l e q f = go (leb n w) refl (sym q ∙ e)
   where
-    go : (t : Bool) → leb n w ≡ t → Slot k ≡ cond t Nil (Slot w) → X
+    go : (t : Bool) → leb n w ≡ t → Some k ≡ cond t None (Some w) → X
     go true p z = let y : ◌≡◌ {A = ℕ} 0 1 = cc in absurd (omega arith)
     go false p z = f (cc) (leb-false n w p)
 
-nil_gone : (n w : ℕ) (l : Link) → l ≡ link_of n w → l ≡ Nil → gone n w ≡ true
+nil_gone : (n w : ℕ) (l : Option ℕ) → l ≡ link_of n w → l ≡ None → gone n w ≡ true
 nil_gone n w l e q = go (gone n w) (sym q ∙ e)
   where
-    go : (t : Bool) → Nil ≡ cond t Nil (Slot w) → t ≡ true
+    go : (t : Bool) → None ≡ cond t None (Some w) → t ≡ true
     go true z = refl
     go false z = let y : ◌≡◌ {A = ℕ} 0 1 = cc in absurd (omega arith)
 
-pub linked : {A : Type 0} (r : A) (n w k : ℕ) (l : Link) (f : ℕ → A) (z : A) → l ≡ link_of n w → l ≡ Slot k → r ≡ f k → r ≡ on_link n w f z
+pub linked : {A : Type 0} (r : A) (n w k : ℕ) (l : Option ℕ) (f : ℕ → A) (z : A) → l ≡ link_of n w → l ≡ Some k → r ≡ f k → r ≡ on_link n w f z
 unfolding on_link
 linked r n w k l f z e q h = slot_cases n w k l e q (λ s b. rw (lt-leb n w b, ← s) h)
 
-pub unlinked : {A : Type 0} (r : A) (n w : ℕ) (l : Link) (f : ℕ → A) (z : A) → l ≡ link_of n w → l ≡ Nil → r ≡ z → r ≡ on_link n w f z
+pub unlinked : {A : Type 0} (r : A) (n w : ℕ) (l : Option ℕ) (f : ℕ → A) (z : A) → l ≡ link_of n w → l ≡ None → r ≡ z → r ≡ on_link n w f z
 unfolding on_link
 unlinked r n w l f z e q h = rw (nil_gone n w l e q) h
 
-pub slot_live : (n w k : ℕ) (l : Link) → l ≡ link_of n w → l ≡ Slot k → k < n
+pub slot_live : (n w k : ℕ) (l : Option ℕ) → l ≡ link_of n w → l ≡ Some k → k < n
 slot_live n w k l e q = slot_cases n w k l e q (λ s b. omega arith)
 
-pub slot_room : (narrow : Bool) (n k s len : ℕ) (l : Link) → l ≡ link_of n k → l ≡ Slot s → Held narrow n len → Held narrow (s + 1) len
+pub slot_room : (narrow : Bool) (n k s len : ℕ) (l : Option ℕ) → l ≡ link_of n k → l ≡ Some s → Held narrow n len → Held narrow (s + 1) len
 slot_room narrow n k s len l e q h = let b : s < n = slot_live n k s l e q in omega arith
 
 pub extended_by : (r d h x : Interval) → h ≡ x → r ≡ extended d h → r ≡ extended d x
 extended_by r d h x e q = q ∙ ap (λ (i : Interval). extended d i) e
 
-pub slot_below : (n k s len : ℕ) (l : Link) → l ≡ link_of n k → l ≡ Slot s → n ≤ len → s < len
+pub slot_below : (n k s len : ℕ) (l : Option ℕ) → l ≡ link_of n k → l ≡ Some s → n ≤ len → s < len
 slot_below n k s len l e q h = omega (arith, slot_live n k s l e q)
 
 -- a hull that is worked out
 module _ (n : ℕ) (W : List ℕ) (s : ℕ) (h : Interval) (e : h ≡ hull_of n W s) where
-  pub altered_is : (o : Interval) (t : Bool) → o ≡ hull W s → t ≡ eq o h → not t ≡ altered n W s
+  pub altered_is : (o : Interval) (t : Bool) → o ≡ hull W s → t ≡ not (eq o h) → t ≡ altered n W s
   unfolding altered
   altered_is o t f q = rw (q, f, e)
 

@@ -1,16 +1,17 @@
 -- Six-word nodes are read and written as their eight-word form is.
 use mathlib.Core.Path.{◌≡◌, refl, sym, ap, ◌∙◌}
-use mathlib.Core.Bool.{Bool, true, false, cond, not, ◌||◌, ◌&&◌, true≢false}
+use mathlib.Core.Bool.{Bool, true, false, cond, ◌||◌, ◌&&◌, true≢false}
 use mathlib.Core.List.{List, [], ◌∷◌, ◌++◌}
+use mathlib.Core.Logic.{◌⊎◌, inl, inr}
 use Prim.Native.Nat.{ℕ, zero, suc, ◌+◌, ◌*◌, ◌-◌, ◌/◌, ◌%◌, ◌<◌, ◌≤◌}
 use native.Mathlib.Omega.{arith}
 use native.Mathlib.Nat.{zero-add}
 use lib.Dec.{eqb, ltb, leb}
 use lib.ListN.{length, get_or, set, take, drop}
-use borrow.Author.Tests.{ltb-true, ltb-false, leb-true, eqb-true, eqb-false, lt-ltb, le-ltb, le-leb, eq-eqb}
+use borrow.Author.Tests.{ltb-true, ltb-false, leb-true, eqb-true, eqb-false, lt-ltb, le-ltb, le-leb}
 use Rattle.words.specs.Ix.{U}
 use Rattle.words.specs.Nodes.{place, word, put}
-use Rattle.words.specs.Layouts.{widened, narrowed, packed_place_lem, field_in, field_put, unpack, as_eight, kid_fits, up_fits_lem, field_fits, spared, node_words_lem, Held, HoldsIn, slots_as}
+use Rattle.words.specs.Layouts.{widened, narrowed, packed_place_lem, field_in, field_put, unpack, as_eight, kid_fits, up_fits_lem, field_fits, node_words_lem, Held, HoldsIn, slots_as}
 use Rattle.words.specs.declared.node.Field.{Field}
 use Rattle.words.specs.declared.node.Field.TheVariants.{Start, End, Value, HullStart, HullEnd, Child, Parent}
 
@@ -507,11 +508,15 @@ module _ (f g : Field) (e : f ≡ g) where
   pub arm_write : (r w v : ℕ) → r ≡ field_put g w v → r ≡ field_put f w v
   arm_write r w v q = rw e q
 
-pub arm_child : (f : Field) (b : Bool) (v : ℕ) → f ≡ Child b → field_fits true f v ≡ true → kid_fits true v ≡ true
-arm_child f b v e q = rw e at q
-
-pub arm_parent : (f : Field) (v : ℕ) → f ≡ Parent → field_fits true f v ≡ true → up_fits_lem true v ≡ true
-arm_parent f v e q = rw e at q
+-- the fields that have a word of their own
+pub own_word : (P : Field → Type 0) (f : Field)
+    → (f ≡ Start) ⊎ ((f ≡ End) ⊎ ((f ≡ Value) ⊎ ((f ≡ HullStart) ⊎ (f ≡ HullEnd))))
+    → P Start → P End → P Value → P HullStart → P HullEnd → P f
+own_word P f (inl e) a b c d h = rw e a
+own_word P f (inr (inl e)) a b c d h = rw e b
+own_word P f (inr (inr (inl e))) a b c d h = rw e c
+own_word P f (inr (inr (inr (inl e)))) a b c d h = rw e d
+own_word P f (inr (inr (inr (inr e)))) a b c d h = rw e h
 
 module _ (N : List ℕ) (f : Field) (s k : ℕ) (h : s * 6 + 6 ≤ length N) (e : k ≡ packed_place_lem f) where
   pub packed_read : (r : ℕ) → r ≡ field_in f (get_or N (s * 6 + k) 0) → r ≡ word (unpack N) f s
@@ -527,9 +532,6 @@ module _ (narrow : Bool) (e : narrow ≡ true) where
 
   pub viewed_fits : (f : Field) (v : ℕ) → field_fits true f v ≡ true → field_fits narrow f v ≡ true
   viewed_fits f v q = rw e q
-
-  pub narrow_fits : (f : Field) (v : ℕ) → field_fits narrow f v ≡ true → field_fits true f v ≡ true
-  narrow_fits f v q = rw e at q
 
   pub viewed_put : (N X : List ℕ) (f : Field) (s v : ℕ) → unpack X ≡ put (unpack N) f s v → as_eight narrow X ≡ put (as_eight narrow N) f s v
   unfolding as_eight
@@ -549,12 +551,6 @@ module _ (narrow : Bool) (e : narrow ≡ false) where
   pub plain_fits : (f : Field) (v : ℕ) → field_fits narrow f v ≡ true
   plain_fits f v = rw e (any_fits f v)
 
-  pub plain_room : (s k len : ℕ) → Held narrow (s + 1) len → k < 8 → s * 8 + k < len
-  plain_room s k len h l = go (rw e at h.2)
-    where
-      go : (s + 1) * 8 ≤ len + 0 → s * 8 + k < len
-      go i = omega arith
-
   pub plain_read : (N : List ℕ) (f : Field) (s k r : ℕ) → k ≡ place f → r ≡ get_or N (s * 8 + k) 0 → r ≡ word (as_eight narrow N) f s
   unfolding word as_eight
   plain_read N f s k r p q = rw (e, ← p) q
@@ -562,18 +558,6 @@ module _ (narrow : Bool) (e : narrow ≡ false) where
   pub plain_put : (N : List ℕ) (f : Field) (s k v : ℕ) → k ≡ place f → as_eight narrow (set N (s * 8 + k) v) ≡ put (as_eight narrow N) f s v
   unfolding put as_eight
   plain_put N f s k v p = rw (e, p)
-
-pub slots_narrow : (narrow : Bool) (w r : ℕ) → narrow ≡ true → r ≡ w / 6 → r ≡ slots_as narrow w
-slots_narrow narrow w r e q = rw e q
-
-pub slots_wide : (narrow : Bool) (w r : ℕ) → narrow ≡ false → r ≡ w / 8 → r ≡ slots_as narrow w
-slots_wide narrow w r e q = rw e q
-
-pub words_narrow : (narrow : Bool) (n : ℕ) → narrow ≡ true → n * 6 ≡ n * node_words_lem narrow
-words_narrow narrow n e = rw e refl
-
-pub words_wide : (narrow : Bool) (n : ℕ) → narrow ≡ false → n * 8 ≡ n * node_words_lem narrow
-words_wide narrow n e = rw e refl
 
 -- a slot below a count that the words hold fieldFits in every link
 pub live_kid : (narrow : Bool) (n len s : ℕ) → Held narrow n len → s < n → kid_fits narrow s ≡ true

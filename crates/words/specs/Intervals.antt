@@ -2,30 +2,30 @@
 -- Letters: x number of a bound or interval, e end, s start, q range, a first interval or hull,
 --   b second interval or interval
 use Rattle.std.specs.Prelude.{Bool, true, cond, ◌&&◌, ◌||◌, ℕ, min, max, eqb, leb, ltb}
-use Rattle.words.specs.declared.interval.Bound.{Bound}
-use Rattle.words.specs.declared.interval.Bound.TheVariants.{Included, Excluded, Unbounded}
+use Rattle.std.specs.declared.ops.Bound.{Bound}
+use Rattle.std.specs.declared.ops.Bound.TheVariants.{Included, Excluded, Unbounded}
 use Rattle.words.specs.declared.interval.Span.{Span}
 use Rattle.words.specs.declared.interval.Interval.{Interval}
 
 -- "A range has two bounds, each Included, Excluded or Unbounded": a bound by the number of its
 -- kind, 0, 1 or 2, and its own number
-abbrev pub bound_of : (kind number : ℕ) → Bound
+abbrev pub bound_of : (kind number : ℕ) → Bound ℕ
 bound_of kind x = cond (eqb kind 0) (Included x) (cond (eqb kind 1) (Excluded x) Unbounded)
 
 -- "end > lo, or lo is Unbounded"
-abbrev pub passed : (bound : Bound) (end : ℕ) → Bool
+abbrev pub passed : (bound : Bound ℕ) (end : ℕ) → Bool
 passed (Included x) e = ltb x e
 passed (Excluded x) e = ltb x e
 passed Unbounded e = true
 
 -- "the same with end >= lo"
-abbrev pub reached : (bound : Bound) (end : ℕ) → Bool
+abbrev pub reached : (bound : Bound ℕ) (end : ℕ) → Bool
 reached (Included x) e = leb x e
 reached (Excluded x) e = leb x e
 reached Unbounded e = true
 
 -- "start <= hi for Included, start < hi for Excluded, or Unbounded"
-abbrev pub admits : (bound : Bound) (start : ℕ) → Bool
+abbrev pub admits : (bound : Bound ℕ) (start : ℕ) → Bool
 admits (Included x) s = leb s x
 admits (Excluded x) s = ltb s x
 admits Unbounded s = true

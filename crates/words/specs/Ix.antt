@@ -1,9 +1,7 @@
 -- Links: a slot, or none.
 -- Letters: n count, k link, f found (for the slot that the link leads to), z otherwise (if it leads
 --   to none)
-use Rattle.std.specs.Prelude.{Bool, cond, ℕ, leb}
-use Rattle.words.specs.declared.ix.Link.{Link}
-use Rattle.words.specs.declared.ix.Link.TheVariants.{Slot, Nil}
+use Rattle.std.specs.Prelude.{Bool, cond, ℕ, leb, Option, Some, None}
 
 -- "The undefined link U is 4294967295."
 abbrev pub U : ℕ
@@ -14,8 +12,8 @@ abbrev pub gone : (count link : ℕ) → Bool
 gone n k = leb n k
 
 -- the link of a word
-abbrev pub link_of : (count link : ℕ) → Link
-link_of n k = cond (gone n k) Nil (Slot k)
+abbrev pub link_of : (count link : ℕ) → Option ℕ
+link_of n k = cond (gone n k) None (Some k)
 
 -- by cases on a link word: f of its slot, or z where it leads to none
 unfoldable pub on_link : {A : Type 0} → (count link : ℕ) (found : ℕ → A) (otherwise : A) → A

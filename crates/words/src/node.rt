@@ -4,8 +4,8 @@ ghost use Rattle.std.specs.Prelude.{◌≡◌, true, ◌+◌, ◌*◌, ◌<◌, 
 ghost use Rattle.words.specs.Layouts.{packed_place_lem, field_in, field_put, unpack, as_eight, kid_fits, up_fits_lem, field_fits, node_words_lem, HoldsIn, HasIn, slots_as, capacity_as};
 ghost use Rattle.words.specs.Nodes.{place, word, put, start, stop, value, lo, hi, kid, par, interval, hull, entry, put_kid, put_par, put_entry_lem, put_hull_lem, put_node_lem, swap, joined, hull_of, altered, fix};
 
-use crate::interval::{Interval, smaller};
-use crate::ix::Link;
+use crate::interval::Interval;
+use crate::ix::slot_at;
 use crate::links::{child_in, widened, with_child, with_parent};
 
 // Returns how many words the nodes of so many slots take. The words of a store can be cut there.
@@ -41,9 +41,9 @@ pub fn capacity(words: usize, narrow: bool, bytes: usize) -> u64
 {
     let nodes = slots_in(words, narrow);
     if bytes < 8192 {
-        return smaller(nodes, smaller((bytes * 8) as u64, 65535));
+        return nodes.min((bytes * 8) as u64).min(65535);
     }
-    smaller(nodes, 65535)
+    nodes.min(65535)
 }
 
 // The words of a node. The hull of a slot is the least interval that contains the intervals of its
@@ -74,9 +74,7 @@ impl Field {
             Field::Parent => 7,
         }
     }
-}
 
-impl Field {
     // Returns the place of its word among the six words of its node.
     fn packed_place(self) -> u64
         ensures { (result ≡ packed_place_lem self) × (result < 6) }
@@ -87,8 +85,7 @@ impl Field {
             Field::Value => 2,
             Field::HullStart => 3,
             Field::HullEnd => 4,
-            Field::Child(_) => 5,
-            Field::Parent => 5,
+            Field::Child(_) | Field::Parent => 5,
         }
     }
 
@@ -97,11 +94,7 @@ impl Field {
         ensures { (result ≡ field_in self w) × (field_fits true self result ≡ true) }
     {
         match self {
-            Field::Start => w,
-            Field::End => w,
-            Field::Value => w,
-            Field::HullStart => w,
-            Field::HullEnd => w,
+            Field::Start | Field::End | Field::Value | Field::HullStart | Field::HullEnd => w,
             Field::Child(left_side) => child_in(w, left_side),
             Field::Parent => widened(w / 4294967296),
         }
@@ -113,11 +106,7 @@ impl Field {
         ensures { result ≡ field_put self w v }
     {
         match self {
-            Field::Start => v,
-            Field::End => v,
-            Field::Value => v,
-            Field::HullStart => v,
-            Field::HullEnd => v,
+            Field::Start | Field::End | Field::Value | Field::HullStart | Field::HullEnd => v,
             Field::Child(left_side) => with_child(w, left_side, v),
             Field::Parent => with_parent(w, v),
         }
@@ -314,7 +303,7 @@ fn extend_by(nodes: &[u64], narrow: bool, count: u64, word: u64, d: Interval) ->
     requires { HoldsIn narrow nodes.now count }
     ensures { result ≡ joined count (as_eight narrow nodes.now) word d }
 {
-    let Link::Slot(k) = Link::new(word, count) else {
+    let Some(k) = slot_at(word, count) else {
         return d;
     };
     d.extend(hull_at(nodes, narrow, k))
@@ -350,5 +339,5 @@ pub fn update_subtree_interval(nodes: &mut [u64], narrow: bool, count: u64, inde
     let old = hull_at(nodes, narrow, index);
     let h = subtree_interval(nodes, narrow, count, index);
     put_hull(nodes, narrow, index, h);
-    !old.eq(h)
+    old != h
 }

@@ -1,5 +1,4 @@
 use Rattle.bitvec.specs.Bits.{bit_at}
-use borrow.Author.Rules.{rules}
 use Rattle.bitvec.proofs.bit_at.Goals as goal
 
 pub returns : goal.returns

@@ -1,5 +1,4 @@
 use Rattle.bitvec.proofs.Laws.{read}
-use borrow.Author.Rules.{rules}
 use Rattle.bitvec.proofs.bit_of.Goals as goal
 
 pub returns : goal.returns

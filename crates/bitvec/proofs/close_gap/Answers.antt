@@ -1,5 +1,4 @@
 use Rattle.bitvec.proofs.Laws.{last_gap, other_gap}
-use borrow.Author.Rules.{rules}
 use Rattle.bitvec.proofs.close_gap.Goals as goal
 
 pub returns-then-i-len : goal.returns-then-i-len

@@ -1,5 +1,4 @@
 use Rattle.bitvec.proofs.Laws.{bytes_more, bytes_even}
-use borrow.Author.Rules.{rules}
 use Rattle.bitvec.proofs.get_byte_len.Goals as goal
 
 pub returns-then-bit_len-gt0 : goal.returns-then-bit_len-gt0

@@ -1,5 +1,4 @@
 use Rattle.bitvec.specs.Calls.{allowed}
-use borrow.Author.Rules.{rules}
 use Rattle.bitvec.proofs.has_bit.Goals as goal
 
 pub returns : goal.returns

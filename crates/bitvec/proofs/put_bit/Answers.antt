@@ -1,6 +1,5 @@
 use Rattle.bitvec.proofs.Laws.{byte_put}
 use Rattle.bitvec.specs.Bits.{set_bit}
-use borrow.Author.Rules.{rules}
 use Rattle.bitvec.proofs.put_bit.Goals as goal
 
 pub returns : goal.returns

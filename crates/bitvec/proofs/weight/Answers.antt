@@ -1,4 +1,3 @@
-use borrow.Author.Rules.{rules}
 use Rattle.bitvec.proofs.Weights.{Weighs, weight_at}
 use Rattle.bitvec.proofs.weight.Goals as goal
 

@@ -1,10 +1,5 @@
 use Rattle.bitvec.proofs.Laws.{written_set, written_clear, written_fits}
-use borrow.Author.Rules.{rules}
-use lib.Bits.{and_le_l}
 use Rattle.bitvec.proofs.with_bit.Goals as goal
-
-pub overflow_sub-rest : goal.overflow_sub-rest
-overflow_sub-rest c = search and_le_l
 
 pub overflow_add-result : goal.overflow_add-result
 overflow_add-result c = search written_fits

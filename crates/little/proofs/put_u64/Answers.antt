@@ -1,6 +1,6 @@
-use Rattle.little.proofs.Laws.{write_eight}
-use borrow.Author.Rules.{rules}
+use mathlib.Core.Path.{◌∙◌}
+use Rattle.little.proofs.Laws.{stored, eight_digits}
 use Rattle.little.proofs.put_u64.Goals as goal
 
 pub returns : goal.returns
-returns c = search write_eight
+returns c = stored _ _ _ 8 _ (c.copy_from_slice.ensures.after ∙ c.to_le_bytes.ensures ∙ eight_digits c.args.v) c.requires

@@ -1,5 +1,4 @@
 use Rattle.little.proofs.Laws.{read_eight}
-use borrow.Author.Rules.{rules}
 use Rattle.little.proofs.u64_at.Goals as goal
 
 pub returns : goal.returns

@@ -1,5 +1,4 @@
 use Rattle.stack.proofs.Laws.{state_below, weighed_fits, taken_in, written, written_fits}
-use borrow.Author.Rules.{rules}
 use Rattle.stack.proofs.change_state.Goals as goal
 
 pub overflow_mul-rest : goal.overflow_mul-rest

@@ -1,8 +1,11 @@
 use Rattle.bitvec.specs.Calls.{push_rule, push_bytes}
 use Rattle.words.proofs.Tests.{picked, passed}
 use Rattle.bitvec.proofs.Laws.{room_byte, room_next}
-use borrow.Author.Rules.{rules}
 use Rattle.bitvec.proofs.BitVec.push.Goals as goal
+
+pub returns-then-not-has_room : goal.returns-then-not-has_room
+unfolding push_bytes push_rule
+returns-then-not-has_room c = (search passed, search passed)
 
 pub put_bit-requires : goal.put_bit-requires
 unfolding push_bytes push_rule
@@ -12,10 +15,6 @@ pub overflow_add-result : goal.overflow_add-result
 unfolding push_bytes push_rule
 overflow_add-result c = search room_next
 
-pub returns-then-has_room : goal.returns-then-has_room
+pub returns : goal.returns
 unfolding push_bytes push_rule
-returns-then-has_room c = (search picked, search picked)
-
-pub returns-else-has_room : goal.returns-else-has_room
-unfolding push_bytes push_rule
-returns-else-has_room c = (search passed, search passed)
+returns c = (search picked, search picked)

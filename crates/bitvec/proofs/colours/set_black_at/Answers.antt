@@ -1,15 +1,10 @@
 use Rattle.bitvec.specs.Colours.{paint_at}
-use Rattle.words.proofs.Laws.{linked, slot_below, unlinked}
-use borrow.Author.Rules.{rules}
+use Rattle.words.proofs.Laws.{linked, unlinked}
 use Rattle.bitvec.proofs.colours.set_black_at.Goals as goal
 
 pub returns-in_default : goal.returns-in_default
 unfolding paint_at
 returns-in_default c = search unlinked
-
-pub set_black-requires : goal.set_black-requires
-unfolding paint_at
-set_black-requires c = search slot_below
 
 pub returns : goal.returns
 unfolding paint_at

@@ -1,16 +1,12 @@
-use Rattle.lines.proofs.Laws.{digit_is}
+use Rattle.std.proofs.lemmas.Bool.Decides.{nat_tests}
+use native.Mathlib.Omega.{arith}
 use Rattle.lines.specs.Input.{digit_of_lem}
-use Rattle.words.proofs.Tests.{less, not_less}
 use Rattle.lines.proofs.input.digit_of.Goals as goal
 
-pub returns-then-b-lt48 : goal.returns-then-b-lt48
+pub returns-then-is_ascii_digit : goal.returns-then-is_ascii_digit
 unfolding digit_of_lem
-returns-then-b-lt48 c = search less
+returns-then-is_ascii_digit c = grind (arith, nat_tests)
 
-pub returns-then-b-gt57 : goal.returns-then-b-gt57
+pub returns-else-is_ascii_digit : goal.returns-else-is_ascii_digit
 unfolding digit_of_lem
-returns-then-b-gt57 c = search (less, not_less)
-
-pub returns : goal.returns
-unfolding digit_of_lem
-returns c = search (not_less, digit_is)
+returns-else-is_ascii_digit c = grind (arith, nat_tests)

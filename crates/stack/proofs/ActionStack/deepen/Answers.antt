@@ -1,5 +1,4 @@
 use Rattle.stack.specs.States.{pushed}
-use borrow.Author.Rules.{rules}
 use Rattle.stack.proofs.ActionStack.deepen.Goals as goal
 
 pub returns : goal.returns

@@ -12,10 +12,10 @@ pub mark-requires : goal.mark-requires
 unfolding mark_rule
 mark-requires c = (search not_empty, search not_over, search rules)
 
-pub returns-then-has_top : goal.returns-then-has_top
+pub returns : goal.returns
 unfolding mark_rule
-returns-then-has_top c = search (picked, done_left)
+returns c = search (picked, done_left)
 
-pub returns-else-has_top : goal.returns-else-has_top
+pub returns-then-not-has_top : goal.returns-then-not-has_top
 unfolding mark_rule
-returns-else-has_top c = search passed
+returns-then-not-has_top c = search passed

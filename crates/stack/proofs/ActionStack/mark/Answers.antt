@@ -1,5 +1,4 @@
 use Rattle.stack.specs.States.{marked}
-use borrow.Author.Rules.{rules}
 use Rattle.stack.proofs.ActionStack.mark.Goals as goal
 
 pub returns : goal.returns

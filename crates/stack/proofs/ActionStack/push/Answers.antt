@@ -1,13 +1,12 @@
 use Rattle.stack.specs.Calls.{push_rule}
 use Rattle.stack.proofs.Laws.{done_stack}
 use Rattle.words.proofs.Laws.{there, missing}
-use borrow.Author.Rules.{rules}
 use Rattle.stack.proofs.ActionStack.push.Goals as goal
 
-pub returns-then-self-lt32 : goal.returns-then-self-lt32
+pub returns : goal.returns
 unfolding push_rule
-returns-then-self-lt32 c = search (there, done_stack)
+returns c = search (there, done_stack)
 
-pub returns-else-self-lt32 : goal.returns-else-self-lt32
+pub returns-then-self-ge32 : goal.returns-then-self-ge32
 unfolding push_rule
-returns-else-self-lt32 c = search missing
+returns-then-self-ge32 c = search missing

@@ -1,5 +1,4 @@
 use Rattle.stack.specs.States.{popped}
-use borrow.Author.Rules.{rules}
 use Rattle.stack.proofs.ActionStack.shorten.Goals as goal
 
 pub returns : goal.returns

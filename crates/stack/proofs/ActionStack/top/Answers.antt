@@ -1,5 +1,4 @@
 use Rattle.stack.specs.States.{top}
-use borrow.Author.Rules.{rules}
 use Rattle.stack.proofs.ActionStack.top.Goals as goal
 
 pub returns : goal.returns

@@ -1,5 +1,5 @@
-use Rattle.stack.proofs.Laws.{lent_back, push_quiet}
+use Rattle.stack.proofs.Laws.{lent_from, push_quiet}
 use Rattle.stack.proofs.lent.push.Goals as goal
 
 pub returns : goal.returns
-returns c = rw (c.without_stack.ensures, c.stack_after.ensures) (lent_back _ _ _ c.push-a.ensures (push_quiet c.args.s.now))
+returns c = lent_from _ _ _ _ c.on_record.ensures (push_quiet c.args.s.now)

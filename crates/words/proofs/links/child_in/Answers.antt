@@ -1,5 +1,4 @@
 use Rattle.words.proofs.Layouts.{child_left, child_right, left_fits, right_fits}
-use borrow.Author.Rules.{rules}
 use Rattle.words.proofs.links.child_in.Goals as goal
 
 pub returns-then-left_side : goal.returns-then-left_side

@@ -1,5 +1,4 @@
 use Rattle.words.proofs.Layouts.{low_widened, high_widened, low_up, widened_fits}
-use borrow.Author.Rules.{rules}
 use Rattle.words.proofs.links.widened.Goals as goal
 
 pub returns-then-k-lt65535 : goal.returns-then-k-lt65535

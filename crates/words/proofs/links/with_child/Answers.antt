@@ -1,6 +1,4 @@
 use Rattle.words.proofs.Layouts.{put_left, put_right}
-use native.Mathlib.Omega.{arith}
-use borrow.Author.Rules.{rules}
 use Rattle.words.proofs.links.with_child.Goals as goal
 
 pub returns-then-left_side : goal.returns-then-left_side

@@ -1,5 +1,4 @@
 use Rattle.words.specs.Layouts.{field_put}
-use borrow.Author.Rules.{rules}
 use Rattle.words.proofs.links.with_parent.Goals as goal
 
 pub returns : goal.returns

@@ -1,5 +1,4 @@
 use Rattle.words.specs.Nodes.{put_node_lem}
-use borrow.Author.Rules.{rules}
 use Rattle.words.proofs.node.put_node.Goals as goal
 
 pub returns : goal.returns

@@ -1,5 +1,4 @@
 use Rattle.words.specs.Nodes.{hull_of}
-use borrow.Author.Rules.{rules}
 use Rattle.words.proofs.node.subtree_interval.Goals as goal
 
 pub returns : goal.returns

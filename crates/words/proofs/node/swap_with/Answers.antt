@@ -1,5 +1,4 @@
 use Rattle.words.specs.Nodes.{swap}
-use borrow.Author.Rules.{rules}
 use Rattle.words.proofs.node.swap_with.Goals as goal
 
 pub returns : goal.returns

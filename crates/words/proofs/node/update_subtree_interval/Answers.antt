@@ -1,5 +1,4 @@
 use Rattle.words.proofs.Laws.{altered_is, fixed_is}
-use borrow.Author.Rules.{rules}
 use Rattle.words.proofs.node.update_subtree_interval.Goals as goal
 
 pub returns : goal.returns

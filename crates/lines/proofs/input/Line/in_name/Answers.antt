@@ -1,8 +1,8 @@
-use Rattle.lines.proofs.Laws.{digit_taken, digit_missed}
+use Rattle.lines.proofs.Laws.{number_found, number_missing}
 use Rattle.lines.proofs.input.Line.in_name.Goals as goal
 
-pub returns-in-Is : goal.returns-in-Is
-returns-in-Is c = (search digit_taken, search digit_taken)
+pub returns-in-Some : goal.returns-in-Some
+returns-in-Some c = (search number_found, search number_found)
 
-pub returns-in-Not : goal.returns-in-Not
-returns-in-Not c = (search digit_missed, search digit_missed)
+pub returns-in-None : goal.returns-in-None
+returns-in-None c = (search number_missing, search number_missing)
