@@ -94,7 +94,7 @@ pub fn is_tied(x: Node, parent: u64) -> bool
 fn is_ordered(own: Interval, last: Interval, first: Interval) -> bool
     ensures { result ≡ ordered own last first }
 {
-    own.is_proper() & last.le(own) & own.le(first)
+    own.is_proper() & (last <= own) & (own <= first)
 }
 
 // Whether a node's hull is the least interval that contains its own interval and its children's
@@ -104,7 +104,7 @@ fn is_hulled(x: Node, left: Interval, right: Interval) -> bool
 {
     let hull = x.hull;
     let own = x.interval;
-    hull.eq(own.extend(left).extend(right))
+    hull == own.extend(left).extend(right)
 }
 
 // Whether both subtrees have the same number of blacks, and the node has no red child if it is red.

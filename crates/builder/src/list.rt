@@ -43,7 +43,7 @@ fn in_order(list: &[u64], k: usize) -> bool
 {
     let a = interval_at(list, k);
     let b = interval_at(list, k + 1);
-    a.le(b)
+    a <= b
 }
 
 // Whether every start is below its end.
@@ -51,11 +51,8 @@ pub fn all_proper(list: &[u64]) -> bool
     ensures { result ≡ all_proper_lem list.now }
 {
     let n = list.len() / 3;
-    let mut k = 0;
-    while k < n {
-        if is_proper_at(list, k) {
-            k += 1;
-        } else {
+    for k in 0..n {
+        if !is_proper_at(list, k) {
             return false;
         }
     }
@@ -67,11 +64,8 @@ pub fn sorted(list: &[u64]) -> bool
     ensures { result ≡ sorted list.now }
 {
     let n = list.len() / 3;
-    let mut k = 0;
-    while k + 1 < n {
-        if in_order(list, k) {
-            k += 1;
-        } else {
+    for k in 0..n.saturating_sub(1) {
+        if !in_order(list, k) {
             return false;
         }
     }

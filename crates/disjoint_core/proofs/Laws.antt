@@ -8,8 +8,8 @@ use lib.Dec.{ltb, leb}
 use lib.ListN.{length}
 use Rattle.words.specs.Ix.{U, link_of}
 use Rattle.words.specs.Nodes.{start, stop, lo, hi, kid}
-use Rattle.words.specs.declared.ix.Link.{Link}
-use Rattle.words.specs.declared.ix.Link.TheVariants.{Slot, Nil}
+use Rattle.std.specs.declared.option.Option.{Option}
+use Rattle.std.specs.declared.option.Option.TheVariants.{Some, None}
 use Rattle.iter.proofs.Laws.{child_there, child_gone}
 use Rattle.first_rule.specs.Way.{way_end, way_nodes}
 use Rattle.first_rule.proofs.Ways.{end_spent, end_gone, end_here, end_on, nodes_spent, nodes_gone, nodes_here, nodes_on}
@@ -18,22 +18,22 @@ use Rattle.disjoint_rule.specs.Point.{point_way, point, point_nodes}
 use Rattle.disjoint_core.specs.Answers.{spot}
 
 -- the test of a slot with its two links: what was read behind a link, and what of the slot
-module _ (W : List ℕ) (n s w : ℕ) (l : Link) (e : l ≡ link_of n w) where
+module _ (W : List ℕ) (n s w : ℕ) (l : Option ℕ) (e : l ≡ link_of n w) where
   module _ (i : w ≡ kid W true s) where
-    pub left_there : (a h x : ℕ) → l ≡ Slot a → h ≡ hi W a → x ≡ start W s → leb h x ≡ apart_left W n s
+    pub left_there : (a h x : ℕ) → l ≡ Some a → h ≡ hi W a → x ≡ start W s → leb h x ≡ apart_left W n s
     unfolding apart_left
     left_there a h x q p o = child_there (leb h x) n w (kid W true s) a l (λ b. leb (hi W b) (start W s)) true i e q (rw (p, o))
 
-    pub left_gone : l ≡ Nil → true ≡ apart_left W n s
+    pub left_gone : l ≡ None → true ≡ apart_left W n s
     unfolding apart_left
     left_gone q = child_gone true n w (kid W true s) l (λ b. leb (hi W b) (start W s)) true i e q refl
 
   module _ (i : w ≡ kid W false s) where
-    pub right_there : (a h x : ℕ) → l ≡ Slot a → h ≡ lo W a → x ≡ stop W s → leb x h ≡ apart_right W n s
+    pub right_there : (a h x : ℕ) → l ≡ Some a → h ≡ lo W a → x ≡ stop W s → leb x h ≡ apart_right W n s
     unfolding apart_right
     right_there a h x q p o = child_there (leb x h) n w (kid W false s) a l (λ b. leb (stop W s) (lo W b)) true i e q (rw (p, o))
 
-    pub right_gone : l ≡ Nil → true ≡ apart_right W n s
+    pub right_gone : l ≡ None → true ≡ apart_right W n s
     unfolding apart_right
     right_gone q = child_gone true n w (kid W false s) l (λ b. leb (stop W s) (lo W b)) true i e q refl
 
@@ -76,8 +76,8 @@ module _ (W : List ℕ) (n r a : ℕ) where
         let j : length (point_nodes W n r a) ≡ e = omega (arith, R.entered, ap (λ (l : List ℕ). length l) q) in
         rw (i, j) refl
 
-    pub reached_spent : 32 ≤ e → record { slot = U; entered = e } ≡ spot W n r a
-    reached_spent h = nowhere (end_spent (point_way W a) W n (32 - e) k (omega arith)) (nodes_spent (point_way W a) W n (32 - e) k (omega arith))
+    pub reached_spent : 32 ≤ e → record { slot = U; entered = 32 } ≡ spot W n r a
+    reached_spent h = let j : 32 ≡ e = omega (arith, R.few) in rw j (nowhere (end_spent (point_way W a) W n (32 - e) k (omega arith)) (nodes_spent (point_way W a) W n (32 - e) k (omega arith)))
 
     pub reached_out : n ≤ k → record { slot = U; entered = e } ≡ spot W n r a
     reached_out h = nowhere (end_gone (point_way W a) W n (32 - e) k h) (nodes_gone (point_way W a) W n (32 - e) k h)

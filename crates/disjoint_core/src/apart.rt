@@ -4,7 +4,7 @@ ghost use Rattle.std.specs.Prelude.{◌≡◌, ◌<◌};
 ghost use Rattle.words.specs.Layouts.{as_eight, HoldsIn};
 ghost use Rattle.disjoint_rule.specs.Apart.{apart_left, apart_right, apart_at, apart_below};
 
-use words::ix::Link;
+use words::ix::slot_at;
 use words::node::{child_of, end_of, hull_end_of, hull_start_of, start_of};
 
 // Whether what is left of a slot ends at or before its start.
@@ -12,7 +12,7 @@ fn ends_left(nodes: &[u64], narrow: bool, count: u64, slot: u64) -> bool
     requires { HoldsIn narrow nodes.now count × (slot < count) }
     ensures { result ≡ apart_left (as_eight narrow nodes.now) count slot }
 {
-    let Link::Slot(left) = Link::new(child_of(nodes, narrow, slot, true), count) else {
+    let Some(left) = slot_at(child_of(nodes, narrow, slot, true), count) else {
         return true;
     };
     hull_end_of(nodes, narrow, left) <= start_of(nodes, narrow, slot)
@@ -23,7 +23,7 @@ fn starts_right(nodes: &[u64], narrow: bool, count: u64, slot: u64) -> bool
     requires { HoldsIn narrow nodes.now count × (slot < count) }
     ensures { result ≡ apart_right (as_eight narrow nodes.now) count slot }
 {
-    let Link::Slot(right) = Link::new(child_of(nodes, narrow, slot, false), count) else {
+    let Some(right) = slot_at(child_of(nodes, narrow, slot, false), count) else {
         return true;
     };
     end_of(nodes, narrow, slot) <= hull_start_of(nodes, narrow, right)
@@ -43,11 +43,8 @@ pub fn all_apart(nodes: &[u64], narrow: bool, count: u64) -> bool
     requires { HoldsIn narrow nodes.now count }
     ensures { result ≡ apart_below (as_eight narrow nodes.now) count count }
 {
-    let mut below = count;
-    while below > 0 {
-        if is_apart(nodes, narrow, count, below - 1) {
-            below -= 1;
-        } else {
+    for slot in (0..count).rev() {
+        if !is_apart(nodes, narrow, count, slot) {
             return false;
         }
     }

@@ -22,18 +22,22 @@ pub fn point_below(nodes: &[u64], narrow: bool, count: u64, root: u64, address: 
     ensures { result ≡ spot (as_eight narrow nodes.now) count root address }
 {
     let mut at = root;
-    let mut entered: u64 = 0;
-    while entered < 32 {
+    for entered in 0..32 {
         if count <= at {
             return Spot { slot: U, entered };
         }
         let left = address < start_of(nodes, narrow, at);
         let below_end = address < end_of(nodes, narrow, at);
-        entered += 1;
         if !left & below_end {
-            return Spot { slot: at, entered };
+            return Spot {
+                slot: at,
+                entered: entered + 1,
+            };
         }
         at = child_of(nodes, narrow, at, left);
     }
-    Spot { slot: U, entered }
+    Spot {
+        slot: U,
+        entered: 32,
+    }
 }

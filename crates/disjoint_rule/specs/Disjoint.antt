@@ -4,7 +4,7 @@
 use Rattle.std.specs.Prelude.{◌≡◌, ◌≢◌, false, List, [], ◌∷◌, map, ℕ, ◌<◌, ◌≤◌}
 use Rattle.words.specs.Intervals.{intersects}
 use Rattle.words.specs.Nodes.{interval}
-use Rattle.words.specs.declared.interval.Bound.TheVariants.{Included, Excluded}
+use Rattle.std.specs.declared.ops.Bound.TheVariants.{Included, Excluded}
 use Rattle.words.specs.declared.interval.Span.{Span}
 use Rattle.words.specs.declared.interval.Interval.{Interval}
 

@@ -2,7 +2,7 @@
 -- Letters: W words, n count, r root, a address, s slot that was found
 use Rattle.std.specs.Prelude.{not, ◌&&◌, List, [], ◌∷◌, ℕ, ltb}
 use Rattle.words.specs.Nodes.{start, stop}
-use Rattle.words.specs.declared.interval.Bound.TheVariants.{Included}
+use Rattle.std.specs.declared.ops.Bound.TheVariants.{Included}
 use Rattle.words.specs.declared.interval.Span.{Span}
 use Rattle.iter.specs.Lists.{when}
 use Rattle.first_rule.specs.Way.{WayDown, way_end, way_nodes}

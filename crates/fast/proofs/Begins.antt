@@ -11,12 +11,12 @@ use borrow.Author.Tests.{ltb-true, ltb-false, le-leb, lt-leb, le-ltb, eqb-true, 
 use Rattle.words.specs.Ix.{link_of, on_link}
 use Rattle.words.specs.Nodes.{start, stop, lo, hi, kid}
 use Rattle.words.specs.Intervals.{passed, admits}
-use Rattle.words.specs.declared.interval.Bound.{Bound}
-use Rattle.words.specs.declared.interval.Bound.TheVariants.{Included, Excluded, Unbounded}
+use Rattle.std.specs.declared.ops.Bound.{Bound}
+use Rattle.std.specs.declared.ops.Bound.TheVariants.{Included, Excluded, Unbounded}
 use Rattle.words.specs.declared.interval.Interval.{Interval}
 use Rattle.words.specs.declared.interval.Span.{Span}
-use Rattle.words.specs.declared.ix.Link.{Link}
-use Rattle.words.specs.declared.ix.Link.TheVariants.{Slot, Nil}
+use Rattle.std.specs.declared.option.Option.{Option}
+use Rattle.std.specs.declared.option.Option.TheVariants.{Some, None}
 use Rattle.words.specs.declared.node.Field.TheVariants.{Start, End, HullStart, HullEnd}
 use Rattle.iter.specs.Drains.{filled}
 use Rattle.iter.specs.Exact.{exact, find_from}
@@ -44,23 +44,23 @@ same_test a b c d f g = go (ltb a b) refl
     go false i = sym (lt-leb c d (g (ltb-false a b i)))
 
 -- a lower bound by its number, and an upper one
-passed_is : (b : Bound) (e : ℕ) → passed b e ≡ leb (least_end_lem b) e
+passed_is : (b : Bound ℕ) (e : ℕ) → passed b e ≡ leb (least_end_lem b) e
 passed_is (Included x) e = same_test x e (x + 1) e (λ h. omega arith) (λ h. omega arith)
 passed_is (Excluded x) e = same_test x e (x + 1) e (λ h. omega arith) (λ h. omega arith)
 passed_is Unbounded e = sym (le-leb 0 e (omega arith))
 
-admits_is : (b : Bound) (s : ℕ) → no_start b ≡ false → s < 18446744073709551616 → admits b s ≡ leb s (last_start_lem b)
+admits_is : (b : Bound ℕ) (s : ℕ) → no_start b ≡ false → s < 18446744073709551616 → admits b s ≡ leb s (last_start_lem b)
 admits_is (Included y) s h q = refl
 admits_is (Excluded y) s h q = same_test s y s (y - 1) (λ i. omega arith) (λ i. omega (arith, eqb-false y 0 h))
 admits_is Unbounded s h q = sym (le-leb s last (omega arith))
 
 -- bounds that nothing goes past, or that admit nothing
-passed_never : (b : Bound) (e : ℕ) → no_end_lem b ≡ true → e < 18446744073709551616 → passed b e ≡ false
+passed_never : (b : Bound ℕ) (e : ℕ) → no_end_lem b ≡ true → e < 18446744073709551616 → passed b e ≡ false
 passed_never (Included x) e h q = le-ltb x e (omega (arith, eqb-true x last h))
 passed_never (Excluded x) e h q = le-ltb x e (omega (arith, eqb-true x last h))
 passed_never Unbounded e h q = absurd (true≢false (sym h))
 
-admits_never : (b : Bound) (s : ℕ) → no_start b ≡ true → admits b s ≡ false
+admits_never : (b : Bound ℕ) (s : ℕ) → no_start b ≡ true → admits b s ≡ false
 admits_never (Included y) s h = absurd (true≢false (sym h))
 admits_never (Excluded y) s h = le-ltb s y (omega (arith, eqb-true y 0 h))
 admits_never Unbounded s h = absurd (true≢false (sym h))
@@ -74,7 +74,7 @@ or_right true b e = absurd (true≢false e)
 or_right false b e = e
 
 -- the tests that the code made of the two bounds
-module _ (lo hi : Bound) (a b : Bool) (e : a ≡ no_end_lem lo) (f : b ≡ no_start hi) (h : a || b ≡ false) where
+module _ (lo hi : Bound ℕ) (a b : Bool) (e : a ≡ no_end_lem lo) (f : b ≡ no_start hi) (h : a || b ≡ false) where
   pub has_end : no_end_lem lo ≡ false
   has_end = sym e ∙ or_left a b h
 
@@ -121,21 +121,21 @@ module _ (W : List ℕ) (small : Small W) (n : ℕ) (q : Span) where
     void_hits top = rw (never (stop W top) (start W top) (small End top))
 
 -- from where the lookup begins
-module _ (W : List ℕ) (n : ℕ) (query : Query) (root w : ℕ) (l : Link) (e : w ≡ start_at W n query root) (p : l ≡ link_of n w) where
-  nodes_none : l ≡ Nil → fast_nodes W n query root ≡ []
+module _ (W : List ℕ) (n : ℕ) (query : Query) (root w : ℕ) (l : Option ℕ) (e : w ≡ start_at W n query root) (p : l ≡ link_of n w) where
+  nodes_none : l ≡ None → fast_nodes W n query root ≡ []
   unfolding fast_nodes
   nodes_none q = sym (child_gone [] n w (start_at W n query root) l (entering W (fast_rules W n query) 32) [] e p q refl)
 
-  nodes_from : (top : ℕ) → l ≡ Slot top → fast_nodes W n query root ≡ entering W (fast_rules W n query) 32 top
+  nodes_from : (top : ℕ) → l ≡ Some top → fast_nodes W n query root ≡ entering W (fast_rules W n query) 32 top
   unfolding fast_nodes
   nodes_from top q =
       sym (child_there (entering W (fast_rules W n query) 32 top) n w (start_at W n query root) top l (entering W (fast_rules W n query) 32) [] e p q refl)
 
-  none_found : (out : List ℕ) → l ≡ Nil → Found W n query root (record { hits = 0; entered = 0 }) out out
+  none_found : (out : List ℕ) → l ≡ None → Found W n query root (record { hits = 0; entered = 0 }) out out
   unfolding fast_hits filled
   none_found out q = (rw (nodes_none q), rw (nodes_none q, take-nil))
 
-  done_found : (top : ℕ) → l ≡ Slot top → (r : Tally) (out new : List ℕ) → Down W (fast_rules W n query) 32 top 0 0 r out new → Found W n query root r out new
+  done_found : (top : ℕ) → l ≡ Some top → (r : Tally) (out new : List ℕ) → Down W (fast_rules W n query) 32 top 0 0 r out new → Found W n query root r out new
   unfolding fast_hits
   done_found top q r out new G =
       let l : List ℕ = entering W (fast_rules W n query) 32 top in
@@ -144,15 +144,15 @@ module _ (W : List ℕ) (n : ℕ) (query : Query) (root w : ℕ) (l : Link) (e :
       rw (nodes_from top q) (λ k. record { hits = i k; entered = j k }, G.written ∙ sets_fitted (filter (fast_rules W n query).match l) out)
 
 -- of a range
-module _ (W : List ℕ) (n : ℕ) (q : Span) (root : ℕ) (l : Link) (p : l ≡ link_of n root) where
+module _ (W : List ℕ) (n : ℕ) (q : Span) (root : ℕ) (l : Option ℕ) (p : l ≡ link_of n root) where
   begins : root ≡ start_at W n (Overlap q) root
   unfolding start_at
   begins = refl
 
-  pub overlap_none : (out : List ℕ) → l ≡ Nil → Found W n (Overlap q) root (record { hits = 0; entered = 0 }) out out
+  pub overlap_none : (out : List ℕ) → l ≡ None → Found W n (Overlap q) root (record { hits = 0; entered = 0 }) out out
   overlap_none out i = none_found W n (Overlap q) root root l begins p out i
 
-module _ (W : List ℕ) (small : Small W) (n : ℕ) (q : Span) (root : ℕ) (l : Link) (p : l ≡ link_of n root) (top : ℕ) (i : l ≡ Slot top) (a b : Bool)
+module _ (W : List ℕ) (small : Small W) (n : ℕ) (q : Span) (root : ℕ) (l : Option ℕ) (p : l ≡ link_of n root) (top : ℕ) (i : l ≡ Some top) (a b : Bool)
     (e : a ≡ no_end_lem q.lo) (f : b ≡ no_start q.hi) where
   pub overlap_void : (out : List ℕ) → a || b ≡ true → Found W n (Overlap q) root (record { hits = 0; entered = 1 }) out out
   unfolding fast_hits fast_rules filled
@@ -170,15 +170,15 @@ module _ (W : List ℕ) (small : Small W) (n : ℕ) (q : Span) (root : ℕ) (l :
       (rw (j, k, rules_are W small n q (has_start q.lo q.hi a b e f h)) at G)
 
 -- of an interval
-module _ (W : List ℕ) (n : ℕ) (x : Interval) (root w : ℕ) (l : Link) (e : w ≡ find_from W n x root) (p : l ≡ link_of n w) where
+module _ (W : List ℕ) (n : ℕ) (x : Interval) (root w : ℕ) (l : Option ℕ) (e : w ≡ find_from W n x root) (p : l ≡ link_of n w) where
   finds : w ≡ start_at W n (Exact x) root
   unfolding start_at
   finds = e
 
-  pub exact_none : (out : List ℕ) → l ≡ Nil → Found W n (Exact x) root (record { hits = 0; entered = 0 }) out out
+  pub exact_none : (out : List ℕ) → l ≡ None → Found W n (Exact x) root (record { hits = 0; entered = 0 }) out out
   exact_none out i = none_found W n (Exact x) root w l finds p out i
 
-  pub exact_done : (top : ℕ) (r : Tally) (out new : List ℕ) → l ≡ Slot top → Down W (exact W n (record { start = x.start; end = x.end })) 32 top 0 0 r out new
+  pub exact_done : (top : ℕ) (r : Tally) (out new : List ℕ) → l ≡ Some top → Down W (exact W n (record { start = x.start; end = x.end })) 32 top 0 0 r out new
       → Found W n (Exact x) root r out new
   unfolding fast_rules
   exact_done top r out new i G = done_found W n (Exact x) root w l finds p top i r out new G

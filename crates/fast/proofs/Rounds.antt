@@ -18,6 +18,10 @@ use Rattle.fast.specs.Answers.{beyond, Room, Gone}
 use Rattle.plain.specs.declared.Tally.{Tally}
 use Rattle.fast.proofs.Writes.{sets_append}
 
+-- a child that was read
+pub child_live : (child k n : ℕ) → child ≡ k → k < n → child < n
+child_live child k n e h = omega arith
+
 filter_few : (m : ℕ → Bool) (l : List ℕ) → length (filter m l) ≤ length l
 filter_few m [] = omega arith
 filter_few m (a ∷ l) = go (m a) (filter_few m l)

@@ -3,8 +3,8 @@
 use Rattle.std.specs.Prelude.{Bool, false, ◌&&◌, List, ℕ, ◌+◌, ◌-◌, eqb, leb}
 use Rattle.words.specs.Ix.{on_link}
 use Rattle.words.specs.Nodes.{start, stop, lo, hi, kid}
-use Rattle.words.specs.declared.interval.Bound.{Bound}
-use Rattle.words.specs.declared.interval.Bound.TheVariants.{Included, Excluded, Unbounded}
+use Rattle.std.specs.declared.ops.Bound.{Bound}
+use Rattle.std.specs.declared.ops.Bound.TheVariants.{Included, Excluded, Unbounded}
 use Rattle.iter.specs.Walk.{Rules}
 
 -- the greatest number of 64 bits
@@ -12,23 +12,23 @@ abbrev pub last : ℕ
 last = 18446744073709551615
 
 -- no number of 64 bits goes past a lower bound; none is admitted by an upper bound
-abbrev pub no_end_lem : (bound : Bound) → Bool
+abbrev pub no_end_lem : (bound : Bound ℕ) → Bool
 no_end_lem (Included x) = eqb x last
 no_end_lem (Excluded x) = eqb x last
 no_end_lem Unbounded = false
 
-abbrev pub no_start : (bound : Bound) → Bool
+abbrev pub no_start : (bound : Bound ℕ) → Bool
 no_start (Included y) = false
 no_start (Excluded y) = eqb y 0
 no_start Unbounded = false
 
 -- else: the least number that goes past a lower bound, and the greatest that an upper bound admits
-abbrev pub least_end_lem : (bound : Bound) → ℕ
+abbrev pub least_end_lem : (bound : Bound ℕ) → ℕ
 least_end_lem (Included x) = x + 1
 least_end_lem (Excluded x) = x + 1
 least_end_lem Unbounded = 0
 
-abbrev pub last_start_lem : (bound : Bound) → ℕ
+abbrev pub last_start_lem : (bound : Bound ℕ) → ℕ
 last_start_lem (Included y) = y
 last_start_lem (Excluded y) = y - 1
 last_start_lem Unbounded = last

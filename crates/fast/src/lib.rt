@@ -7,27 +7,32 @@
 
 ghost use Rattle.std.specs.Prelude.{◌≡◌, true, false, [], ◌∷◌, ◌+◌, ◌<◌, length, set};
 ghost use Rattle.std.proofs.lemmas.List.Edits.{sets};
-ghost use Rattle.words.specs.Layouts.{as_eight, HoldsIn, HasIn};
-ghost use Rattle.iter.specs.Exact.{equals, should_go_exact, exact};
+ghost use Rattle.words.specs.Layouts.{as_eight, HoldsIn};
 ghost use Rattle.iter.specs.Lists.{when};
 ghost use Rattle.iter.specs.declared.rules.Query.TheVariants.{Overlap, Exact};
 ghost use Rattle.fast_rule.specs.Fast.{fast_hits, fitted};
-ghost use Rattle.fast.specs.Numbers.{last, no_end_lem, no_start, least_end_lem, last_start_lem, goes_to, lies_in_lem, between};
+ghost use Rattle.fast.specs.Numbers.{last, no_end_lem, no_start, least_end_lem, last_start_lem, between};
 ghost use Rattle.fast.specs.Answers.{tally, Found, Room, Left, Down};
 
 use iter::ranges::by_rule;
-use iter::rules::{Query, find_index, goes_exact};
+use iter::rules::{Lookup, Query, find_index};
 use plain::Tally;
 use words::interval::{Bound, Interval, Span};
-use words::ix::Link;
+use words::ix::slot_at;
 use words::node::{child_of, end_of, hull_end_of, hull_start_of, start_of};
 
 // The greatest number.
 const LAST: u64 = 18446744073709551615;
 
+// The numbers before the first node.
+const NOTHING: Tally = Tally {
+    hits: 0,
+    entered: 0,
+};
+
 // A range becomes two numbers before the way down, so that each test there is two comparisons.
 // Whether no number goes past the lower bound.
-fn has_no_end(lo: Bound) -> bool
+fn has_no_end(lo: Bound<u64>) -> bool
     ensures { result ≡ no_end_lem lo }
 {
     match lo {
@@ -38,7 +43,7 @@ fn has_no_end(lo: Bound) -> bool
 }
 
 // Whether the upper bound admits no number.
-fn has_no_start(hi: Bound) -> bool
+fn has_no_start(hi: Bound<u64>) -> bool
     ensures { result ≡ no_start hi }
 {
     match hi {
@@ -49,7 +54,7 @@ fn has_no_start(hi: Bound) -> bool
 }
 
 // Returns the least number that goes past the lower bound.
-fn least_end(lo: Bound) -> u64
+fn least_end(lo: Bound<u64>) -> u64
     requires { no_end_lem lo ≡ false }
     ensures { result ≡ least_end_lem lo }
 {
@@ -61,7 +66,7 @@ fn least_end(lo: Bound) -> u64
 }
 
 // Returns the greatest number that the upper bound admits.
-fn last_start(hi: Bound) -> u64
+fn last_start(hi: Bound<u64>) -> u64
     requires { no_start hi ≡ false }
     ensures { result ≡ last_start_lem hi }
 {
@@ -72,62 +77,31 @@ fn last_start(hi: Bound) -> u64
     }
 }
 
-// Whether the child of a slot on a side is entered: it exists, and its hull ends at `low` or later
-// and starts at `high` or earlier.
-fn is_near(
-    nodes: &[u64],
-    narrow: bool,
-    count: u64,
-    low: u64,
-    high: u64,
-    slot: u64,
-    left_side: bool,
-) -> bool
-    requires { HoldsIn narrow nodes.now count × (slot < count) }
-    ensures { result ≡ goes_to (as_eight narrow nodes.now) count low high left_side slot }
-{
-    let Link::Slot(child) = Link::new(child_of(nodes, narrow, slot, left_side), count) else {
-        return false;
-    };
-    (low <= hull_end_of(nodes, narrow, child)) & (hull_start_of(nodes, narrow, child) <= high)
+// A range by two numbers: an entry is a hit if it ends at `low` or later and starts at `high` or
+// earlier.
+#[derive(Clone, Copy)]
+pub struct Window {
+    pub low: u64,
+    pub high: u64,
 }
 
-// Whether the entry of a slot is a hit.
-fn is_within(nodes: &[u64], narrow: bool, low: u64, high: u64, slot: u64) -> bool
-    requires { HasIn narrow nodes.now slot }
-    ensures { result ≡ lies_in_lem (as_eight narrow nodes.now) low high slot }
-{
-    (low <= end_of(nodes, narrow, slot)) & (start_of(nodes, narrow, slot) <= high)
-}
+impl Lookup for Window {
+    ghost rules = { λ window words count. between words count window.low window.high };
 
-// The same two tests for an exact lookup, by the rules of crate iter.
-fn is_toward(
-    nodes: &[u64],
-    narrow: bool,
-    count: u64,
-    start: u64,
-    end: u64,
-    slot: u64,
-    left_side: bool,
-) -> bool
-    requires { HoldsIn narrow nodes.now count × (slot < count) }
-    ensures { result ≡ should_go_exact (as_eight narrow nodes.now) count (record { start = start; end = end }) left_side slot }
-{
-    goes_exact(
-        nodes,
-        narrow,
-        count,
-        Interval { start, end },
-        slot,
-        left_side,
-    )
-}
+    // Whether the child of a slot on a side is entered: it exists, and its hull ends at `low` or
+    // later and starts at `high` or earlier.
+    fn goes(self, nodes: &[u64], narrow: bool, count: u64, index: u64, left_side: bool) -> bool {
+        let Some(child) = slot_at(child_of(nodes, narrow, index, left_side), count) else {
+            return false;
+        };
+        (self.low <= hull_end_of(nodes, narrow, child))
+            & (hull_start_of(nodes, narrow, child) <= self.high)
+    }
 
-fn is_equal(nodes: &[u64], narrow: bool, start: u64, end: u64, slot: u64) -> bool
-    requires { HasIn narrow nodes.now slot }
-    ensures { result ≡ equals (as_eight narrow nodes.now) (record { start = start; end = end }) slot }
-{
-    iter::rules::is_equal(nodes, narrow, Interval { start, end }, slot)
+    // Whether the entry of a slot is a hit.
+    fn seeks(self, nodes: &[u64], narrow: bool, _count: u64, index: u64) -> bool {
+        (self.low <= end_of(nodes, narrow, index)) & (start_of(nodes, narrow, index) <= self.high)
+    }
 }
 
 // Writes a slot to a place of the output, if the output has that place.
@@ -153,143 +127,58 @@ fn note(out: &mut [u64], hits: u64, slot: u64, hit: bool) -> u64
     }
 }
 
-// Finds the hits on the left of a slot, if the left child is entered. `hits` and `entered` are the
-// numbers so far. Returns the numbers after it.
-#[cycle(overlap_down_overlap_left)]
-fn overlap_left(
+// Finds the hits on the left of a slot, if the left child is entered. `before` has the numbers so
+// far. Returns the numbers after it.
+#[cycle(find_down_find_left)]
+fn find_left<T: Lookup>(
     nodes: &[u64],
     narrow: bool,
     count: u64,
-    low: u64,
-    high: u64,
+    lookup: T,
     slot: u64,
     height: u64,
     out: &mut [u64],
-    hits: u64,
-    entered: u64,
+    before: Tally,
 ) -> Tally
-    requires { HoldsIn narrow nodes.now count × (slot < count) × Room hits entered height }
-    ensures { Left (as_eight narrow nodes.now) (between (as_eight narrow nodes.now) count low high) height slot hits entered result out.old out.new }
+    requires { HoldsIn narrow nodes.now count × (slot < count) × Room before.hits before.entered height }
+    ensures { Left (as_eight narrow nodes.now) (T.rules lookup (as_eight narrow nodes.now) count) height slot before.hits before.entered result out.old out.new }
 {
-    if is_near(nodes, narrow, count, low, high, slot, true) {
+    if lookup.goes(nodes, narrow, count, slot, true) {
         let child = child_of(nodes, narrow, slot, true);
-        overlap_down(
-            nodes, narrow, count, low, high, child, height, out, hits, entered,
-        )
+        find_down(nodes, narrow, count, lookup, child, height, out, before)
     } else {
-        Tally { hits, entered }
+        before
     }
 }
 
 // Finds the hits from a slot down, with at most `height` nodes on a way: those on its left, then
 // the slot itself, then those on its right. The right child is the next turn of the loop.
-#[cycle(overlap_down_overlap_left)]
-fn overlap_down(
+#[cycle(find_down_find_left)]
+fn find_down<T: Lookup>(
     nodes: &[u64],
     narrow: bool,
     count: u64,
-    low: u64,
-    high: u64,
+    lookup: T,
     slot: u64,
     height: u64,
     out: &mut [u64],
-    hits: u64,
-    entered: u64,
+    before: Tally,
 ) -> Tally
-    requires { HoldsIn narrow nodes.now count × (slot < count) × Room hits entered height }
-    ensures { Down (as_eight narrow nodes.now) (between (as_eight narrow nodes.now) count low high) height slot hits entered result out.old out.new }
+    requires { HoldsIn narrow nodes.now count × (slot < count) × Room before.hits before.entered height }
+    ensures { Down (as_eight narrow nodes.now) (T.rules lookup (as_eight narrow nodes.now) count) height slot before.hits before.entered result out.old out.new }
 {
     let mut at = slot;
-    let mut left = height;
-    let mut found = hits;
-    let mut seen = entered;
-    while left > 0 {
-        left -= 1;
-        seen += 1;
-        let part = overlap_left(nodes, narrow, count, low, high, at, left, out, found, seen);
-        found = note(out, part.hits, at, is_within(nodes, narrow, low, high, at));
-        seen = part.entered;
-        if is_near(nodes, narrow, count, low, high, at, false) {
-            at = child_of(nodes, narrow, at, false);
-        } else {
-            return Tally {
-                hits: found,
-                entered: seen,
-            };
+    let mut tally = before;
+    for left in (0..height).rev() {
+        tally.entered += 1;
+        tally = find_left(nodes, narrow, count, lookup, at, left, out, tally);
+        tally.hits = note(out, tally.hits, at, lookup.seeks(nodes, narrow, count, at));
+        if !lookup.goes(nodes, narrow, count, at, false) {
+            return tally;
         }
+        at = child_of(nodes, narrow, at, false);
     }
-    Tally {
-        hits: found,
-        entered: seen,
-    }
-}
-
-// `overlap_left` and `overlap_down` for an exact lookup.
-#[cycle(exact_down_exact_left)]
-fn exact_left(
-    nodes: &[u64],
-    narrow: bool,
-    count: u64,
-    start: u64,
-    end: u64,
-    slot: u64,
-    height: u64,
-    out: &mut [u64],
-    hits: u64,
-    entered: u64,
-) -> Tally
-    requires { HoldsIn narrow nodes.now count × (slot < count) × Room hits entered height }
-    ensures { Left (as_eight narrow nodes.now) (exact (as_eight narrow nodes.now) count (record { start = start; end = end })) height slot hits entered result out.old out.new }
-{
-    if is_toward(nodes, narrow, count, start, end, slot, true) {
-        let child = child_of(nodes, narrow, slot, true);
-        exact_down(
-            nodes, narrow, count, start, end, child, height, out, hits, entered,
-        )
-    } else {
-        Tally { hits, entered }
-    }
-}
-
-#[cycle(exact_down_exact_left)]
-fn exact_down(
-    nodes: &[u64],
-    narrow: bool,
-    count: u64,
-    start: u64,
-    end: u64,
-    slot: u64,
-    height: u64,
-    out: &mut [u64],
-    hits: u64,
-    entered: u64,
-) -> Tally
-    requires { HoldsIn narrow nodes.now count × (slot < count) × Room hits entered height }
-    ensures { Down (as_eight narrow nodes.now) (exact (as_eight narrow nodes.now) count (record { start = start; end = end })) height slot hits entered result out.old out.new }
-{
-    let mut at = slot;
-    let mut left = height;
-    let mut same = hits;
-    let mut tried = entered;
-    while left > 0 {
-        left -= 1;
-        tried += 1;
-        let part = exact_left(nodes, narrow, count, start, end, at, left, out, same, tried);
-        same = note(out, part.hits, at, is_equal(nodes, narrow, start, end, at));
-        tried = part.entered;
-        if is_toward(nodes, narrow, count, start, end, at, false) {
-            at = child_of(nodes, narrow, at, false);
-        } else {
-            return Tally {
-                hits: same,
-                entered: tried,
-            };
-        }
-    }
-    Tally {
-        hits: same,
-        entered: tried,
-    }
+    tally
 }
 
 // Finds the hits of a range. If no number goes past its lower bound, or its upper bound admits
@@ -305,11 +194,8 @@ fn find_overlap(
     requires { HoldsIn narrow nodes.now count }
     ensures { Found (as_eight narrow nodes.now) count (Overlap range) root result out.old out.new }
 {
-    let Link::Slot(top) = Link::new(root, count) else {
-        return Tally {
-            hits: 0,
-            entered: 0,
-        };
+    let Some(top) = slot_at(root, count) else {
+        return NOTHING;
     };
     let lo = range.lo;
     let hi = range.hi;
@@ -319,18 +205,11 @@ fn find_overlap(
             entered: 1,
         };
     }
-    overlap_down(
-        nodes,
-        narrow,
-        count,
-        least_end(lo),
-        last_start(hi),
-        top,
-        32,
-        out,
-        0,
-        0,
-    )
+    let window = Window {
+        low: least_end(lo),
+        high: last_start(hi),
+    };
+    find_down(nodes, narrow, count, window, top, 32, out, NOTHING)
 }
 
 // Finds the hits of an interval, from the highest equal node down.
@@ -345,13 +224,10 @@ fn find_exact(
     requires { HoldsIn narrow nodes.now count }
     ensures { Found (as_eight narrow nodes.now) count (Exact x) root result out.old out.new }
 {
-    let Link::Slot(top) = Link::new(find_index(nodes, narrow, count, x, root), count) else {
-        return Tally {
-            hits: 0,
-            entered: 0,
-        };
+    let Some(top) = slot_at(find_index(nodes, narrow, count, x, root), count) else {
+        return NOTHING;
     };
-    exact_down(nodes, narrow, count, x.start, x.end, top, 32, out, 0, 0)
+    find_down(nodes, narrow, count, x, top, 32, out, NOTHING)
 }
 
 // Writes the slots of the entries that the query asks for, in tree order, as many as the output has

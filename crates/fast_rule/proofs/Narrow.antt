@@ -10,8 +10,8 @@ use borrow.Author.Tests.{ltb-true, lt-ltb, le-leb}
 use Rattle.words.specs.Ix.{on_link}
 use Rattle.words.specs.Nodes.{start, stop, lo, hi, kid}
 use Rattle.words.specs.Intervals.{passed, reached, admits}
-use Rattle.words.specs.declared.interval.Bound.{Bound}
-use Rattle.words.specs.declared.interval.Bound.TheVariants.{Included, Excluded, Unbounded}
+use Rattle.std.specs.declared.ops.Bound.{Bound}
+use Rattle.std.specs.declared.ops.Bound.TheVariants.{Included, Excluded, Unbounded}
 use Rattle.words.specs.declared.interval.Span.{Span}
 use Rattle.tree.specs.Tree.{Tree, leaf, node, Shape}
 use Rattle.tree.specs.Hulls.{Hulls}
@@ -25,12 +25,12 @@ use Rattle.iter_laws.proofs.Bounds.{admits_before, whole_reached}
 use Rattle.iter_laws.proofs.Within.{within}
 use Rattle.fast_rule.specs.Fast.{nears, should_enter, narrow}
 
-passed_later : (x : Bound) (a b : ℕ) → a ≤ b → passed x a ≡ true → passed x b ≡ true
+passed_later : (x : Bound ℕ) (a b : ℕ) → a ≤ b → passed x a ≡ true → passed x b ≡ true
 passed_later (Included x) a b h e = lt-ltb x b (omega (arith, ltb-true x a e))
 passed_later (Excluded x) a b h e = lt-ltb x b (omega (arith, ltb-true x a e))
 passed_later Unbounded a b h e = refl
 
-passed_reached : (x : Bound) (a : ℕ) → passed x a ≡ true → reached x a ≡ true
+passed_reached : (x : Bound ℕ) (a : ℕ) → passed x a ≡ true → reached x a ≡ true
 passed_reached (Included x) a e = le-leb x a (omega (arith, ltb-true x a e))
 passed_reached (Excluded x) a e = le-leb x a (omega (arith, ltb-true x a e))
 passed_reached Unbounded a e = refl

@@ -5,8 +5,8 @@ use mathlib.Core.List.{List, [], ◌∷◌}
 use Prim.Native.Nat.{ℕ}
 use Rattle.words.specs.Ix.{U, on_link}
 use Rattle.words.specs.Nodes.{word}
-use Rattle.words.specs.declared.interval.Bound.{Bound}
-use Rattle.words.specs.declared.interval.Bound.TheVariants.{Included, Excluded, Unbounded}
+use Rattle.std.specs.declared.ops.Bound.{Bound}
+use Rattle.std.specs.declared.ops.Bound.TheVariants.{Included, Excluded, Unbounded}
 use Rattle.stack.specs.States.{state_at_lem, put_state_lem, top, marked, pushed, popped}
 use Rattle.iter.specs.Cursors.{fresh, up_to}
 use Rattle.iter.specs.Walk.{deeper, mark, down, move, enters, hits, seek, step}
@@ -26,7 +26,7 @@ three = 5 ∷ 6 ∷ 0 ∷ 5 ∷ 6 ∷ U ∷ U ∷ 1 ∷ 7 ∷ 8 ∷ 0 ∷ 5 ∷ 
 abbrev equals3 : List ℕ
 equals3 = 5 ∷ 6 ∷ 0 ∷ 5 ∷ 6 ∷ U ∷ U ∷ 1 ∷ 5 ∷ 6 ∷ 0 ∷ 5 ∷ 6 ∷ 0 ∷ 2 ∷ U ∷ 5 ∷ 6 ∷ 0 ∷ 5 ∷ 6 ∷ U ∷ U ∷ 1 ∷ []
 
-abbrev range : Bound → Bound → Query
+abbrev range : Bound ℕ → Bound ℕ → Query
 range a b = Overlap (record { lo = a; hi = b })
 
 abbrev only : ℕ → ℕ → Query

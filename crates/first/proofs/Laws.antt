@@ -9,25 +9,25 @@ use borrow.Author.Tests.{lt-ltb, le-ltb}
 use Rattle.words.specs.Ix.{U, link_of}
 use Rattle.words.specs.Intervals.{passed, admits}
 use Rattle.words.specs.Nodes.{start, stop, hi, kid}
-use Rattle.words.specs.declared.interval.Bound.{Bound}
+use Rattle.std.specs.declared.ops.Bound.{Bound}
 use Rattle.words.specs.declared.interval.Span.{Span}
-use Rattle.words.specs.declared.ix.Link.{Link}
-use Rattle.words.specs.declared.ix.Link.TheVariants.{Slot, Nil}
+use Rattle.std.specs.declared.option.Option.{Option}
+use Rattle.std.specs.declared.option.Option.TheVariants.{Some, None}
 use Rattle.words.proofs.Laws.{linked, unlinked}
 use Rattle.first_rule.specs.First.{past, past_way, first_past_lem, first_met_lem, first_in}
 use Rattle.first_rule.proofs.Ways.{end_spent, end_gone, end_here, end_on}
 
-module _ (W : List ℕ) (n k : ℕ) (b : Bound) (l : Link) (e : l ≡ link_of n k) where
-  pub past_there : (r : Bool) (a h : ℕ) → l ≡ Slot a → h ≡ hi W a → r ≡ passed b h → r ≡ past (passed b) W n k
+module _ (W : List ℕ) (n k : ℕ) (b : Bound ℕ) (l : Option ℕ) (e : l ≡ link_of n k) where
+  pub past_there : (r : Bool) (a h : ℕ) → l ≡ Some a → h ≡ hi W a → r ≡ passed b h → r ≡ past (passed b) W n k
   unfolding past
   past_there r a h q i p = linked r n k a l (λ s. passed b (hi W s)) false e q (rw (← i) p)
 
-  pub past_gone : l ≡ Nil → false ≡ past (passed b) W n k
+  pub past_gone : l ≡ None → false ≡ past (passed b) W n k
   unfolding past
   past_gone q = unlinked false n k l (λ s. passed b (hi W s)) false e q refl
 
 -- the loop: `all` is the answer, which the way from the link k, with f nodes left to visit, has too
-module _ (W : List ℕ) (n : ℕ) (b : Bound) (all f k : ℕ) (e : all ≡ first_past_lem (passed b) W n f k) where
+module _ (W : List ℕ) (n : ℕ) (b : Bound ℕ) (all f k : ℕ) (e : all ≡ first_past_lem (passed b) W n f k) where
   pub past_spent : f ≤ 0 → U ≡ all
   unfolding first_past_lem
   past_spent h = sym (e ∙ end_spent (past_way (passed b) W n) W n f k h)
@@ -56,7 +56,7 @@ module _ (W : List ℕ) (n : ℕ) (b : Bound) (all f k : ℕ) (e : all ≡ first
           e ∙ end_on (past_way (passed b) W n) W n f k g (omega arith) h w (u ∙ ap (λ (s : Bool). kid W s k) (sym q ∙ left_is))
           (rw (← left_is, q, ← i, ← o) y)
 
-module _ (W : List ℕ) (n s : ℕ) (b : Bound) where
+module _ (W : List ℕ) (n s : ℕ) (b : Bound ℕ) where
   pub admitted_there : (r : Bool) (x : ℕ) → s < n → x ≡ start W s → r ≡ admits b x → r ≡ (ltb s n && admits b (start W s))
   admitted_there r x h e p = rw (lt-ltb s n h, ← e) p
 

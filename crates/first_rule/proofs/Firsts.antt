@@ -13,8 +13,8 @@ use Rattle.words.specs.Ix.{U, on_link}
 use Rattle.words.specs.Nodes.{start, stop, hi, kid, interval}
 use Rattle.words.specs.Intervals.{passed, admits, intersects}
 use Rattle.words.specs.Lists.{filter}
-use Rattle.words.specs.declared.interval.Bound.{Bound}
-use Rattle.words.specs.declared.interval.Bound.TheVariants.{Included, Excluded, Unbounded}
+use Rattle.std.specs.declared.ops.Bound.{Bound}
+use Rattle.std.specs.declared.ops.Bound.TheVariants.{Included, Excluded, Unbounded}
 use Rattle.words.specs.declared.interval.Span.{Span}
 use Rattle.words.proofs.Lists.{filter_append}
 use Rattle.tree.specs.Tree.{Tree, leaf, node, slots, occ, times, height, Shape}
@@ -142,7 +142,7 @@ module _ (p : ℕ → Bool) (up : (a b : ℕ) → a ≤ b → p b ≡ false → 
         (met_row (slots P.tree) P.rising (λ a o. slot_live W C n r P a (rw times_slots at o)))
 
 -- a bound that a lesser end goes past, a greater end goes past too
-passed_later : (x : Bound) (a b : ℕ) → a ≤ b → passed x b ≡ false → passed x a ≡ false
+passed_later : (x : Bound ℕ) (a b : ℕ) → a ≤ b → passed x b ≡ false → passed x a ≡ false
 passed_later (Included x) a b h e = le-ltb x a (omega (arith, ltb-false x b e))
 passed_later (Excluded x) a b h e = le-ltb x a (omega (arith, ltb-false x b e))
 passed_later Unbounded a b h e = e

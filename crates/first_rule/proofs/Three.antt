@@ -5,8 +5,8 @@ use mathlib.Core.List.{List, [], ◌∷◌}
 use Prim.Native.Nat.{ℕ}
 use Rattle.words.specs.Ix.{U, on_link}
 use Rattle.words.specs.Nodes.{word}
-use Rattle.words.specs.declared.interval.Bound.{Bound}
-use Rattle.words.specs.declared.interval.Bound.TheVariants.{Included, Excluded, Unbounded}
+use Rattle.std.specs.declared.ops.Bound.{Bound}
+use Rattle.std.specs.declared.ops.Bound.TheVariants.{Included, Excluded, Unbounded}
 use Rattle.first_rule.specs.Way.{way_end, way_nodes}
 use Rattle.first_rule.specs.First.{past, first_past_lem, first_met_lem, first_in, first_nodes}
 
@@ -14,10 +14,10 @@ abbrev pub three : List ℕ
 three = 0 ∷ 5 ∷ 0 ∷ 0 ∷ 5 ∷ U ∷ U ∷ 1 ∷ 5 ∷ 9 ∷ 0 ∷ 0 ∷ 12 ∷ 0 ∷ 2 ∷ U ∷ 9 ∷ 12 ∷ 0 ∷ 9 ∷ 12 ∷ U ∷ U ∷ 1 ∷ []
 
 -- the first entry that intersects the range, and the nodes on the way to it
-abbrev found : Bound → Bound → ℕ
+abbrev found : Bound ℕ → Bound ℕ → ℕ
 found a b = first_in (record { lo = a; hi = b }) three 3 1
 
-abbrev nodes : Bound → Bound → List ℕ
+abbrev nodes : Bound ℕ → Bound ℕ → List ℕ
 nodes a b = first_nodes (record { lo = a; hi = b }) three 3 1
 
 -- to unfold this name is to unfold all that its line names

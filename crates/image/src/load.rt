@@ -33,10 +33,8 @@ fn unpack(nodes: &mut [u64], narrow: bool, image: &[u8], count: u64)
     requires { HoldsIn narrow nodes.old count × Bodies image.now count × LinksFit narrow image.now count }
     ensures { as_eight narrow nodes.new ≡ unpacked image.now count count (as_eight narrow nodes.old) }
 {
-    let mut s: u64 = 0;
-    while s < count {
+    for s in 0..count {
         unpack_slot(nodes, narrow, image, count, s);
-        s += 1;
     }
 }
 
@@ -64,11 +62,9 @@ fn paint(colours: &mut [u8], image: &[u8], count: u64)
     requires { HoldsBits colours.old count × Bodies image.now count }
     ensures { colours.new ≡ painted image.now count count colours.old }
 {
-    let mut s: u64 = 0;
-    while s < count {
+    for s in 0..count {
         let red = red_in(image, count, s);
         put_bit(colours, s as usize, red);
-        s += 1;
     }
 }
 

@@ -59,11 +59,9 @@ fn put_entries(nodes: &[u64], narrow: bool, count: u64, out: &mut [u8])
     requires { HoldsIn narrow nodes.now count × (links_at_lem count ≤ length out.old) }
     ensures { out.new ≡ sets out.old 44 (entries (as_eight narrow nodes.now) count) }
 {
-    let mut s: u64 = 0;
-    while s < count {
+    for s in 0..count {
         let e = entry_of(nodes, narrow, s);
         put_entry(out, (44 + s * 24) as usize, e);
-        s += 1;
     }
 }
 
@@ -72,13 +70,11 @@ fn put_links(nodes: &[u64], narrow: bool, count: u64, out: &mut [u8])
     requires { HoldsIn narrow nodes.now count × (colours_at_lem count ≤ length out.old) }
     ensures { out.new ≡ sets out.old (links_at_lem count) (links (as_eight narrow nodes.now) count) }
 {
-    let mut s: u64 = 0;
-    while s < count {
+    for s in 0..count {
         let left = child_of(nodes, narrow, s, true);
         let right = child_of(nodes, narrow, s, false);
         let up = parent_of(nodes, narrow, s);
         put_three(out, (44 + count * 24 + s * 12) as usize, left, right, up);
-        s += 1;
     }
 }
 
@@ -87,11 +83,7 @@ fn put_whole_bytes(colours: &[u8], n: usize, out: &mut [u8], at: usize)
     requires { (n ≤ length colours.now) × (at + n ≤ length out.old) }
     ensures { out.new ≡ sets out.old at (take n colours.now) }
 {
-    let mut j = 0;
-    while j < n {
-        out[at + j] = colours[j];
-        j += 1;
-    }
+    out[at..at + n].copy_from_slice(&colours[..n]);
 }
 
 // Writes the colour bits that fill no whole byte, if there are any. The spare bits are written as

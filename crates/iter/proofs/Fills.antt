@@ -51,8 +51,8 @@ module _ (W : List ℕ) (n : ℕ) (Q : Rules) where
       unfolding drain
       at_limit = let u : l - i ≡ 0 = omega arith in s ∙ rw (u, append-nil, add-zero)
 
-      pub full_summary : ◌≡◌ {A = Drained} (record { hits = i; entered = e; next = c }) (summary D)
-      full_summary = summed D out old i e c at_limit (omega arith)
+      pub full_summary : ◌≡◌ {A = Drained} (record { hits = l; entered = e; next = c }) (summary D)
+      full_summary = let u : l ≡ i = omega arith in rw u (summed D out old i e c at_limit (omega arith))
 
       pub full_filled : drop i out ≡ drop i old → out ≡ filled D.slots old
       full_filled = filling D out old i e c at_limit (omega arith)

@@ -1,20 +1,19 @@
 -- What the code's tests and calls say of a rule, in the form that `search` takes.
 use mathlib.Core.Path.{◌≡◌, refl, sym, ap, ◌∙◌}
-use mathlib.Core.Bool.{Bool, true, false, cond, ◌&&◌, true≢false}
+use mathlib.Core.Bool.{Bool, true, false, cond, ◌&&◌, true≢false, false≢true}
 use mathlib.Core.List.{List}
-use Prim.Native.Nat.{ℕ, zero, suc, ◌+◌, ◌-◌, ◌*◌, ◌/◌, ◌^◌, ◌<◌, ◌≤◌}
+use Prim.Native.Nat.{ℕ, zero, suc, ◌-◌, ◌*◌, ◌/◌, ◌^◌, ◌<◌, ◌≤◌}
 use native.Mathlib.Omega.{arith}
-use lib.Dec.{eqb, ltb}
-use borrow.Author.Tests.{lt-ltb, le-ltb, ltb-true, eq-eqb, ne_eqb}
+use lib.Dec.{eqb, leb, ltb}
+use borrow.Author.Tests.{lt-ltb, le-ltb, ltb-true, leb-false, eq-eqb, ne_eqb}
 use Rattle.words.specs.Ix.{U, link_of, on_link}
 use Rattle.words.specs.Intervals.{reached, admits, intersects, le, eq, contains}
-use Rattle.words.specs.Layouts.{Held}
 use Rattle.words.specs.Nodes.{interval, kid}
-use Rattle.words.specs.declared.interval.Bound.{Bound}
+use Rattle.std.specs.declared.ops.Bound.{Bound}
 use Rattle.words.specs.declared.interval.Span.{Span}
 use Rattle.words.specs.declared.interval.Interval.{Interval}
-use Rattle.words.specs.declared.ix.Link.{Link}
-use Rattle.words.specs.declared.ix.Link.TheVariants.{Slot, Nil}
+use Rattle.std.specs.declared.option.Option.{Option}
+use Rattle.std.specs.declared.option.Option.TheVariants.{Some, None}
 use Rattle.words.proofs.Laws.{linked, unlinked}
 use Rattle.stack.specs.States.{top}
 use Rattle.stack.proofs.Levels.{four_two}
@@ -31,14 +30,23 @@ use Rattle.iter.specs.declared.rules.Query.{Query}
 use Rattle.iter.specs.declared.rules.Query.TheVariants.{Overlap, Ruled, Exact}
 
 -- a link that was read and taken apart
-pub child_there : {A : Type 0} (r : A) (n w k a : ℕ) (l : Link) (f : ℕ → A) (z : A) → w ≡ k → l ≡ link_of n w → l ≡ Slot a → r ≡ f a → r ≡ on_link n k f z
+pub child_there : {A : Type 0} (r : A) (n w k a : ℕ) (l : Option ℕ) (f : ℕ → A) (z : A) → w ≡ k → l ≡ link_of n w → l ≡ Some a → r ≡ f a → r ≡ on_link n k f z
 child_there r n w k a l f z i e q p = rw (← i) (linked r n w a l f z e q p)
 
-pub child_gone : {A : Type 0} (r : A) (n w k : ℕ) (l : Link) (f : ℕ → A) (z : A) → w ≡ k → l ≡ link_of n w → l ≡ Nil → r ≡ z → r ≡ on_link n k f z
+pub child_gone : {A : Type 0} (r : A) (n w k : ℕ) (l : Option ℕ) (f : ℕ → A) (z : A) → w ≡ k → l ≡ link_of n w → l ≡ None → r ≡ z → r ≡ on_link n k f z
 child_gone r n w k l f z i e q p = rw (← i) (unlinked r n w l f z e q p)
 
+-- a link that a test holds behind leads to a slot
+pub behind_live : (n k : ℕ) (f : ℕ → Bool) (r : Bool) → r ≡ on_link n k f false → r ≡ true → k < n
+unfolding on_link
+behind_live n k f r e t = go (leb n k) refl (sym e ∙ t)
+  where
+    go : (b : Bool) → leb n k ≡ b → cond b false (f k) ≡ true → k < n
+    go true i p = absurd (false≢true p)
+    go false i p = leb-false n k i
+
 -- a bound, and what was read
-module _ (r : Bool) (b : Bound) (h x : ℕ) (e : h ≡ x) where
+module _ (r : Bool) (b : Bound ℕ) (h x : ℕ) (e : h ≡ x) where
   pub reached_at : r ≡ reached b h → r ≡ reached b x
   reached_at p = rw (← e) p
 
@@ -103,8 +111,8 @@ module _ (W : List ℕ) (n : ℕ) (x : Interval) (f k S : ℕ) (s : S ≡ find W
     pub find_here : a ≡ true → k ≡ S
     find_here t = sym (turn ∙ rw t)
 
-    pub find_on : (w : ℕ) (b : Bool) → a ≡ false → b ≡ le x i → w ≡ kid W b k → S ≡ find W n x (f - 1) w
-    find_on w b t q l = turn ∙ rw (t, l, q)
+    pub find_on : (w g : ℕ) (b : Bool) → a ≡ false → b ≡ le x i → w ≡ kid W b k → g ≡ f - 1 → S ≡ find W n x g w
+    find_on w g b t q l j = turn ∙ rw (t, l, q, j)
 
 pub from_level_is : (x j : ℕ) → x / 2 ^ (2 * j) ≡ x / 4 ^ j
 from_level_is x j = rw (four_two j)
@@ -155,8 +163,8 @@ module _ (n k v u t : ℕ) (f : k < n → v ≡ u) where
 
 -- a live slot in a state, and its entry
 module _ (b t : Bool) (n k : ℕ) (e : t ≡ (ltb k n && b)) where
-  pub has_live : (narrow : Bool) (len : ℕ) → Held narrow n len → t ≡ true → Held narrow (k + 1) len
-  has_live narrow len h i = let l : k < n = ltb-true k n (and_left (ltb k n) b (sym e ∙ i)) in omega arith
+  pub is_live : t ≡ true → k < n
+  is_live i = ltb-true k n (and_left (ltb k n) b (sym e ∙ i))
 
 module _ (a b t m : Bool) (e : t ≡ (a && b)) where
   pub hit_on : (r : Bool) → t ≡ true → r ≡ m → r ≡ (a && (b && m))

@@ -180,8 +180,8 @@ module _ (W : List ℕ) (n : ℕ) (Q : Rules) (f e : ℕ) (c : Cursor) (S : Answ
     pub seek_hit : b ≡ true → hitting p.cursor e ≡ S
     seek_hit z = sym (turn ∙ rw z)
 
-    pub seek_on : (x : ℕ) → b ≡ false → x ≡ counts n p.cursor → S ≡ seek W n Q (f - 1) (e + x) p.cursor
-    seek_on x z y = turn ∙ rw (z, y)
+    pub seek_on : (x g : ℕ) → b ≡ false → x ≡ counts n p.cursor → g ≡ f - 1 → S ≡ seek W n Q g (e + x) p.cursor
+    seek_on x g z y j = turn ∙ rw (z, y, j)
 
 -- a step, by what is asked for: d is its cursor again, and e what its first state counts
 module _ (W : List ℕ) (n e : ℕ) (t : Tests) (c d : Cursor) (A : Answer) (i : d ≡ c) (j : e ≡ counts n d) where

@@ -9,8 +9,8 @@ use borrow.Author.Tests.{le-leb, le-ltb, lt-ltb, leb-true, leb-false}
 use Rattle.words.specs.Ix.{on_link}
 use Rattle.words.specs.Nodes.{start, lo, hi, kid, interval}
 use Rattle.words.specs.Intervals.{passed, reached, admits}
-use Rattle.words.specs.declared.interval.Bound.{Bound}
-use Rattle.words.specs.declared.interval.Bound.TheVariants.{Included, Excluded, Unbounded}
+use Rattle.std.specs.declared.ops.Bound.{Bound}
+use Rattle.std.specs.declared.ops.Bound.TheVariants.{Included, Excluded, Unbounded}
 use Rattle.words.specs.declared.interval.Interval.{Interval}
 use Rattle.words.specs.declared.interval.Span.{Span}
 use Rattle.words.specs.declared.node.Field.TheVariants.{Start, HullStart}
@@ -51,10 +51,10 @@ pub admits_start_lem : (x s : ℕ) (none : Bool) → (ltb s x || none) ≡ admit
 admits_start_lem x s true = or_true (ltb s x)
 admits_start_lem x s false = or_false (ltb s x)
 
-pub above_at : (x : ℕ) (b : Bound) → b ≡ Included x → leb last x ≡ is_above_lem b
+pub above_at : (x : ℕ) (b : Bound ℕ) → b ≡ Included x → leb last x ≡ is_above_lem b
 above_at x b e = rw e
 
-pub top_at : (x r : ℕ) (b : Bound) → b ≡ Included x → r ≡ after x → r ≡ top_of b
+pub top_at : (x r : ℕ) (b : Bound ℕ) → b ≡ Included x → r ≡ after x → r ≡ top_of b
 top_at x r b e p = rw e p
 
 pub tests_within : (q : Query) (x : Span) (l : Limits) → q ≡ Overlap x → l ≡ limits_of x x → Within l ≡ tests_of q
@@ -67,17 +67,17 @@ pub tests_equal : (q : Query) (x : Interval) → q ≡ Exact x → Equal x ≡ t
 tests_equal q x e = rw e
 
 -- the numbers of a bound say what the bound says
-reached_same : (b : Bound) (e : ℕ) → reached (lower (low_of b) (is_below_lem b)) e ≡ reached b e
+reached_same : (b : Bound ℕ) (e : ℕ) → reached (lower (low_of b) (is_below_lem b)) e ≡ reached b e
 reached_same (Included x) e = refl
 reached_same (Excluded x) e = refl
 reached_same Unbounded e = refl
 
-passed_same : (b : Bound) (e : ℕ) → passed (lower (low_of b) (is_below_lem b)) e ≡ passed b e
+passed_same : (b : Bound ℕ) (e : ℕ) → passed (lower (low_of b) (is_below_lem b)) e ≡ passed b e
 passed_same (Included x) e = refl
 passed_same (Excluded x) e = refl
 passed_same Unbounded e = refl
 
-admits_same : (b : Bound) (s : ℕ) → s ≤ last → admits (upper (top_of b) (is_above_lem b)) s ≡ admits b s
+admits_same : (b : Bound ℕ) (s : ℕ) → s ≤ last → admits (upper (top_of b) (is_above_lem b)) s ≡ admits b s
 admits_same (Included x) s h = go (leb last x) refl
   where
     next : (t : Bool) → leb s x ≡ t → ltb s (x + 1) ≡ t
@@ -120,7 +120,7 @@ module _ (W : List ℕ) (small : Small W) where
   rules_same n (Overlap q) = limited_same q q refl refl n
   rules_same n (Ruled k q) = limited_same q (by_rule_lem k q) refl (below (eqb k 2) q.lo) n
     where
-      below : (t : Bool) (b : Bound) → is_below_lem (cond t (whole_from_lem b) b) ≡ is_below_lem b
+      below : (t : Bool) (b : Bound ℕ) → is_below_lem (cond t (whole_from_lem b) b) ≡ is_below_lem b
       below true (Included x) = refl
       below true (Excluded x) = refl
       below true Unbounded = refl

@@ -4,7 +4,7 @@ use Rattle.std.specs.Prelude.{Bool, true, false, List, ℕ}
 use Rattle.words.specs.Ix.{on_link}
 use Rattle.words.specs.Nodes.{lo, hi, kid, interval}
 use Rattle.words.specs.Intervals.{reached, admits, intersects}
-use Rattle.words.specs.declared.interval.Bound.{Bound}
+use Rattle.std.specs.declared.ops.Bound.{Bound}
 use Rattle.words.specs.declared.interval.Span.{Span}
 use Rattle.iter.specs.Ranges.{by_rule_lem}
 use Rattle.iter.specs.Walk.{Rules}
@@ -14,11 +14,11 @@ unfoldable pub meets : (words : List ℕ) (range : Span) (slot : ℕ) → Bool
 meets W q s = intersects q (interval W s)
 
 -- `should_go_left`: "if the child's hull end >= lo .. or lo is Unbounded"
-abbrev pub should_go_left_lem : (words : List ℕ) (count : ℕ) (bound : Bound) (slot : ℕ) → Bool
+abbrev pub should_go_left_lem : (words : List ℕ) (count : ℕ) (bound : Bound ℕ) (slot : ℕ) → Bool
 should_go_left_lem W n b s = on_link n (kid W true s) (λ a. reached b (hi W a)) false
 
 -- `should_go_right`: "if its hull start is <= hi, < hi, or hi is Unbounded, in that order of kinds"
-abbrev pub should_go_right_lem : (words : List ℕ) (count : ℕ) (bound : Bound) (slot : ℕ) → Bool
+abbrev pub should_go_right_lem : (words : List ℕ) (count : ℕ) (bound : Bound ℕ) (slot : ℕ) → Bool
 should_go_right_lem W n b s = on_link n (kid W false s) (λ a. admits b (lo W a)) false
 
 -- at `true` the left side

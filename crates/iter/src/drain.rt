@@ -39,9 +39,8 @@ impl Cursor {
             ≡ filled (drain (as_eight narrow nodes.now) count (tested (as_eight narrow nodes.now) count tests) limit self).slots out.old) }
     {
         let mut cursor = self;
-        let mut hits: u64 = 0;
         let mut entered: u64 = 0;
-        while hits < limit {
+        for hits in 0..limit {
             let step = cursor.step(nodes, narrow, count, tests);
             entered += step.entered();
             let Step::Hit(next, _) = step else {
@@ -53,10 +52,9 @@ impl Cursor {
             };
             out[hits as usize] = next.slot;
             cursor = next;
-            hits += 1;
         }
         Drained {
-            hits,
+            hits: limit,
             entered,
             next: cursor,
         }

@@ -3,7 +3,6 @@
 #![tactic(auto)]
 
 pub mod drain;
-pub mod exact;
 pub mod forms;
 pub mod limits;
 pub mod ranges;

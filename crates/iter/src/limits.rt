@@ -19,7 +19,7 @@ pub struct Limits {
     pub above: bool,
 }
 
-fn low_of(lo: Bound) -> u64
+fn low_of(lo: Bound<u64>) -> u64
     ensures { result ≡ low_of lo }
 {
     match lo {
@@ -29,7 +29,7 @@ fn low_of(lo: Bound) -> u64
     }
 }
 
-fn is_below(lo: Bound) -> bool
+fn is_below(lo: Bound<u64>) -> bool
     ensures { result ≡ is_below_lem lo }
 {
     match lo {
@@ -39,7 +39,7 @@ fn is_below(lo: Bound) -> bool
     }
 }
 
-fn top_of(hi: Bound) -> u64
+fn top_of(hi: Bound<u64>) -> u64
     ensures { result ≡ top_of hi }
 {
     match hi {
@@ -50,7 +50,7 @@ fn top_of(hi: Bound) -> u64
 }
 
 // An upper bound that includes the greatest number admits everything.
-fn is_above(hi: Bound) -> bool
+fn is_above(hi: Bound<u64>) -> bool
     ensures { result ≡ is_above_lem hi }
 {
     match hi {

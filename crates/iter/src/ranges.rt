@@ -5,7 +5,7 @@ ghost use Rattle.std.specs.Prelude.{◌≡◌, false, cond, ◌&&◌, ◌+◌, l
 ghost use Rattle.words.specs.Intervals.{admits};
 ghost use Rattle.iter.specs.Ranges.{last, after, whole_from_lem, by_rule_lem, any_whole};
 
-use words::interval::{Bound, Span};
+use words::interval::{Bound, Span, admits_start};
 
 // The greatest number.
 pub(crate) const LAST: u64 = 18446744073709551615;
@@ -18,7 +18,7 @@ pub(crate) fn number_after(x: u64) -> u64
 }
 
 // Returns a lower bound by its first whole address.
-fn whole_from(lo: Bound) -> Bound
+fn whole_from(lo: Bound<u64>) -> Bound<u64>
     ensures { result ≡ whole_from_lem lo }
 {
     match lo {
@@ -45,25 +45,25 @@ pub fn by_rule(rule: u64, range: Span) -> Span
 }
 
 // Whether an upper bound admits an address. Every number of 64 bits is one.
-fn admits_address(hi: Bound, x: u64) -> bool
+fn admits_address(hi: Bound<u64>, x: u64) -> bool
     ensures { result ≡ (leb x last && admits hi x) }
 {
-    hi.admits_start(x)
+    admits_start(hi, x)
 }
 
 // Whether an upper bound admits the next number.
-fn admits_after(hi: Bound, x: u64) -> bool
+fn admits_after(hi: Bound<u64>, x: u64) -> bool
     ensures { result ≡ cond (ltb x last) (admits hi (x + 1)) false }
 {
     if x < LAST {
-        hi.admits_start(x + 1)
+        admits_start(hi, x + 1)
     } else {
         false
     }
 }
 
 // Whether some whole address lies in the range from `lo` to `hi`.
-pub fn holds_whole(lo: Bound, hi: Bound) -> bool
+pub fn holds_whole(lo: Bound<u64>, hi: Bound<u64>) -> bool
     ensures { result ≡ any_whole lo hi }
 {
     match lo {

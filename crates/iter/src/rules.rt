@@ -1,15 +1,17 @@
 // The rules of a walk: which children it visits, and which entries it looks for.
-ghost use Rattle.std.specs.Prelude.{◌≡◌, true, false, ◌<◌};
+ghost use Rattle.std.specs.Prelude.{◌≡◌, true, false, List, ℕ, ◌<◌};
 ghost use Rattle.words.specs.Layouts.{as_eight, HoldsIn, HasIn};
-ghost use Rattle.iter.specs.Overlap.{should_go_left_lem, should_go_right_lem, should_go, meets};
-ghost use Rattle.iter.specs.Exact.{should_go_exact, equals, find_from};
-ghost use Rattle.iter.specs.Limits.{span_of, entries_of, tests_of};
+ghost use Rattle.words.specs.Nodes.{kid};
+ghost use Rattle.iter.specs.Walk.{Rules};
+ghost use Rattle.iter.specs.Overlap.{should_go_left_lem, should_go_right_lem};
+ghost use Rattle.iter.specs.Exact.{should_go_exact, exact, find_from};
+ghost use Rattle.iter.specs.Limits.{span_of, tests_of, limited};
 ghost use Rattle.iter.specs.Queries.{rules};
 
 use crate::limits::Limits;
 use crate::ranges::by_rule;
 use words::interval::{Interval, Span};
-use words::ix::{Link, U};
+use words::ix::{U, slot_at};
 use words::node::{child_of, end_of, hull_at, hull_end_of, hull_start_of, interval_of, start_of};
 
 // What is looked for: the entries that intersect a range by rule 1, those that intersect it by the
@@ -29,6 +31,24 @@ pub enum Tests {
     Equal(Interval),
 }
 
+// What a walk goes by. A function that walks is generic over this, so it is compiled once for each
+// kind of lookup, and no kind is asked for on the way.
+pub trait Lookup: Copy {
+    ghost rules: { Self → List ℕ → ℕ → Rules };
+
+    // Whether the walk goes to the left child of the slot `index`, or to the right one if
+    // `left_side` is false.
+    fn goes(self, nodes: &[u64], narrow: bool, count: u64, index: u64, left_side: bool) -> bool
+        requires { HoldsIn narrow nodes.now count × (index < count) }
+        ensures { (result ≡ (rules self (as_eight narrow nodes.now) count).go left_side index)
+            × (result ≡ true → kid (as_eight narrow nodes.now) left_side index < count) };
+
+    // Whether the entry of the slot `index` is looked for.
+    fn seeks(self, nodes: &[u64], narrow: bool, count: u64, index: u64) -> bool
+        requires { HasIn narrow nodes.now index }
+        ensures { result ≡ (rules self (as_eight narrow nodes.now) count).match index };
+}
+
 impl Tests {
     pub fn new(query: Query) -> Tests
         ensures { result ≡ tests_of query }
@@ -46,7 +66,7 @@ fn should_go_left(nodes: &[u64], narrow: bool, count: u64, index: u64, limits: L
     requires { HoldsIn narrow nodes.now count × (index < count) }
     ensures { result ≡ should_go_left_lem (as_eight narrow nodes.now) count (span_of limits).lo index }
 {
-    let Link::Slot(left) = Link::new(child_of(nodes, narrow, index, true), count) else {
+    let Some(left) = slot_at(child_of(nodes, narrow, index, true), count) else {
         return false;
     };
     limits.reached_by(hull_end_of(nodes, narrow, left))
@@ -57,7 +77,7 @@ fn should_go_right(nodes: &[u64], narrow: bool, count: u64, index: u64, limits: 
     requires { HoldsIn narrow nodes.now count × (index < count) }
     ensures { result ≡ should_go_right_lem (as_eight narrow nodes.now) count (span_of limits).hi index }
 {
-    let Link::Slot(right) = Link::new(child_of(nodes, narrow, index, false), count) else {
+    let Some(right) = slot_at(child_of(nodes, narrow, index, false), count) else {
         return false;
     };
     limits.admits_start(hull_start_of(nodes, narrow, right))
@@ -73,10 +93,10 @@ fn should_go_left_exact(
     requires { HoldsIn narrow nodes.now count × (index < count) }
     ensures { result ≡ should_go_exact (as_eight narrow nodes.now) count query true index }
 {
-    let Link::Slot(left) = Link::new(child_of(nodes, narrow, index, true), count) else {
+    let Some(left) = slot_at(child_of(nodes, narrow, index, true), count) else {
         return false;
     };
-    query.le(interval_of(nodes, narrow, index)) & hull_at(nodes, narrow, left).contains(query)
+    (query <= interval_of(nodes, narrow, index)) & hull_at(nodes, narrow, left).contains(query)
 }
 
 fn should_go_right_exact(
@@ -89,64 +109,43 @@ fn should_go_right_exact(
     requires { HoldsIn narrow nodes.now count × (index < count) }
     ensures { result ≡ should_go_exact (as_eight narrow nodes.now) count query false index }
 {
-    let Link::Slot(right) = Link::new(child_of(nodes, narrow, index, false), count) else {
+    let Some(right) = slot_at(child_of(nodes, narrow, index, false), count) else {
         return false;
     };
-    interval_of(nodes, narrow, index).le(query) & hull_at(nodes, narrow, right).contains(query)
+    (interval_of(nodes, narrow, index) <= query) & hull_at(nodes, narrow, right).contains(query)
 }
 
-// Whether the walk goes to the left child of the slot `index`, or to the right one if `left_side`
-// is false.
-pub fn goes_overlap(
-    nodes: &[u64],
-    narrow: bool,
-    count: u64,
-    limits: Limits,
-    index: u64,
-    left_side: bool,
-) -> bool
-    requires { HoldsIn narrow nodes.now count × (index < count) }
-    ensures { result ≡ should_go (as_eight narrow nodes.now) count (span_of limits) left_side index }
-{
-    if left_side {
-        should_go_left(nodes, narrow, count, index, limits)
-    } else {
-        should_go_right(nodes, narrow, count, index, limits)
+impl Lookup for Limits {
+    ghost rules = { λ limits words count. limited words count limits };
+
+    fn goes(self, nodes: &[u64], narrow: bool, count: u64, index: u64, left_side: bool) -> bool {
+        if left_side {
+            should_go_left(nodes, narrow, count, index, self)
+        } else {
+            should_go_right(nodes, narrow, count, index, self)
+        }
+    }
+
+    fn seeks(self, nodes: &[u64], narrow: bool, _count: u64, index: u64) -> bool {
+        self.passed_by(end_of(nodes, narrow, index))
+            & self.admits_start(start_of(nodes, narrow, index))
     }
 }
 
-pub fn goes_exact(
-    nodes: &[u64],
-    narrow: bool,
-    count: u64,
-    query: Interval,
-    index: u64,
-    left_side: bool,
-) -> bool
-    requires { HoldsIn narrow nodes.now count × (index < count) }
-    ensures { result ≡ should_go_exact (as_eight narrow nodes.now) count query left_side index }
-{
-    if left_side {
-        should_go_left_exact(nodes, narrow, count, index, query)
-    } else {
-        should_go_right_exact(nodes, narrow, count, index, query)
+impl Lookup for Interval {
+    ghost rules = { λ query words count. exact words count query };
+
+    fn goes(self, nodes: &[u64], narrow: bool, count: u64, index: u64, left_side: bool) -> bool {
+        if left_side {
+            should_go_left_exact(nodes, narrow, count, index, self)
+        } else {
+            should_go_right_exact(nodes, narrow, count, index, self)
+        }
     }
-}
 
-// Whether the entry of the slot `index` is looked for.
-pub fn is_within(nodes: &[u64], narrow: bool, limits: Limits, index: u64) -> bool
-    requires { HasIn narrow nodes.now index }
-    ensures { result ≡ meets (as_eight narrow nodes.now) (entries_of limits) index }
-{
-    limits.passed_by(end_of(nodes, narrow, index))
-        & limits.admits_start(start_of(nodes, narrow, index))
-}
-
-pub fn is_equal(nodes: &[u64], narrow: bool, query: Interval, index: u64) -> bool
-    requires { HasIn narrow nodes.now index }
-    ensures { result ≡ equals (as_eight narrow nodes.now) query index }
-{
-    interval_of(nodes, narrow, index).eq(query)
+    fn seeks(self, nodes: &[u64], narrow: bool, _count: u64, index: u64) -> bool {
+        interval_of(nodes, narrow, index) == self
+    }
 }
 
 // The same by a query.
@@ -158,7 +157,7 @@ pub fn matches(nodes: &[u64], narrow: bool, count: u64, query: Query, index: u64
     match query {
         Query::Overlap(range) => own.intersects_range(range),
         Query::Ruled(rule, range) => own.intersects_range(by_rule(rule, range)),
-        Query::Exact(x) => own.eq(x),
+        Query::Exact(x) => own == x,
     }
 }
 
@@ -169,17 +168,15 @@ pub fn find_index(nodes: &[u64], narrow: bool, count: u64, query: Interval, root
     ensures { result ≡ find_from (as_eight narrow nodes.now) count query root }
 {
     let mut at = root;
-    let mut height: u64 = 32;
-    while height > 0 {
+    for _ in 0..32u64 {
         if count <= at {
             return U;
         }
         let own = interval_of(nodes, narrow, at);
-        if own.eq(query) {
+        if own == query {
             return at;
         }
-        at = child_of(nodes, narrow, at, query.le(own));
-        height -= 1;
+        at = child_of(nodes, narrow, at, query <= own);
     }
     U
 }

@@ -2,13 +2,12 @@
 ghost use Rattle.std.specs.Prelude.{◌≡◌, ◌*◌, ◌≤◌, ltb};
 ghost use Rattle.words.specs.Layouts.{as_eight, HoldsIn};
 ghost use Rattle.iter.specs.Walk.{seek, step, fuel};
-ghost use Rattle.iter.specs.Limits.{limited, tested};
+ghost use Rattle.iter.specs.Limits.{tested};
 ghost use Rattle.iter.specs.Places.{Placed, Known};
 ghost use Rattle.iter.specs.Answers.{answer, is_hit_lem};
 
 use crate::Cursor;
-use crate::limits::Limits;
-use crate::rules::Tests;
+use crate::rules::{Lookup, Tests};
 use crate::walk::Place;
 
 // What a step returns: a hit with its cursor, which is also the next one, or the end. Both come
@@ -33,33 +32,31 @@ impl Step {
 
 impl Place {
     // Moves until a hit or the end. `before` is how many nodes were entered so far.
-    fn move_to_next(
+    fn move_to_next<T: Lookup>(
         self,
         nodes: &[u64],
         narrow: bool,
         count: u64,
-        limits: Limits,
+        lookup: T,
         before: u64,
     ) -> Step
         requires { HoldsIn narrow nodes.now count × (count ≤ 65535) × Placed count self.cursor × Known count self × (before ≤ 1) }
-        ensures { (answer result ≡ seek (as_eight narrow nodes.now) count (limited (as_eight narrow nodes.now) count limits) (fuel count) before self.cursor)
+        ensures { (answer result ≡ seek (as_eight narrow nodes.now) count (T.rules lookup (as_eight narrow nodes.now) count) (fuel count) before self.cursor)
             × (is_hit_lem result ≡ ltb (answer result).slot count) }
     {
         let mut place = self;
         let mut entered = before;
-        let mut moves = count * 4 + 1;
-        while moves > 0 {
+        for _ in 0..count * 4 + 1 {
             if count <= place.cursor.slot {
                 return Step::End(entered);
             }
-            let next = place.walk(nodes, narrow, count, limits);
-            if next.is_hit(nodes, narrow, count, limits) {
+            let next = place.walk(nodes, narrow, count, lookup);
+            if next.is_hit(nodes, narrow, count, lookup) {
                 let hit = next.cursor;
                 return Step::Hit(hit, entered);
             }
             entered += next.counted(count);
             place = next;
-            moves -= 1;
         }
         Step::End(entered)
     }
@@ -75,7 +72,7 @@ impl Cursor {
         let before = place.counted(count);
         match tests {
             Tests::Within(limits) => place.move_to_next(nodes, narrow, count, limits, before),
-            Tests::Equal(x) => place.move_to_next_exact(nodes, narrow, count, x, before),
+            Tests::Equal(x) => place.move_to_next(nodes, narrow, count, x, before),
         }
     }
 }

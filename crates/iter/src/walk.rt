@@ -8,12 +8,10 @@ ghost use Rattle.words.specs.Nodes.{par};
 ghost use Rattle.stack.specs.States.{was_left, top};
 ghost use Rattle.iter.specs.Cursors.{stack_of, up_to};
 ghost use Rattle.iter.specs.Walk.{side, mark, down, deeper, move, hits, counts};
-ghost use Rattle.iter.specs.Limits.{limited};
 ghost use Rattle.iter.specs.Places.{Levelled, Placed, Known, at};
 
 use crate::Cursor;
-use crate::limits::Limits;
-use crate::rules::{goes_overlap, is_within};
+use crate::rules::Lookup;
 use stack::{ENTERED, RETURNED, WAS_LEFT, WAS_RIGHT, change_state, state_at};
 use words::ix::U;
 use words::node::{child_of, parent_of};
@@ -139,37 +137,37 @@ impl Cursor {
 
     // Whether the walk goes down on a side: the stack has room for one more level, and the rules
     // say so.
-    fn goes_down(
+    fn goes_down<T: Lookup>(
         self,
         nodes: &[u64],
         narrow: bool,
         count: u64,
-        limits: Limits,
+        lookup: T,
         left_side: bool,
     ) -> bool
         requires { HoldsIn narrow nodes.now count × (self.slot < count) }
-        ensures { result ≡ deeper (limited (as_eight narrow nodes.now) count limits) left_side self }
+        ensures { result ≡ deeper (T.rules lookup (as_eight narrow nodes.now) count) left_side self }
     {
-        (self.levels < 32) & goes_overlap(nodes, narrow, count, limits, self.slot, left_side)
+        (self.levels < 32) & lookup.goes(nodes, narrow, count, self.slot, left_side)
     }
 }
 
 impl Place {
-    // Makes one move of an overlap lookup.
-    pub fn walk(self, nodes: &[u64], narrow: bool, count: u64, limits: Limits) -> Place
+    // Makes one move.
+    pub fn walk<T: Lookup>(self, nodes: &[u64], narrow: bool, count: u64, lookup: T) -> Place
         requires { HoldsIn narrow nodes.now count × (self.cursor.slot < count) × Levelled self.cursor × (self.state ≡ top (stack_of self.cursor)) }
-        ensures { result ≡ at (move (as_eight narrow nodes.now) (limited (as_eight narrow nodes.now) count limits) self.cursor) }
+        ensures { result ≡ at (move (as_eight narrow nodes.now) (T.rules lookup (as_eight narrow nodes.now) count) self.cursor) }
     {
         let cursor = self.cursor;
         if self.state == ENTERED {
-            let goes = cursor.goes_down(nodes, narrow, count, limits, true);
+            let goes = cursor.goes_down(nodes, narrow, count, lookup, true);
             return cursor.left_or_mark(nodes, narrow, goes);
         }
         if self.state == WAS_LEFT {
             return cursor.mark(WAS_LEFT, RETURNED);
         }
         if self.state == RETURNED {
-            let goes = cursor.goes_down(nodes, narrow, count, limits, false);
+            let goes = cursor.goes_down(nodes, narrow, count, lookup, false);
             return cursor.right_or_up(nodes, narrow, goes);
         }
         cursor.up(nodes, narrow, self.state)
@@ -196,12 +194,12 @@ impl Place {
     }
 
     // Whether a live node is on top in state 10, and its entry is looked for.
-    pub fn is_hit(self, nodes: &[u64], narrow: bool, count: u64, limits: Limits) -> bool
+    pub fn is_hit<T: Lookup>(self, nodes: &[u64], narrow: bool, count: u64, lookup: T) -> bool
         requires { HoldsIn narrow nodes.now count × Known count self }
-        ensures { result ≡ hits count (limited (as_eight narrow nodes.now) count limits) self.cursor }
+        ensures { result ≡ hits count (T.rules lookup (as_eight narrow nodes.now) count) self.cursor }
     {
         if self.is_in(count, RETURNED) {
-            is_within(nodes, narrow, limits, self.cursor.slot)
+            lookup.seeks(nodes, narrow, count, self.cursor.slot)
         } else {
             false
         }

@@ -2,18 +2,18 @@
 -- lies in both".
 -- Letters: q range, x interval asked for, a address or child of s
 use Rattle.std.specs.Prelude.{ℕ, ◌<◌, ◌≤◌}
-use Rattle.words.specs.declared.interval.Bound.{Bound}
-use Rattle.words.specs.declared.interval.Bound.TheVariants.{Included, Excluded, Unbounded}
+use Rattle.std.specs.declared.ops.Bound.{Bound}
+use Rattle.std.specs.declared.ops.Bound.TheVariants.{Included, Excluded, Unbounded}
 use Rattle.words.specs.declared.interval.Span.{Span}
 use Rattle.words.specs.declared.interval.Interval.{Interval}
 
 -- an address is on the right side of a lower bound, of an upper bound
-abbrev pub From : (bound : Bound) (address : ℕ) → Type 0
+abbrev pub From : (bound : Bound ℕ) (address : ℕ) → Type 0
 From (Included x) a = x ≤ a
 From (Excluded x) a = x < a
 From Unbounded a = Unit {0}
 
-abbrev pub UpTo : (bound : Bound) (address : ℕ) → Type 0
+abbrev pub UpTo : (bound : Bound ℕ) (address : ℕ) → Type 0
 UpTo (Included x) a = a ≤ x
 UpTo (Excluded x) a = a < x
 UpTo Unbounded a = Unit {0}

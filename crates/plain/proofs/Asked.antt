@@ -5,8 +5,8 @@ use mathlib.Core.List.{List}
 use Prim.Native.Nat.{ℕ}
 use Rattle.words.specs.Intervals.{passed, admits}
 use Rattle.words.specs.Nodes.{interval}
-use Rattle.words.specs.declared.interval.Bound.{Bound}
-use Rattle.words.specs.declared.interval.Bound.TheVariants.{Included, Excluded, Unbounded}
+use Rattle.std.specs.declared.ops.Bound.{Bound}
+use Rattle.std.specs.declared.ops.Bound.TheVariants.{Included, Excluded, Unbounded}
 use Rattle.words.specs.declared.interval.Span.{Span}
 use Rattle.words.specs.declared.interval.Interval.{Interval}
 use lib.Dec.{eqb}
@@ -35,7 +35,7 @@ unfolding asks_all
 all_exact Q x e = rw e
 
 -- it asks for each entry
-meets_all : (lo hi : Bound) (s e : ℕ) → unbounded lo && unbounded hi ≡ true → true ≡ passed lo e && admits hi s
+meets_all : (lo hi : Bound ℕ) (s e : ℕ) → unbounded lo && unbounded hi ≡ true → true ≡ passed lo e && admits hi s
 meets_all Unbounded Unbounded s e h = refl
 meets_all Unbounded (Included x) s e h = absurd (false≢true h)
 meets_all Unbounded (Excluded x) s e h = absurd (false≢true h)
@@ -47,7 +47,7 @@ unfolding asks_all rules meets
 match_all W n s (Overlap q) h = meets_all q.lo q.hi (interval W s).start (interval W s).end h
 match_all W n s (Ruled k q) h = go (eqb k 2) q.lo h
   where
-    go : (t : Bool) (b : Bound) → unbounded b && unbounded q.hi ≡ true → true ≡ passed (cond t (whole_from_lem b) b) (interval W s).end && admits q.hi (interval W s).start
+    go : (t : Bool) (b : Bound ℕ) → unbounded b && unbounded q.hi ≡ true → true ≡ passed (cond t (whole_from_lem b) b) (interval W s).end && admits q.hi (interval W s).start
     go true Unbounded i = meets_all Unbounded q.hi (interval W s).start (interval W s).end i
     go true (Included x) i = absurd (false≢true i)
     go true (Excluded x) i = absurd (false≢true i)

@@ -13,8 +13,8 @@ use borrow.Author.Tests.{eq-eqb, ne_eqb}
 use Rattle.words.specs.Ix.{U, link_of, on_link}
 use Rattle.words.specs.Nodes.{kid, par}
 use Rattle.words.specs.Lists.{filter}
-use Rattle.words.specs.declared.ix.Link.{Link}
-use Rattle.words.specs.declared.ix.Link.TheVariants.{Slot, Nil}
+use Rattle.std.specs.declared.option.Option.{Option}
+use Rattle.std.specs.declared.option.Option.TheVariants.{Some, None}
 use Rattle.tree_edit.specs.Links.{leftmost}
 use Rattle.tree_links.proofs.LinkLaws.{read_linked, read_unlinked, slot_is, left_low, left_ends, left_on}
 use Rattle.iter.specs.Drains.{filled}
@@ -30,16 +30,16 @@ module _ (n : ℕ) (W : List ℕ) (s : ℕ) where
   up_low zero e = refl
   up_low (suc h) e = absurd (omega arith)
 
-  module _ (h w : ℕ) (l : Link) (z : h ≡ 0 → ⊥) (e : w ≡ par W s) (p : l ≡ link_of n w) where
+  module _ (h w : ℕ) (l : Option ℕ) (z : h ≡ 0 → ⊥) (e : w ≡ par W s) (p : l ≡ link_of n w) where
     go_up : (h : ℕ) → (h ≡ 0 → ⊥) → (r : ℕ) → r ≡ on_link n (par W s) (λ q. cond (eqb (kid W true q) s) q (ascend n (h - 1) W (par W s))) U → r ≡ ascend n h W s
     unfolding ascend
     go_up zero z r q = absurd (z refl)
     go_up (suc h) z r q = rw (sub-one (suc h)) at q
 
-    up_none : l ≡ Nil → U ≡ ascend n h W s
+    up_none : l ≡ None → U ≡ ascend n h W s
     up_none q = go_up h z U (read_unlinked U n (par W s) w l (λ (k : ℕ). cond (eqb (kid W true k) s) k (ascend n (h - 1) W (par W s))) U e p q refl)
 
-    module _ (k t : ℕ) (q : l ≡ Slot k) (f : t ≡ kid W true k) where
+    module _ (k t : ℕ) (q : l ≡ Some k) (f : t ≡ kid W true k) where
       up_here : t ≡ s → k ≡ ascend n h W s
       up_here g =
           go_up h z k (read_linked k n (par W s) w l (λ (k : ℕ). cond (eqb (kid W true k) s) k (ascend n (h - 1) W (par W s))) U e p k q
@@ -56,28 +56,28 @@ module _ (n : ℕ) (W : List ℕ) (X h s : ℕ) (i : X ≡ ascend n h W s) where
   pub above_ends : h ≤ 0 → U ≡ X
   above_ends z = up_low n W s h (omega arith) ∙ sym i
 
-  module _ (w : ℕ) (l : Link) (e : w ≡ par W s) (p : l ≡ link_of n w) (z : 0 < h) where
-    pub above_stops : l ≡ Nil → U ≡ X
+  module _ (w : ℕ) (l : Option ℕ) (e : w ≡ par W s) (p : l ≡ link_of n w) (z : 0 < h) where
+    pub above_stops : l ≡ None → U ≡ X
     above_stops q = up_none n W s h w l (λ y. omega arith) e p q ∙ sym i
 
-    module _ (k t : ℕ) (q : l ≡ Slot k) (f : t ≡ kid W true k) where
+    module _ (k t : ℕ) (q : l ≡ Some k) (f : t ≡ kid W true k) where
       pub above_here : t ≡ s → k ≡ X
       above_here g = up_here n W s h w l (λ y. omega arith) e p k t q f g ∙ sym i
 
-      pub above_on : (t ≡ s → ⊥) → X ≡ ascend n (h - 1) W k
-      above_on g = i ∙ sym (up_on n W s h w l (λ y. omega arith) e p k t q f (ascend n (h - 1) W k) g refl)
+      pub above_on : (m : ℕ) → (t ≡ s → ⊥) → m ≡ h - 1 → X ≡ ascend n m W k
+      above_on m g j = i ∙ sym (up_on n W s h w l (λ y. omega arith) e p k t q f (ascend n m W k) g (rw j))
 
 -- the way down to the left: X is where it ends
 module _ (n : ℕ) (W : List ℕ) (X h s : ℕ) (i : X ≡ leftmost n h W s) where
   pub down_ends : h ≤ 0 → s ≡ X
   down_ends z = left_low n W s h (omega arith) ∙ sym i
 
-  module _ (w : ℕ) (l : Link) (e : w ≡ kid W true s) (p : l ≡ link_of n w) where
-    pub down_stops : l ≡ Nil → s ≡ X
+  module _ (w : ℕ) (l : Option ℕ) (e : w ≡ kid W true s) (p : l ≡ link_of n w) where
+    pub down_stops : l ≡ None → s ≡ X
     down_stops q = left_ends n W s h w l e p q ∙ sym i
 
-    pub down_on : (k : ℕ) → l ≡ Slot k → 0 < h → X ≡ leftmost n (h - 1) W k
-    down_on k q z = i ∙ sym (left_on n W s h w k (leftmost n (h - 1) W k) l (λ y. omega arith) e p q refl)
+    pub down_on : (k m : ℕ) → l ≡ Some k → 0 < h → m ≡ h - 1 → X ≡ leftmost n m W k
+    down_on k m q z j = i ∙ sym (left_on n W s h w k (leftmost n m W k) l (λ y. omega arith) e p q (rw j))
 
 -- the tour after m entries
 module _ (W : List ℕ) (n : ℕ) where
@@ -89,8 +89,8 @@ module _ (W : List ℕ) (n : ℕ) where
   tour_step zero k h = absurd (omega arith)
   tour_step (suc f) k h = rw (sub-one (suc f))
 
-  module _ (k m : ℕ) (l : Link) (p : l ≡ link_of n k) where
-    none : l ≡ Nil → rest (n - m) k ≡ []
+  module _ (k m : ℕ) (l : Option ℕ) (p : l ≡ link_of n k) where
+    none : l ≡ None → rest (n - m) k ≡ []
     unfolding tour
     none q = go (n - m)
       where
@@ -98,7 +98,7 @@ module _ (W : List ℕ) (n : ℕ) where
         go zero = refl
         go (suc f) = sym (read_unlinked [] n k k l (λ (s : ℕ). k ∷ rest f (next_of n W k)) [] refl p q refl)
 
-    some : (s : ℕ) → l ≡ Slot s → m < n → rest (n - m) k ≡ s ∷ rest (n - (m + 1)) (next_of n W s)
+    some : (s : ℕ) → l ≡ Some s → m < n → rest (n - m) k ≡ s ∷ rest (n - (m + 1)) (next_of n W s)
     some s q h =
         let i : s ≡ k = slot_is n k s l p q in
         let j : n - m - 1 ≡ n - (m + 1) = omega arith in
@@ -112,18 +112,18 @@ module _ (W : List ℕ) (n : ℕ) where
   count_begin r k e = rw (sub-zero, ← e) (omega arith)
 
   module _ (k m E : ℕ) (e : E ≡ m + length (rest (n - m) k)) where
-    pub count_on : (l : Link) (s u : ℕ) → l ≡ link_of n k → l ≡ Slot s → m < n → u ≡ next_of n W s → E ≡ m + 1 + length (rest (n - (m + 1)) u)
+    pub count_on : (l : Option ℕ) (s u : ℕ) → l ≡ link_of n k → l ≡ Some s → m < n → u ≡ next_of n W s → E ≡ m + 1 + length (rest (n - (m + 1)) u)
     count_on l s u p q h x =
         rw x
         (let y : length (rest (n - m) k) ≡ suc (length (rest (n - (m + 1)) (next_of n W s))) = ap (λ (t : List ℕ). length t) (some k m l p s q h) in
         omega arith)
 
-    pub count_none : (l : Link) → l ≡ link_of n k → l ≡ Nil → m ≡ E
+    pub count_none : (l : Option ℕ) → l ≡ link_of n k → l ≡ None → m ≡ E
     count_none l p q = let y : length (rest (n - m) k) ≡ 0 = rw (none k m l p q) in omega arith
 
-    pub count_full : n ≤ m → m ≡ E
+    pub count_full : n ≤ m → m ≤ n → n ≡ E
     unfolding tour
-    count_full h =
+    count_full h most =
         let z : n - m ≡ 0 = omega arith in
         let y : length (rest (n - m) k) ≡ 0 = rw z in
         omega arith
@@ -137,7 +137,7 @@ module _ (W : List ℕ) (n : ℕ) where
     module _ (k m : ℕ) (P out old : List ℕ) (i : ℕ) (e : P ≡ take i out ++ filter Q.match (rest (n - m) k)) (few : i ≤ m) (big : n ≤ length old)
         (len : length out ≡ length old) where
       -- one entry more
-      pub scan_on : (l : Link) (s i' u : ℕ) (b : Bool) (new : List ℕ) → l ≡ link_of n k → l ≡ Slot s → m < n → b ≡ Q.match s
+      pub scan_on : (l : Option ℕ) (s i' u : ℕ) (b : Bool) (new : List ℕ) → l ≡ link_of n k → l ≡ Some s → m < n → b ≡ Q.match s
           → i' ≡ cond b (i + 1) i → new ≡ cond b (set out i s) out → u ≡ next_of n W s → P ≡ take i' new ++ filter Q.match (rest (n - (m + 1)) u)
       scan_on l s i' u b new p q h f g j x =
           rw (g, j, x) (e ∙ ap (λ (y : List ℕ). take i out ++ filter Q.match y) (some k m l p s q h) ∙ go b f)
@@ -162,10 +162,10 @@ module _ (W : List ℕ) (n : ℕ) where
         unfolding tour
         over h = let z : n - m ≡ 0 = omega arith in rw z
 
-        pub none_filled : (l : Link) → l ≡ link_of n k → l ≡ Nil → out ≡ filled P old
+        pub none_filled : (l : Option ℕ) → l ≡ link_of n k → l ≡ None → out ≡ filled P old
         none_filled l p q = (ended_with (none k m l p q)).1
 
-        pub none_hits : (l : Link) → l ≡ link_of n k → l ≡ Nil → i ≡ length P
+        pub none_hits : (l : Option ℕ) → l ≡ link_of n k → l ≡ None → i ≡ length P
         none_hits l p q = (ended_with (none k m l p q)).0
 
         pub full_hits : n ≤ m → i ≡ length P

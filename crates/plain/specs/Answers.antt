@@ -1,8 +1,8 @@
 -- What the code's answers stand for.
 -- Letters: W words, n count, r root, k link, q query, x interval, Q rules of the lookup
 use Rattle.std.specs.Prelude.{Bool, true, false, ◌&&◌, List, ℕ, length}
-use Rattle.words.specs.declared.interval.Bound.{Bound}
-use Rattle.words.specs.declared.interval.Bound.TheVariants.{Included, Excluded, Unbounded}
+use Rattle.std.specs.declared.ops.Bound.{Bound}
+use Rattle.std.specs.declared.ops.Bound.TheVariants.{Included, Excluded, Unbounded}
 use Rattle.iter.specs.Walk.{Rules}
 use Rattle.iter.specs.declared.rules.Query.{Query}
 use Rattle.iter.specs.declared.rules.Query.TheVariants.{Overlap, Ruled, Exact}
@@ -10,7 +10,7 @@ use Rattle.plain_rule.specs.Tour.{entries, plain}
 use Rattle.plain.specs.declared.Tally.{Tally}
 
 -- whether a query asks for every entry
-abbrev pub unbounded : (bound : Bound) → Bool
+abbrev pub unbounded : (bound : Bound ℕ) → Bool
 unbounded (Included x) = false
 unbounded (Excluded x) = false
 unbounded Unbounded = true

@@ -17,7 +17,7 @@ ghost use Rattle.plain.specs.Answers.{unbounded, asks_all, tally};
 use iter::rules::{Query, matches};
 use tree_links::leftmost_from;
 use words::interval::{Bound, Span};
-use words::ix::{Link, U};
+use words::ix::{U, slot_at};
 use words::node::{child_of, parent_of};
 
 // What a lookup that finds all hits at once returns: how many hits there are, and how many nodes it
@@ -28,7 +28,7 @@ pub struct Tally {
     pub entered: u64,
 }
 
-fn is_unbounded(bound: Bound) -> bool
+fn is_unbounded(bound: Bound<u64>) -> bool
     ensures { result ≡ unbounded bound }
 {
     match bound {
@@ -76,13 +76,11 @@ fn lowest_left(nodes: &[u64], narrow: bool, count: u64, slot: u64) -> u64
     ensures { result ≡ leftmost count 32 (as_eight narrow nodes.now) slot }
 {
     let mut at = slot;
-    let mut height: u64 = 32;
-    while height > 0 {
-        let Link::Slot(left) = Link::new(child_of(nodes, narrow, at, true), count) else {
+    for _ in 0..32u64 {
+        let Some(left) = slot_at(child_of(nodes, narrow, at, true), count) else {
             return at;
         };
         at = left;
-        height -= 1;
     }
     at
 }
@@ -94,16 +92,14 @@ fn next_above(nodes: &[u64], narrow: bool, count: u64, slot: u64) -> u64
     ensures { result ≡ ascend count 32 (as_eight narrow nodes.now) slot }
 {
     let mut at = slot;
-    let mut height: u64 = 32;
-    while height > 0 {
-        let Link::Slot(parent) = Link::new(parent_of(nodes, narrow, at), count) else {
+    for _ in 0..32u64 {
+        let Some(parent) = slot_at(parent_of(nodes, narrow, at), count) else {
             return U;
         };
         if child_of(nodes, narrow, parent, true) == at {
             return parent;
         }
         at = parent;
-        height -= 1;
     }
     U
 }
@@ -113,7 +109,7 @@ pub fn next_slot(nodes: &[u64], narrow: bool, count: u64, slot: u64) -> u64
     requires { HoldsIn narrow nodes.now count × (slot < count) }
     ensures { result ≡ next_of count (as_eight narrow nodes.now) slot }
 {
-    let Link::Slot(right) = Link::new(child_of(nodes, narrow, slot, false), count) else {
+    let Some(right) = slot_at(child_of(nodes, narrow, slot, false), count) else {
         return next_above(nodes, narrow, count, slot);
     };
     lowest_left(nodes, narrow, count, right)
@@ -124,7 +120,7 @@ pub fn first_slot(nodes: &[u64], narrow: bool, count: u64, root: u64) -> u64
     requires { HoldsIn narrow nodes.now count }
     ensures { result ≡ first_of count (as_eight narrow nodes.now) root }
 {
-    let Link::Slot(top) = Link::new(root, count) else {
+    let Some(top) = slot_at(root, count) else {
         return U;
     };
     leftmost_from(nodes, narrow, count, top, 32)
@@ -160,9 +156,8 @@ pub fn scan(
     let all = asks_for_all(query);
     let mut at = first_slot(nodes, narrow, count, root);
     let mut hits: u64 = 0;
-    let mut seen: u64 = 0;
-    while seen < count {
-        let Link::Slot(slot) = Link::new(at, count) else {
+    for seen in 0..count {
+        let Some(slot) = slot_at(at, count) else {
             return Tally {
                 hits,
                 entered: seen,
@@ -175,10 +170,9 @@ pub fn scan(
             is_hit(nodes, narrow, count, query, all, slot),
         );
         at = next_slot(nodes, narrow, count, slot);
-        seen += 1;
     }
     Tally {
         hits,
-        entered: seen,
+        entered: count,
     }
 }

@@ -4,6 +4,7 @@ use mathlib.Core.Bool.{Bool, true, false, cond, ◌||◌, false≢true}
 use mathlib.Core.List.{List}
 use Prim.Native.Nat.{ℕ, zero, suc, ◌+◌, ◌-◌, ◌*◌, ◌<◌, ◌≤◌}
 use native.Mathlib.Omega.{arith}
+use native.Mathlib.Nat.{sub-zero}
 use lib.Dec.{eqb, leb}
 use borrow.Author.Tests.{lt-ltb, le-ltb, leb-false}
 use Rattle.words.specs.Ix.{gone}
@@ -12,6 +13,7 @@ use Rattle.words.specs.declared.interval.Interval.{Interval}
 use Rattle.words.specs.declared.node.Entry.{Entry}
 use Rattle.bitvec.specs.Bits.{bit_at, set_bit}
 use Rattle.tree_rm_rule.specs.Remove.{copied}
+use Rattle.tree_links.proofs.LinkLaws.{left_over}
 use Rattle.tidy_rule.specs.Tidy.{tagged, tag, swap_nodes_lem, swap_colours_lem, Both, settle, untagged, tidied}
 
 -- an exchange
@@ -47,28 +49,27 @@ or_second false b e = e
 pub below : (j i n : ℕ) → (eqb j i || leb n j) ≡ false → j < n
 below j i n t = leb-false n j (or_second (eqb j i) (leb n j) t)
 
--- the loop: N is what it comes to
-module _ (N : Both) (f n i : ℕ) (W C : List ℕ) (e : N ≡ settle f n i W C) where
-  at_end : f ≤ 0 → (W ≡ N.words) × (C ≡ N.colours)
+-- the loop after t turns of at most m: N is what it comes to
+pub settle_all_lem : (m n i : ℕ) (W C : List ℕ) → settle m n i W C ≡ settle (m - 0) n i W C
+settle_all_lem m n i W C = rw sub-zero refl
+
+module _ (N : Both) (m t n i : ℕ) (W C : List ℕ) (e : N ≡ settle (m - t) n i W C) where
+  at_end : m ≤ t → (W ≡ N.words) × (C ≡ N.colours)
   unfolding settle
-  at_end h = go f e h
-    where
-      go : (g : ℕ) → N ≡ settle g n i W C → g ≤ 0 → (W ≡ N.words) × (C ≡ N.colours)
-      go zero q h = (sym (ap (λ (p : Both). p.words) q), sym (ap (λ (p : Both). p.colours) q))
-      go (suc g) q h = absurd (omega arith)
+  at_end h = let z : m - t ≡ 0 = omega arith in let q = rw z at e in (sym (ap (λ (p : Both). p.words) q), sym (ap (λ (p : Both). p.colours) q))
 
   past : n ≤ i → (W ≡ N.words) × (C ≡ N.colours)
   unfolding settle
-  past h = go f e
+  past h = go (m - t) e
     where
       go : (g : ℕ) → N ≡ settle g n i W C → (W ≡ N.words) × (C ≡ N.colours)
       go zero q = (sym (ap (λ (p : Both). p.words) q), sym (ap (λ (p : Both). p.colours) q))
       go (suc g) q = let z = rw (le-ltb i n h) at q in (sym (ap (λ (p : Both). p.words) z), sym (ap (λ (p : Both). p.colours) z))
 
-  pub end_words : f ≤ 0 → W ≡ N.words
+  pub end_words : m ≤ t → W ≡ N.words
   end_words h = (at_end h).0
 
-  pub end_colours : f ≤ 0 → C ≡ N.colours
+  pub end_colours : m ≤ t → C ≡ N.colours
   end_colours h = (at_end h).1
 
   pub past_words : n ≤ i → W ≡ N.words
@@ -77,20 +78,18 @@ module _ (N : Both) (f n i : ℕ) (W C : List ℕ) (e : N ≡ settle f n i W C) 
   pub past_colours : n ≤ i → C ≡ N.colours
   past_colours h = (past h).1
 
-  pub onward : (r : ℕ) (X D : List ℕ) → 0 < f → i < n → r ≡ cond (eqb (tag W i) i || gone n (tag W i)) (i + 1) i
+  pub onward : (r : ℕ) (X D : List ℕ) → t < m → i < n → r ≡ cond (eqb (tag W i) i || gone n (tag W i)) (i + 1) i
       → X ≡ cond (eqb (tag W i) i || gone n (tag W i)) W (swap_nodes_lem W i (tag W i))
-      → D ≡ cond (eqb (tag W i) i || gone n (tag W i)) C (swap_colours_lem C i (tag W i)) → N ≡ settle (f - 1) n r X D
+      → D ≡ cond (eqb (tag W i) i || gone n (tag W i)) C (swap_colours_lem C i (tag W i)) → N ≡ settle (m - (t + 1)) n r X D
   unfolding settle
-  onward r X D h l a b c = go f e h (eqb (tag W i) i || gone n (tag W i)) refl
+  onward r X D h l a b c = go (eqb (tag W i) i || gone n (tag W i)) refl
     where
-      go : (g : ℕ) → N ≡ settle g n i W C → 0 < g → (t : Bool) → (eqb (tag W i) i || gone n (tag W i)) ≡ t → N ≡ settle (g - 1) n r X D
-      go zero q h t z = absurd (omega arith)
-      go (suc g) q h true z =
-          let u : suc g - 1 ≡ g = omega arith in
-          rw (u, a, b, c, z) (rw (lt-ltb i n l, z) at q)
-      go (suc g) q h false z =
-          let u : suc g - 1 ≡ g = omega arith in
-          rw (u, a, b, c, z) (rw (lt-ltb i n l, z) at q)
+      next : N ≡ settle (suc (m - (t + 1))) n i W C
+      next = rw (left_over m t h) at e
+
+      go : (s : Bool) → (eqb (tag W i) i || gone n (tag W i)) ≡ s → N ≡ settle (m - (t + 1)) n r X D
+      go true z = rw (a, b, c, z) (rw (lt-ltb i n l, z) at next)
+      go false z = rw (a, b, c, z) (rw (lt-ltb i n l, z) at next)
 
 -- the whole move
 module _ (n : ℕ) (P W C T S D : List ℕ) (t : T ≡ tagged n P n W) (s : S ≡ (settle (n * 2) n 0 T C).words) where

@@ -7,12 +7,12 @@ use native.Mathlib.Omega.{arith}
 use native.Mathlib.Numerals.{add-one}
 use native.Mathlib.Nat.{sub-zero}
 use lib.Dec.{ltb}
-use lib.ListN.{length, get_or, set, drop, replicate}
-use lib.Seq.{drop-cons, drop-length}
+use lib.ListN.{length, get_or, set, drop, replicate, drop_of_length-le}
+use lib.Seq.{drop-cons}
 use borrow.Author.Tests.{lt-ltb, le-ltb}
 use Rattle.words.specs.Ix.{link_of}
-use Rattle.words.specs.declared.ix.Link.{Link}
-use Rattle.words.specs.declared.ix.Link.TheVariants.{Slot, Nil}
+use Rattle.std.specs.declared.option.Option.{Option}
+use Rattle.std.specs.declared.option.Option.TheVariants.{Some, None}
 use Rattle.words.proofs.Laws.{slot_live}
 use Rattle.bitvec.specs.Bits.{bit_at, set_bit}
 use Rattle.tree_links.proofs.LinkLaws.{read_linked, read_unlinked, slot_is}
@@ -21,7 +21,7 @@ use Rattle.tidy_rule.specs.Plan.{fits, all_new, numbered, proposed}
 use Rattle.tidy_rule.proofs.Marks.{new_fits}
 
 -- a slot is a place of what has so many
-module _ (n k s : ℕ) (l : Link) (e : l ≡ link_of n k) (q : l ≡ Slot s) where
+module _ (n k s : ℕ) (l : Option ℕ) (e : l ≡ link_of n k) (q : l ≡ Some s) where
   pub slot_bytes : n ≤ 65535 → s * 8 < 18446744073709551616
   slot_bytes h = omega (arith, slot_live n k s l e q)
 
@@ -35,7 +35,7 @@ module _ (n : ℕ) (W : List ℕ) where
   number_begin r k O e = rw (sub-zero, ← e)
 
   module _ (N : List ℕ) (m k : ℕ) (O : List ℕ) (e : N ≡ numbered m (tour n (n - m) W k) O) where
-    none : (l : Link) → l ≡ link_of n k → l ≡ Nil → tour n (n - m) W k ≡ []
+    none : (l : Option ℕ) → l ≡ link_of n k → l ≡ None → tour n (n - m) W k ≡ []
     unfolding tour
     none l p q = go (n - m)
       where
@@ -43,7 +43,7 @@ module _ (n : ℕ) (W : List ℕ) where
         go zero = refl
         go (suc f) = sym (read_unlinked [] n k k l (λ (s : ℕ). k ∷ tour n f W (next_of n W k)) [] refl p q refl)
 
-    some : (l : Link) (s : ℕ) → l ≡ link_of n k → l ≡ Slot s → m < n → tour n (n - m) W k ≡ s ∷ tour n (n - (m + 1)) W (next_of n W s)
+    some : (l : Option ℕ) (s : ℕ) → l ≡ link_of n k → l ≡ Some s → m < n → tour n (n - m) W k ≡ s ∷ tour n (n - (m + 1)) W (next_of n W s)
     unfolding tour
     some l s p q h = go (n - m) (omega arith)
       where
@@ -53,7 +53,7 @@ module _ (n : ℕ) (W : List ℕ) where
             rw (i, j)
             (sym (read_linked (k ∷ tour n (n - (m + 1)) W (next_of n W k)) n k k l (λ (t : ℕ). k ∷ tour n (n - (m + 1)) W (next_of n W k)) [] refl p s q refl))
 
-    pub number_none : (l : Link) → l ≡ link_of n k → l ≡ Nil → O ≡ N
+    pub number_none : (l : Option ℕ) → l ≡ link_of n k → l ≡ None → O ≡ N
     unfolding numbered
     number_none l p q = sym (rw (none l p q) at e)
 
@@ -61,7 +61,7 @@ module _ (n : ℕ) (W : List ℕ) where
     unfolding numbered tour
     number_full h = let z : n - m ≡ 0 = omega arith in sym (rw z at e)
 
-    pub number_on : (l : Link) (s u : ℕ) → l ≡ link_of n k → l ≡ Slot s → m < n → u ≡ next_of n W s → N ≡ numbered (m + 1) (tour n (n - (m + 1)) W u) (set O s m)
+    pub number_on : (l : Option ℕ) (s u : ℕ) → l ≡ link_of n k → l ≡ Some s → m < n → u ≡ next_of n W s → N ≡ numbered (m + 1) (tour n (n - (m + 1)) W u) (set O s m)
     unfolding numbered
     number_on l s u p q h x = rw x (rw (some l s p q h) at e)
 
@@ -82,17 +82,17 @@ module _ (n : ℕ) (P : List ℕ) (small : n ≤ 65535) (long : length P ≡ n) 
   test_begin M e = rw e (sym (new_fits n P small long))
 
   module _ (M : List ℕ) (s : ℕ) (e : fits n P ≡ all_new n M (drop s P)) where
-    step : s < n → all_new n M (drop s P) ≡ (ltb (get_or P s 0) n && not (bit_at M (get_or P s 0))) && all_new n (set_bit M (get_or P s 0) true) (drop (s + 1) P)
+    step : s < length P → all_new n M (drop s P) ≡ (ltb (get_or P s 0) n && not (bit_at M (get_or P s 0))) && all_new n (set_bit M (get_or P s 0) true) (drop (s + 1) P)
     unfolding all_new
-    step h = rw (drop-cons {A = ℕ} P s 0 (omega arith), add-one s) refl
+    step h = rw (drop-cons {A = ℕ} P s 0 h, add-one s) refl
 
-    module _ (b : Bool) (X : List ℕ) (h : s < n) (t : b ≡ ltb (get_or P s 0) n && not (bit_at M (get_or P s 0))) where
+    module _ (b : Bool) (X : List ℕ) (h : s < length P) (t : b ≡ ltb (get_or P s 0) n && not (bit_at M (get_or P s 0))) where
       pub test_on : b ≡ true → X ≡ cond b (set_bit M (get_or P s 0) true) M → fits n P ≡ all_new n X (drop (s + 1) P)
       test_on y x = e ∙ step h ∙ rw (x, ← t, y) refl
 
       pub test_stops : b ≡ false → false ≡ fits n P
       test_stops y = sym (e ∙ step h ∙ rw (← t, y) refl)
 
-    pub test_ends : n ≤ s → s ≤ n → true ≡ fits n P
+    pub test_ends : length P ≤ s → true ≡ fits n P
     unfolding all_new
-    test_ends h i = let z : s ≡ length P = omega arith in sym (e ∙ rw (z, drop-length P) refl)
+    test_ends h = sym (e ∙ rw (drop_of_length-le P h) refl)

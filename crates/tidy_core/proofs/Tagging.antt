@@ -10,8 +10,8 @@ use borrow.Author.Tests.{le-ltb}
 use Rattle.words.specs.Ix.{link_of}
 use Rattle.words.specs.Layouts.{narrowed, widened, kid_fits, up_fits_lem}
 use Rattle.words.specs.Nodes.{kid, par, put_kid, put_par}
-use Rattle.words.specs.declared.ix.Link.{Link}
-use Rattle.words.specs.declared.ix.Link.TheVariants.{Slot}
+use Rattle.std.specs.declared.option.Option.{Option}
+use Rattle.std.specs.declared.option.Option.TheVariants.{Some}
 use Rattle.words.proofs.Laws.{slot_live}
 use Rattle.words.proofs.Layouts.{slot_fits, none_fits, narrow_kid}
 use Rattle.tidy_rule.specs.Plan.{fits, renamed}
@@ -34,7 +34,7 @@ module _ (n : ℕ) (P : List ℕ) (w : fits n P ≡ true) where
   pub plan_has : (s : ℕ) → s < n → s < length P
   plan_has s h = rw (fits_is n P w).long h
 
-  pub plan_has_link : (k s : ℕ) (l : Link) → l ≡ link_of n k → l ≡ Slot s → s < length P
+  pub plan_has_link : (k s : ℕ) (l : Option ℕ) → l ≡ link_of n k → l ≡ Some s → s < length P
   plan_has_link k s l e q = plan_has s (slot_live n k s l e q)
 
   module _ (small : n ≤ 65535) where

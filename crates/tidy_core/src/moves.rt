@@ -60,13 +60,11 @@ fn settle_all(nodes: &mut [u64], narrow: bool, colours: &mut [u8], count: u64)
         × (colours.new ≡ (settle (count * 2) count 0 (as_eight narrow nodes.old) colours.old).colours) }
 {
     let mut i = 0;
-    let mut turns = count * 2;
-    while turns > 0 {
+    for _ in 0..count * 2 {
         if count <= i {
             return;
         }
         i = turn(nodes, narrow, colours, count, i);
-        turns -= 1;
     }
 }
 

@@ -39,11 +39,8 @@ pub fn names_each(plan: &[u64], count: u64) -> bool
         return false;
     }
     let mut marks = no_marks();
-    let mut s: u64 = 0;
-    while s < count {
-        if mark(&mut marks, count, plan[s as usize]) {
-            s += 1;
-        } else {
+    for slot in plan {
+        if !mark(&mut marks, count, *slot) {
             return false;
         }
     }

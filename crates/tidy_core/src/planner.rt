@@ -4,7 +4,7 @@ ghost use Rattle.words.specs.Layouts.{as_eight, HoldsIn};
 ghost use Rattle.tidy_rule.specs.Plan.{proposed};
 
 use plain::{first_slot, next_slot};
-use words::ix::Link;
+use words::ix::slot_at;
 
 // Writes the place of each slot in tree order into the slot's place of `out`.
 pub fn number_all(nodes: &[u64], narrow: bool, count: u64, root: u64, out: &mut [u64])
@@ -12,13 +12,11 @@ pub fn number_all(nodes: &[u64], narrow: bool, count: u64, root: u64, out: &mut 
     ensures { out.new ≡ proposed count (as_eight narrow nodes.now) root out.old }
 {
     let mut at = first_slot(nodes, narrow, count, root);
-    let mut place: u64 = 0;
-    while place < count {
-        let Link::Slot(slot) = Link::new(at, count) else {
+    for place in 0..count {
+        let Some(slot) = slot_at(at, count) else {
             return;
         };
         out[slot as usize] = place;
         at = next_slot(nodes, narrow, count, slot);
-        place += 1;
     }
 }

@@ -4,7 +4,7 @@ ghost use Rattle.words.specs.Layouts.{narrowed, widened, as_eight, up_fits_lem, 
 ghost use Rattle.tidy_rule.specs.Plan.{fits, renamed};
 ghost use Rattle.tidy_rule.specs.Tidy.{with_tag, rename_kid, tag_node_lem, tagged, tag, untag_node_lem, untagged};
 
-use words::ix::{Link, U};
+use words::ix::{U, slot_at};
 use words::node::{child_of, parent_of, put_child, put_parent};
 
 // Returns the bits of a parent word: below 65535 itself, and from U on counted from 65535. Between
@@ -42,7 +42,7 @@ pub(crate) fn renamed(plan: &[u64], count: u64, word: u64) -> u64
     requires { (count ≤ 65535) × (fits count plan.now ≡ true) }
     ensures { result ≡ renamed count plan.now word }
 {
-    let Link::Slot(k) = Link::new(word, count) else {
+    let Some(k) = slot_at(word, count) else {
         return U;
     };
     plan[k as usize]
@@ -71,10 +71,8 @@ pub(crate) fn tag_all(nodes: &mut [u64], narrow: bool, plan: &[u64], count: u64)
     requires { HoldsIn narrow nodes.old count × (fits count plan.now ≡ true) }
     ensures { as_eight narrow nodes.new ≡ tagged count plan.now count (as_eight narrow nodes.old) }
 {
-    let mut s = 0;
-    while s < count {
+    for s in 0..count {
         tag_node(nodes, narrow, plan, count, s);
-        s += 1;
     }
 }
 
@@ -99,9 +97,7 @@ pub(crate) fn untag_all(nodes: &mut [u64], narrow: bool, count: u64)
     requires { HoldsIn narrow nodes.old count }
     ensures { as_eight narrow nodes.new ≡ untagged count (as_eight narrow nodes.old) }
 {
-    let mut s = 0;
-    while s < count {
+    for s in 0..count {
         untag_node(nodes, narrow, s);
-        s += 1;
     }
 }

@@ -10,7 +10,7 @@ use lib.Dec.{eqb, leb}
 use borrow.Author.Tests.{eqb-true, eqb-false, leb-false}
 use Rattle.words.specs.Ix.{on_link}
 use Rattle.words.specs.Intervals.{eq, extended}
-use Rattle.words.specs.Nodes.{place, word, put, value, kid, par, interval, hull, entry, put_par, put_entry_lem, put_hull_lem, joined, hull_of, altered, fix, put_node_lem, HoldsBits}
+use Rattle.words.specs.Nodes.{place, word, put, kid, par, interval, hull, entry, put_par, put_entry_lem, put_hull_lem, joined, hull_of, altered, fix, put_node_lem, HoldsBits}
 use Rattle.words.specs.declared.interval.Interval.{Interval}
 use Rattle.words.specs.declared.node.Entry.{Entry}
 use Rattle.words.specs.declared.node.Field.{Field}

@@ -13,5 +13,6 @@ pub mod Inside
 pub mod Reached
 pub mod Below
 pub mod Rounds
+pub mod Stays
 pub mod Told
 pub mod Examples

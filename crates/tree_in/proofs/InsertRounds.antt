@@ -8,8 +8,8 @@ use lib.Dec.{eqb}
 use borrow.Author.Tests.{eq-eqb, ne_eqb}
 use Rattle.words.specs.Ix.{link_of}
 use Rattle.words.specs.Nodes.{kid, par, fix, HasBit, HoldsBits}
-use Rattle.words.specs.declared.ix.Link.{Link}
-use Rattle.words.specs.declared.ix.Link.TheVariants.{Slot, Nil}
+use Rattle.std.specs.declared.option.Option.{Option}
+use Rattle.std.specs.declared.option.Option.TheVariants.{Some, None}
 use Rattle.bitvec.specs.Colours.{red, red_at, paint}
 use Rattle.tree_edit.specs.Links.{root_after}
 use Rattle.tree_edit.specs.Rotations.{rotate}
@@ -17,7 +17,7 @@ use Rattle.tree_edit.specs.Rounds.{Next, done, again}
 use Rattle.tree_edit.specs.Reach.{Work, changes, both_hulls}
 use Rattle.tree_edit.proofs.Reached.{changes_append, changes_le}
 use Rattle.tree_links.proofs.LinkLaws.{read_linked, read_unlinked, hulls_linked, hulls_unlinked}
-use Rattle.tree_links.proofs.Loops.{link_stays, at_side, side_changes}
+use Rattle.tree_links.proofs.Loops.{at_side, side_changes}
 use Rattle.tree_edit.proofs.Colours.{red_child, red_fits}
 use Rattle.tree_in_rule.specs.InsertRepair.{rotated, outer, inner, recoloured, insert_round_at, insert_round_below, insert_round}
 use Rattle.tree_in_rule.specs.Reach.{rotated_hulls, outer_hulls, inner_hulls, insert_round_at_hulls, insert_round_below_hulls, insert_round_hulls}
@@ -100,25 +100,25 @@ module _ (n : ℕ) (C : List ℕ) (u : ℕ) (v : Bool) (f : v ≡ not (red_at n 
     uncle_red D q h = rw (← e, red_child v (red_at n C u) true f (ap not q), ← h)
 
 -- the grandparent g, and the parent p of the slot x
-pub at_grandparent : (n : ℕ) (W C : List ℕ) (r x P : ℕ) (N : Next) (w g t : ℕ) (l : Link) → w ≡ par W P → l ≡ link_of n w → l ≡ Slot g
+pub at_grandparent : (n : ℕ) (W C : List ℕ) (r x P : ℕ) (N : Next) (w g t : ℕ) (l : Option ℕ) → w ≡ par W P → l ≡ link_of n w → l ≡ Some g
     → t ≡ kid W true g → N ≡ insert_round_at n W C r x P g (eqb t P) → N ≡ insert_round_below n W C r x P
 unfolding insert_round_below
 at_grandparent n W C r x P N w g t l e q k f h = at_side (λ (G : ℕ) (b : Bool). insert_round_at n W C r x P G b) (done W C r) n W P N w g t l e q k f h
 
-pub grandparent_changes : (n : ℕ) (W C : List ℕ) (x P k w g t : ℕ) (l : Link) → w ≡ par W P → l ≡ link_of n w → l ≡ Slot g → t ≡ kid W true g
+pub grandparent_changes : (n : ℕ) (W C : List ℕ) (x P k w g t : ℕ) (l : Option ℕ) → w ≡ par W P → l ≡ link_of n w → l ≡ Some g → t ≡ kid W true g
     → k ≡ changes n (insert_round_at_hulls n W C x P g (eqb t P)) → k ≡ changes n (insert_round_below_hulls n W C x P)
 unfolding insert_round_below_hulls
 grandparent_changes n W C x P k w g t l e q z f h = side_changes (λ (G : ℕ) (b : Bool). insert_round_at_hulls n W C x P G b) n W P k w g t l e q z f h
 
-module _ (n : ℕ) (W C : List ℕ) (x w : ℕ) (l : Link) (e : w ≡ par W x) (f : l ≡ link_of n w) where
+module _ (n : ℕ) (W C : List ℕ) (x w : ℕ) (l : Option ℕ) (e : w ≡ par W x) (f : l ≡ link_of n w) where
   abbrev hulls_below : ℕ → List Work
   hulls_below P = cond (red C P) (insert_round_below_hulls n W C x P) []
 
-  pub root_changes : l ≡ Nil → 0 ≡ changes n (insert_round_hulls n W C x)
+  pub root_changes : l ≡ None → 0 ≡ changes n (insert_round_hulls n W C x)
   unfolding insert_round_hulls
   root_changes q = hulls_unlinked 0 n (par W x) w l hulls_below e f q refl
 
-  module _ (p : ℕ) (v : Bool) (q : l ≡ Slot p) (g : v ≡ red C p) where
+  module _ (p : ℕ) (v : Bool) (q : l ≡ Some p) (g : v ≡ red C p) where
     pub below_changes : (k : ℕ) → v ≡ true → k ≡ changes n (insert_round_below_hulls n W C x p) → k ≡ changes n (insert_round_hulls n W C x)
     unfolding insert_round_hulls
     below_changes k z h = hulls_linked k n (par W x) w l hulls_below e f p q (rw (sym g ∙ z) h)
@@ -127,15 +127,15 @@ module _ (n : ℕ) (W C : List ℕ) (x w : ℕ) (l : Link) (e : w ≡ par W x) (
     unfolding insert_round_hulls
     quiet_black z = hulls_linked 0 n (par W x) w l hulls_below e f p q (rw (sym g ∙ z))
 
-module _ (n : ℕ) (W C : List ℕ) (r x w : ℕ) (l : Link) (e : w ≡ par W x) (f : l ≡ link_of n w) where
+module _ (n : ℕ) (W C : List ℕ) (r x w : ℕ) (l : Option ℕ) (e : w ≡ par W x) (f : l ≡ link_of n w) where
   abbrev below : ℕ → Next
   below P = cond (red C P) (insert_round_below n W C r x P) (done W C r)
 
-  pub root_black : (D : List ℕ) → l ≡ Nil → D ≡ paint C x false → done W D r ≡ insert_round n W C r x
+  pub root_black : (D : List ℕ) → l ≡ None → D ≡ paint C x false → done W D r ≡ insert_round n W C r x
   unfolding insert_round
   root_black D q h = read_unlinked (done W D r) n (par W x) w l below (done W (paint C x false) r) e f q (ap (λ (B : List ℕ). done W B r) h)
 
-  module _ (p : ℕ) (v : Bool) (q : l ≡ Slot p) (g : v ≡ red C p) where
+  module _ (p : ℕ) (v : Bool) (q : l ≡ Some p) (g : v ≡ red C p) where
     pub parent_red : (N : Next) → v ≡ true → N ≡ insert_round_below n W C r x p → N ≡ insert_round n W C r x
     unfolding insert_round
     parent_red N z h = read_linked N n (par W x) w l below (done W (paint C x false) r) e f p q (rw (sym g ∙ z) h)
@@ -143,23 +143,3 @@ module _ (n : ℕ) (W C : List ℕ) (r x w : ℕ) (l : Link) (e : w ≡ par W x)
     pub parent_black_lem : v ≡ false → done W C r ≡ insert_round n W C r x
     unfolding insert_round
     parent_black_lem z = read_linked (done W C r) n (par W x) w l below (done W (paint C x false) r) e f p q (rw (sym g ∙ z))
-
--- the loop stands at a slot
-pub insert_stays : (n : ℕ) (W C : List ℕ) (r x : ℕ) (X D : List ℕ) (q i : ℕ) → x < n → insert_round n W C r x ≡ again X D q i → i < n
-unfolding insert_round insert_round_below insert_round_at recoloured inner outer
-insert_stays n W C r x X D q i h e =
-    link_stays n (par W x) (λ (P : ℕ). cond (red C P) (insert_round_below n W C r x P) (done W C r)) W (paint C x false) r X D q i
-    (λ P l z. parent P (red C P) z) e
-  where
-    uncle : (P G : ℕ) (b t u : Bool) → G < n
-        → cond t (recoloured W C r P (kid W (not b) G) G) (cond u (inner n W C r x b P G) (outer n W C r b P G)) ≡ again X D q i → i < n
-    uncle P G b true u l z = let y : G ≡ i = cc in omega arith
-    uncle P G b false true l z = let y : ◌≡◌ {A = ℕ} 0 1 = cc in absurd (omega arith)
-    uncle P G b false false l z = let y : ◌≡◌ {A = ℕ} 0 1 = cc in absurd (omega arith)
-
-    parent : (P : ℕ) (t : Bool) → cond t (insert_round_below n W C r x P) (done W C r) ≡ again X D q i → i < n
-    parent P true z =
-        link_stays n (par W P) (λ (G : ℕ). insert_round_at n W C r x P G (eqb (kid W true G) P)) W C r X D q i
-        (λ G l y. uncle P G (eqb (kid W true G) P) (red_at n C (kid W (not (eqb (kid W true G) P)) G))
-        (eqb (kid W (not (eqb (kid W true G) P)) P) x) l y) z
-    parent P false z = let y : ◌≡◌ {A = ℕ} 0 1 = cc in absurd (omega arith)

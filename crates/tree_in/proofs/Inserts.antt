@@ -2,16 +2,15 @@
 use mathlib.Core.Path.{◌≡◌, refl, sym, ◌∙◌}
 use mathlib.Core.Bool.{Bool, true}
 use mathlib.Core.List.{List}
-use Prim.Native.Nat.{ℕ, zero, suc, ◌+◌, ◌-◌, ◌*◌, ◌<◌, ◌≤◌}
+use Prim.Native.Nat.{ℕ, zero, suc, ◌+◌, ◌-◌, ◌<◌, ◌≤◌}
 use native.Mathlib.Omega.{arith}
-use native.Mathlib.Numerals.{sub-one}
 use Rattle.words.specs.Layouts.{kid_fits, Held}
 use Rattle.words.proofs.Layouts.{slot_fits}
 use Rattle.words.specs.Ix.{U, link_of}
 use Rattle.words.specs.Nodes.{kid, put_kid, put_node_lem}
 use Rattle.words.specs.declared.interval.Interval.{Interval}
-use Rattle.words.specs.declared.ix.Link.{Link}
-use Rattle.words.specs.declared.ix.Link.TheVariants.{Slot, Nil}
+use Rattle.std.specs.declared.option.Option.{Option}
+use Rattle.std.specs.declared.option.Option.TheVariants.{Some, None}
 use Rattle.words.specs.declared.node.Entry.{Entry}
 use Rattle.words.proofs.Laws.{linked, slot_live}
 use Rattle.bitvec.specs.Colours.{paint}
@@ -20,35 +19,36 @@ use Rattle.tree_edit.specs.Store.{Store, store}
 use Rattle.tree_edit.specs.Rounds.{ending}
 use Rattle.tree_edit.specs.Reach.{changes, up_hulls}
 use Rattle.tree_edit.proofs.Reached.{changes_append, changes_le, up_most}
-use Rattle.tree_links.proofs.LinkLaws.{read_linked, read_unlinked}
+use Rattle.tree_links.proofs.LinkLaws.{read_linked, read_unlinked, left_over}
 use Rattle.tree_in_rule.specs.Descent.{goes_left_lem, descend, under}
 use Rattle.tree_in_rule.specs.Insert.{own, hung_node, hung_words, hung_root, hung, insert_at_lem, insert_rule}
 use Rattle.tree_in_rule.specs.InsertRepair.{insert_repair_lem}
 use Rattle.tree_in_rule.specs.Reach.{insert_repair_hulls, insert_at_hulls, insert_hulls}
 use Rattle.tree_in_rule.proofs.Reached.{insert_repair_most}
 
--- one step of the way down
-module _ (n : ℕ) (W : List ℕ) (x : Interval) (t k : ℕ) where
-  module _ (w : ℕ) (l : Link) (p : w ≡ kid W (goes_left_lem W x k) k) (d : l ≡ link_of n w) where
-    pub down_on : (h s : ℕ) → t ≡ descend n h W x k → l ≡ Slot s → 0 < h → t ≡ descend n (h - 1) W x s
+-- the way down after i steps of at most m
+module _ (n : ℕ) (W : List ℕ) (x : Interval) (t k m i : ℕ) (e : t ≡ descend n (m - i) W x k) where
+  module _ (w : ℕ) (l : Option ℕ) (p : w ≡ kid W (goes_left_lem W x k) k) (d : l ≡ link_of n w) where
+    pub down_on : (s : ℕ) → l ≡ Some s → i < m → t ≡ descend n (m - (i + 1)) W x s
     unfolding descend
-    down_on zero s e q z = absurd (omega arith)
-    down_on (suc h) s e q z =
-        rw (sub-one (suc h))
-        (e ∙ sym (read_linked (descend n h W x s) n (kid W (goes_left_lem W x k) k) w l (λ (i : ℕ). descend n h W x i) k p d s q refl))
+    down_on s q z =
+        (rw (left_over m i z) at e)
+        ∙ sym (read_linked (descend n (m - (i + 1)) W x s) n (kid W (goes_left_lem W x k) k) w l (λ (j : ℕ). descend n (m - (i + 1)) W x j) k p d s q refl)
 
-    pub down_ends : (h : ℕ) → t ≡ descend n h W x k → l ≡ Nil → k ≡ t
+    pub down_ends : l ≡ None → k ≡ t
     unfolding descend
-    down_ends zero e q = sym e
-    down_ends (suc h) e q = read_unlinked k n (kid W (goes_left_lem W x k) k) w l (λ (i : ℕ). descend n h W x i) k p d q refl ∙ sym e
+    down_ends q = go (m - i) e
+      where
+        go : (h : ℕ) → t ≡ descend n h W x k → k ≡ t
+        go zero f = sym f
+        go (suc h) f = read_unlinked k n (kid W (goes_left_lem W x k) k) w l (λ (j : ℕ). descend n h W x j) k p d q refl ∙ sym f
 
-  pub down_none : (h : ℕ) → t ≡ descend n h W x k → h ≤ 0 → k ≡ t
+  pub down_none : m ≤ i → k ≡ t
   unfolding descend
-  down_none zero e z = sym e
-  down_none (suc h) e z = absurd (omega arith)
+  down_none z = let y : m - i ≡ 0 = omega arith in sym (rw y at e)
 
 -- the slot above has room in words with room for one node more
-module _ (narrow : Bool) (n w s a : ℕ) (l : Link) (e : l ≡ link_of n w) (q : l ≡ Slot s) (h : Held narrow (n + 1) a) where
+module _ (narrow : Bool) (n w s a : ℕ) (l : Option ℕ) (e : l ≡ link_of n w) (q : l ≡ Some s) (h : Held narrow (n + 1) a) where
   pub room_above : Held narrow (s + 1) a
   room_above = let z : s < n = slot_live n w s l e q in omega arith
 
@@ -64,7 +64,7 @@ pub node_is : (W X : List ℕ) (n : ℕ) (e : Entry) (i : Interval) (p : ℕ) �
 unfolding hung_node
 node_is W X n e i p f h = rw (← f) h
 
-pub hung_words_lem : (W X Y : List ℕ) (n : ℕ) (e : Entry) (i : Interval) (p s : ℕ) (v : Bool) (l : Link) → l ≡ link_of n p → l ≡ Slot s → i ≡ own e
+pub hung_words_lem : (W X Y : List ℕ) (n : ℕ) (e : Entry) (i : Interval) (p s : ℕ) (v : Bool) (l : Option ℕ) → l ≡ link_of n p → l ≡ Some s → i ≡ own e
     → v ≡ goes_left_lem W i s → X ≡ hung_node W n e p → Y ≡ put_kid X v s n → Y ≡ hung_words W n e p
 unfolding hung_words
 hung_words_lem W X Y n e i p s v l d q f g h j =

@@ -5,7 +5,7 @@ ghost use Rattle.words.specs.Nodes.{kid};
 ghost use Rattle.tree_in_rule.specs.Descent.{goes_left_lem, descend, under};
 
 use words::interval::Interval;
-use words::ix::{Link, U};
+use words::ix::{U, slot_at};
 use words::node::{child_of, interval_of};
 
 // Whether the new interval is less than that of slot k. An equal one goes right.
@@ -13,7 +13,7 @@ pub(crate) fn goes_left(nodes: &[u64], narrow: bool, interval: Interval, k: u64)
     requires { HasIn narrow nodes.now k }
     ensures { result ≡ goes_left_lem (as_eight narrow nodes.now) interval k }
 {
-    !interval_of(nodes, narrow, k).le(interval)
+    interval < interval_of(nodes, narrow, k)
 }
 
 // Returns the link word of slot k on the side that the new interval goes to.
@@ -31,13 +31,11 @@ fn last_down(nodes: &[u64], narrow: bool, count: u64, top: u64, interval: Interv
     ensures { (result ≡ descend count 32 (as_eight narrow nodes.now) interval top) × (result < count) }
 {
     let mut current = top;
-    let mut height: u64 = 32;
-    while height > 0 {
-        let Link::Slot(child) = Link::new(next_down(nodes, narrow, interval, current), count) else {
+    for _ in 0..32_u64 {
+        let Some(child) = slot_at(next_down(nodes, narrow, interval, current), count) else {
             return current;
         };
         current = child;
-        height -= 1;
     }
     current
 }
@@ -53,7 +51,7 @@ pub(crate) fn insert_inner(
     requires { HoldsIn narrow nodes.now count }
     ensures { (result ≡ under count (as_eight narrow nodes.now) root interval) × (up_fits_lem narrow result ≡ true) }
 {
-    let Link::Slot(top) = Link::new(root, count) else {
+    let Some(top) = slot_at(root, count) else {
         return U;
     };
     last_down(nodes, narrow, count, top, interval)

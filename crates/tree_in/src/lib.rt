@@ -19,7 +19,7 @@ use crate::repair::insert_repair;
 use bitvec::colours::set_red;
 use tree_links::{Repaired, fix_intervals_up};
 use words::interval::Interval;
-use words::ix::{Link, U};
+use words::ix::{U, slot_at};
 use words::node::{Entry, put_child, put_node};
 
 // Returns the interval of an entry.
@@ -55,7 +55,7 @@ fn hang_node(
     requires { HasIn narrow nodes.old count × (up_fits_lem narrow parent ≡ true) }
     ensures { (result ≡ hung_root count root parent) × (as_eight narrow nodes.new ≡ hung_words (as_eight narrow nodes.old) count entry parent) }
 {
-    let Link::Slot(above) = Link::new(parent, count) else {
+    let Some(above) = slot_at(parent, count) else {
         new_node(nodes, narrow, count, entry, parent);
         return count;
     };

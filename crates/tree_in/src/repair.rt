@@ -10,11 +10,14 @@ ghost use Rattle.tree_edit.specs.Rounds.{ending};
 ghost use Rattle.tree_edit.specs.Reach.{changes};
 ghost use Rattle.tree_links.specs.Answers.{next, reach};
 ghost use Rattle.tree_in_rule.specs.InsertRepair.{rotated, outer, inner, insert_round_at, insert_round_below, insert_round, insert_repair_lem};
+ghost use Rattle.tree_in_rule.proofs.Reached.{insert_round_le};
+ghost use Rattle.tree_in_rule.proofs.Stays.{insert_stays};
 ghost use Rattle.tree_in_rule.specs.Reach.{rotated_hulls, outer_hulls, inner_hulls, insert_round_at_hulls, insert_round_below_hulls, insert_round_hulls, insert_repair_hulls};
 
 use bitvec::colours::{is_black_or_nil, is_red, set_black, set_red};
-use tree_links::{Next, Repaired, rework_both, rotate_up};
-use words::ix::Link;
+use std::ops::ControlFlow;
+use tree_links::{Next, Onward, Repaired, Rounds, repair, rework_both, rotate_up};
+use words::ix::slot_at;
 use words::node::{child_of, parent_of};
 
 // Rotates left if `left_side` is true, else right: slot `up`, the child of `index` on the other
@@ -42,30 +45,45 @@ fn rotate(
     }
 }
 
-// The parent, which is on the given side of the grandparent, takes the grandparent's place. The
-// parent becomes black and the grandparent red. `before` hulls changed already in this round.
+// The relatives of the red slot that a round is at: its parent, its grandparent, and whether the
+// parent is the left child.
+#[derive(Clone, Copy)]
+struct Kin {
+    parent: u64,
+    grandparent: u64,
+    left: bool,
+}
+
+// The parent takes the grandparent's place. The parent becomes black and the grandparent red.
+// `before` hulls changed already in this round.
 fn rotate_outer(
     nodes: &mut [u64],
     narrow: bool,
     colours: &mut [u8],
     count: u64,
     root: u64,
-    left_side: bool,
-    parent: u64,
-    grandparent: u64,
+    kin: Kin,
     before: u64,
 ) -> Next
-    requires { HoldsIn narrow nodes.old count × HoldsBits colours.old count × (parent < count) × (grandparent < count) × (before ≤ 2) }
-    ensures { (next result (as_eight narrow nodes.new) colours.new ≡ outer count (as_eight narrow nodes.old) colours.old root left_side parent grandparent)
-        × (reach result ≡ before + changes count (outer_hulls count (as_eight narrow nodes.old) left_side parent grandparent)) }
+    requires { HoldsIn narrow nodes.old count × HoldsBits colours.old count × (kin.parent < count) × (kin.grandparent < count) × (before ≤ 2) }
+    ensures { (next result (as_eight narrow nodes.new) colours.new ≡ outer count (as_eight narrow nodes.old) colours.old root kin.left kin.parent kin.grandparent)
+        × (reach result ≡ before + changes count (outer_hulls count (as_eight narrow nodes.old) kin.left kin.parent kin.grandparent)) }
 {
-    let rotated = rotate(nodes, narrow, count, root, !left_side, grandparent, parent);
-    set_black(colours, parent);
-    set_red(colours, grandparent);
-    Next::Done {
+    let rotated = rotate(
+        nodes,
+        narrow,
+        count,
+        root,
+        !kin.left,
+        kin.grandparent,
+        kin.parent,
+    );
+    set_black(colours, kin.parent);
+    set_red(colours, kin.grandparent);
+    ControlFlow::Break(Repaired {
         root: rotated.root,
         reach: before + rotated.reach,
-    }
+    })
 }
 
 // The slot `index` is the child of its parent on the other side, and takes the parent's place
@@ -77,26 +95,18 @@ fn rotate_inner(
     count: u64,
     root: u64,
     index: u64,
-    left_side: bool,
-    parent: u64,
-    grandparent: u64,
+    kin: Kin,
 ) -> Next
-    requires { HoldsIn narrow nodes.old count × HoldsBits colours.old count × (index < count) × (parent < count) × (grandparent < count) }
-    ensures { (next result (as_eight narrow nodes.new) colours.new ≡ inner count (as_eight narrow nodes.old) colours.old root index left_side parent grandparent)
-        × (reach result ≡ changes count (inner_hulls count (as_eight narrow nodes.old) index left_side parent grandparent)) }
+    requires { HoldsIn narrow nodes.old count × HoldsBits colours.old count × (index < count) × (kin.parent < count) × (kin.grandparent < count) }
+    ensures { (next result (as_eight narrow nodes.new) colours.new ≡ inner count (as_eight narrow nodes.old) colours.old root index kin.left kin.parent kin.grandparent)
+        × (reach result ≡ changes count (inner_hulls count (as_eight narrow nodes.old) index kin.left kin.parent kin.grandparent)) }
 {
-    let first = rotate(nodes, narrow, count, root, left_side, parent, index);
-    rotate_outer(
-        nodes,
-        narrow,
-        colours,
-        count,
-        root,
-        left_side,
-        index,
-        grandparent,
-        first.reach,
-    )
+    let first = rotate(nodes, narrow, count, root, kin.left, kin.parent, index);
+    let turned = Kin {
+        parent: index,
+        ..kin
+    };
+    rotate_outer(nodes, narrow, colours, count, root, turned, first.reach)
 }
 
 // Makes the parent and the uncle black, and the grandparent red.
@@ -117,46 +127,24 @@ fn round_rotated(
     count: u64,
     root: u64,
     index: u64,
-    left_side: bool,
-    parent: u64,
-    grandparent: u64,
+    kin: Kin,
 ) -> Next
-    requires { HoldsIn narrow nodes.old count × HoldsBits colours.old count × (index < count) × (parent < count) × (grandparent < count) }
+    requires { HoldsIn narrow nodes.old count × HoldsBits colours.old count × (index < count) × (kin.parent < count) × (kin.grandparent < count) }
     ensures { (next result (as_eight narrow nodes.new) colours.new
-        ≡ cond (eqb (kid (as_eight narrow nodes.old) (not left_side) parent) index)
-        (inner count (as_eight narrow nodes.old) colours.old root index left_side parent grandparent)
-        (outer count (as_eight narrow nodes.old) colours.old root left_side parent grandparent))
-        × (reach result ≡ changes count (cond (eqb (kid (as_eight narrow nodes.old) (not left_side) parent) index)
-        (inner_hulls count (as_eight narrow nodes.old) index left_side parent grandparent)
-        (outer_hulls count (as_eight narrow nodes.old) left_side parent grandparent))) }
+        ≡ cond (eqb (kid (as_eight narrow nodes.old) (not kin.left) kin.parent) index)
+        (inner count (as_eight narrow nodes.old) colours.old root index kin.left kin.parent kin.grandparent)
+        (outer count (as_eight narrow nodes.old) colours.old root kin.left kin.parent kin.grandparent))
+        × (reach result ≡ changes count (cond (eqb (kid (as_eight narrow nodes.old) (not kin.left) kin.parent) index)
+        (inner_hulls count (as_eight narrow nodes.old) index kin.left kin.parent kin.grandparent)
+        (outer_hulls count (as_eight narrow nodes.old) kin.left kin.parent kin.grandparent))) }
 {
-    if child_of(nodes, narrow, parent, !left_side) == index {
-        return rotate_inner(
-            nodes,
-            narrow,
-            colours,
-            count,
-            root,
-            index,
-            left_side,
-            parent,
-            grandparent,
-        );
+    if child_of(nodes, narrow, kin.parent, !kin.left) == index {
+        return rotate_inner(nodes, narrow, colours, count, root, index, kin);
     }
-    rotate_outer(
-        nodes,
-        narrow,
-        colours,
-        count,
-        root,
-        left_side,
-        parent,
-        grandparent,
-        0,
-    )
+    rotate_outer(nodes, narrow, colours, count, root, kin, 0)
 }
 
-// Does one round, given the grandparent and the side of it that the parent is on.
+// Does one round, given the relatives.
 fn round_at(
     nodes: &mut [u64],
     narrow: bool,
@@ -164,34 +152,22 @@ fn round_at(
     count: u64,
     root: u64,
     index: u64,
-    parent: u64,
-    grandparent: u64,
-    left_side: bool,
+    kin: Kin,
 ) -> Next
-    requires { HoldsIn narrow nodes.old count × HoldsBits colours.old count × (index < count) × (parent < count) × (grandparent < count) }
-    ensures { (next result (as_eight narrow nodes.new) colours.new ≡ insert_round_at count (as_eight narrow nodes.old) colours.old root index parent grandparent left_side)
-        × (reach result ≡ changes count (insert_round_at_hulls count (as_eight narrow nodes.old) colours.old index parent grandparent left_side)) }
+    requires { HoldsIn narrow nodes.old count × HoldsBits colours.old count × (index < count) × (kin.parent < count) × (kin.grandparent < count) }
+    ensures { (next result (as_eight narrow nodes.new) colours.new ≡ insert_round_at count (as_eight narrow nodes.old) colours.old root index kin.parent kin.grandparent kin.left)
+        × (reach result ≡ changes count (insert_round_at_hulls count (as_eight narrow nodes.old) colours.old index kin.parent kin.grandparent kin.left)) }
 {
-    let uncle = child_of(nodes, narrow, grandparent, !left_side);
+    let uncle = child_of(nodes, narrow, kin.grandparent, !kin.left);
     if is_black_or_nil(colours, count, uncle) {
-        return round_rotated(
-            nodes,
-            narrow,
-            colours,
-            count,
-            root,
-            index,
-            left_side,
-            parent,
-            grandparent,
-        );
+        return round_rotated(nodes, narrow, colours, count, root, index, kin);
     }
-    recolour(colours, parent, uncle, grandparent);
-    Next::Again {
+    recolour(colours, kin.parent, uncle, kin.grandparent);
+    ControlFlow::Continue(Onward {
         root,
-        at: grandparent,
+        at: kin.grandparent,
         reach: 0,
-    }
+    })
 }
 
 // Does one round below a red parent. In a store that passes the check of crate audit the parent has
@@ -209,44 +185,48 @@ fn round_below(
     ensures { (next result (as_eight narrow nodes.new) colours.new ≡ insert_round_below count (as_eight narrow nodes.old) colours.old root index parent)
         × (reach result ≡ changes count (insert_round_below_hulls count (as_eight narrow nodes.old) colours.old index parent)) }
 {
-    let Link::Slot(grandparent) = Link::new(parent_of(nodes, narrow, parent), count) else {
-        return Next::Done { root, reach: 0 };
+    let Some(grandparent) = slot_at(parent_of(nodes, narrow, parent), count) else {
+        return ControlFlow::Break(Repaired { root, reach: 0 });
     };
-    let left_side = child_of(nodes, narrow, grandparent, true) == parent;
-    round_at(
-        nodes,
-        narrow,
-        colours,
-        count,
-        root,
-        index,
+    let left = child_of(nodes, narrow, grandparent, true) == parent;
+    let kin = Kin {
         parent,
         grandparent,
-        left_side,
-    )
+        left,
+    };
+    round_at(nodes, narrow, colours, count, root, index, kin)
 }
 
-// Does one round of the loop, at the red slot `index`.
-fn one_round(
-    nodes: &mut [u64],
-    narrow: bool,
-    colours: &mut [u8],
-    count: u64,
-    root: u64,
-    index: u64,
-) -> Next
-    requires { HoldsIn narrow nodes.old count × HoldsBits colours.old count × (index < count) }
-    ensures { (next result (as_eight narrow nodes.new) colours.new ≡ insert_round count (as_eight narrow nodes.old) colours.old root index)
-        × (reach result ≡ changes count (insert_round_hulls count (as_eight narrow nodes.old) colours.old index)) }
-{
-    let Link::Slot(parent) = Link::new(parent_of(nodes, narrow, index), count) else {
-        set_black(colours, index);
-        return Next::Done { root, reach: 0 };
-    };
-    if is_red(colours, parent) {
-        return round_below(nodes, narrow, colours, count, root, index, parent);
+// The repair after an insertion, as a loop of rounds.
+struct Insertion;
+
+impl Rounds for Insertion {
+    ghost round = { insert_round };
+
+    ghost hulls = { insert_round_hulls };
+
+    // Does one round, at the red slot `at`.
+    fn one_round(
+        nodes: &mut [u64],
+        narrow: bool,
+        colours: &mut [u8],
+        count: u64,
+        root: u64,
+        at: u64,
+    ) -> Next {
+        let Some(parent) = slot_at(parent_of(nodes, narrow, at), count) else {
+            set_black(colours, at);
+            return ControlFlow::Break(Repaired { root, reach: 0 });
+        };
+        if is_red(colours, parent) {
+            return round_below(nodes, narrow, colours, count, root, at, parent);
+        }
+        ControlFlow::Break(Repaired { root, reach: 0 })
     }
-    Next::Done { root, reach: 0 }
+
+    ghost stays = { insert_stays };
+
+    ghost few = { insert_round_le };
 }
 
 // Repairs the tree from the red slot `index` upward. Each round that does not end the repair goes
@@ -263,29 +243,5 @@ pub(crate) fn insert_repair(
     ensures { (store (as_eight narrow nodes.new) colours.new result.root ≡ ending (insert_repair_lem count 32 (as_eight narrow nodes.old) colours.old root index))
         × (result.reach ≡ changes count (insert_repair_hulls count 32 (as_eight narrow nodes.old) colours.old root index)) }
 {
-    let mut at = index;
-    let mut top = root;
-    let mut reach: u64 = 0;
-    let mut rounds: u64 = 32;
-    while rounds > 0 {
-        match one_round(nodes, narrow, colours, count, top, at) {
-            Next::Done { root: r, reach: k } => {
-                return Repaired {
-                    root: r,
-                    reach: reach + k,
-                };
-            }
-            Next::Again {
-                root: r,
-                at: i,
-                reach: k,
-            } => {
-                top = r;
-                at = i;
-                reach += k;
-                rounds -= 1;
-            }
-        }
-    }
-    Repaired { root: top, reach }
+    repair::<Insertion>(nodes, narrow, colours, count, root, index, 32)
 }

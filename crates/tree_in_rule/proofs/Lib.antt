@@ -12,4 +12,5 @@ pub mod Hang
 pub mod Inside
 pub mod Insertion
 pub mod Reached
+pub mod Stays
 pub mod Below

@@ -3,43 +3,43 @@
 use mathlib.Core.Path.{◌≡◌, refl, sym, ap, ◌∙◌}
 use mathlib.Core.Bool.{Bool, true, false, cond, true≢false}
 use mathlib.Core.List.{List, []}
-use Prim.Native.Nat.{ℕ, zero, suc, ◌+◌, ◌-◌, ◌*◌, ◌<◌, ◌≤◌}
+use Prim.Native.Nat.{ℕ, zero, suc, ◌+◌, ◌-◌, ◌<◌, ◌≤◌}
 use native.Mathlib.Omega.{arith}
-use native.Mathlib.Numerals.{sub-one}
 use lib.Dec.{leb}
 use borrow.Author.Tests.{le-leb, lt-leb, leb-true}
 use Rattle.words.specs.Layouts.{Held}
 use Rattle.words.specs.Ix.{link_of, on_link}
 use Rattle.words.specs.Nodes.{kid, par, altered, fix}
-use Rattle.words.specs.declared.ix.Link.{Link}
-use Rattle.words.specs.declared.ix.Link.TheVariants.{Slot, Nil}
+use Rattle.std.specs.declared.option.Option.{Option}
+use Rattle.std.specs.declared.option.Option.TheVariants.{Some, None}
 use Rattle.words.specs.declared.node.Field.TheVariants.{Parent}
 use Rattle.words.proofs.Laws.{linked, unlinked, slot_live}
 use Rattle.words.proofs.Nodes.{word_fix}
 use mir.Val.{bool_byte}
 use native.Mathlib.Nat.{add_assoc}
+use native.Mathlib.Numerals.{sub-one}
 use Rattle.tree_edit.specs.Links.{fix_up, leftmost}
 use Rattle.tree_edit.specs.Reach.{Work, differs, changes, both_hulls, up_hulls}
 use Rattle.tree_edit.proofs.Reached.{differs_le}
 
 -- the same laws for a word that was read
-module _ {A : Type 0} (r : A) (n v w : ℕ) (l : Link) (f : ℕ → A) (z : A) (p : w ≡ v) (e : l ≡ link_of n w) where
-  pub read_linked : (s : ℕ) → l ≡ Slot s → r ≡ f s → r ≡ on_link n v f z
+module _ {A : Type 0} (r : A) (n v w : ℕ) (l : Option ℕ) (f : ℕ → A) (z : A) (p : w ≡ v) (e : l ≡ link_of n w) where
+  pub read_linked : (s : ℕ) → l ≡ Some s → r ≡ f s → r ≡ on_link n v f z
   read_linked s q h = rw (← p) (linked r n w s l f z e q h)
 
-  pub read_unlinked : l ≡ Nil → r ≡ z → r ≡ on_link n v f z
+  pub read_unlinked : l ≡ None → r ≡ z → r ≡ on_link n v f z
   read_unlinked q h = rw (← p) (unlinked r n w l f z e q h)
 
 -- and for the hulls worked out behind it
-module _ (x n v w : ℕ) (l : Link) (f : ℕ → List Work) (p : w ≡ v) (e : l ≡ link_of n w) where
-  pub hulls_linked : (s : ℕ) → l ≡ Slot s → x ≡ changes n (f s) → x ≡ changes n (on_link n v f [])
+module _ (x n v w : ℕ) (l : Option ℕ) (f : ℕ → List Work) (p : w ≡ v) (e : l ≡ link_of n w) where
+  pub hulls_linked : (s : ℕ) → l ≡ Some s → x ≡ changes n (f s) → x ≡ changes n (on_link n v f [])
   hulls_linked s q h = h ∙ ap (λ (m : List Work). changes n m) (read_linked (f s) n v w l f [] p e s q refl)
 
-  pub hulls_unlinked : l ≡ Nil → x ≡ 0 → x ≡ changes n (on_link n v f [])
+  pub hulls_unlinked : l ≡ None → x ≡ 0 → x ≡ changes n (on_link n v f [])
   hulls_unlinked q h = h ∙ ap (λ (m : List Work). changes n m) (read_unlinked [] n v w l f [] p e q refl)
 
 -- the slot of a link is its word
-pub slot_is : (n w s : ℕ) (l : Link) → l ≡ link_of n w → l ≡ Slot s → s ≡ w
+pub slot_is : (n w s : ℕ) (l : Option ℕ) → l ≡ link_of n w → l ≡ Some s → s ≡ w
 unfolding on_link
 slot_is n w s l e q = go (leb n w) (linked s n w s l (λ (k : ℕ). k) w e q refl)
   where
@@ -47,7 +47,7 @@ slot_is n w s l e q = go (leb n w) (linked s n w s l (λ (k : ℕ). k) w e q ref
     go true z = z
     go false z = z
 
-pub nil_is : (n w : ℕ) (l : Link) → l ≡ link_of n w → l ≡ Nil → n ≤ w
+pub nil_is : (n w : ℕ) (l : Option ℕ) → l ≡ link_of n w → l ≡ None → n ≤ w
 unfolding on_link
 nil_is n w l e q = go (leb n w) refl (unlinked true n w l (λ (k : ℕ). false) true e q refl)
   where
@@ -56,7 +56,7 @@ nil_is n w l e q = go (leb n w) refl (unlinked true n w l (λ (k : ℕ). false) 
     go false p z = absurd (true≢false z)
 
 -- a slot has room in words that keep their length
-pub room_after : (narrow : Bool) (n w s a b d : ℕ) (l : Link) → l ≡ link_of n w → l ≡ Slot s → Held narrow n a → b ≡ a → d ≡ b → Held narrow (s + 1) d
+pub room_after : (narrow : Bool) (n w s a b d : ℕ) (l : Option ℕ) → l ≡ link_of n w → l ≡ Some s → Held narrow n a → b ≡ a → d ≡ b → Held narrow (s + 1) d
 room_after narrow n w s a b d l e q h i j = let z : s < n = slot_live n w s l e q in omega arith
 
 -- whether a hull changed, as a number
@@ -80,10 +80,9 @@ pub both_words : (n : ℕ) (W X Y : List ℕ) (a b : ℕ) → X ≡ fix n W a �
 both_words n W X Y a b e f = rw (← e) f
 
 -- the walk up
-fix_up_step : (n f : ℕ) (W : List ℕ) (s : ℕ) → 0 < f → s < n → fix_up n f W s ≡ fix_up n (f - 1) (fix n W s) (par W s)
+fix_up_step : (n f : ℕ) (W : List ℕ) (s : ℕ) → s < n → fix_up n (suc f) W s ≡ fix_up n f (fix n W s) (par W s)
 unfolding fix_up on_link
-fix_up_step n zero W s z h = absurd (omega arith)
-fix_up_step n (suc f) W s z h = simp (lt-leb n s h, sub-one)
+fix_up_step n f W s h = simp (lt-leb n s h)
 
 fix_up_out : (n f : ℕ) (W : List ℕ) (s : ℕ) → n ≤ s → fix_up n f W s ≡ W
 unfolding fix_up on_link
@@ -95,11 +94,10 @@ unfolding fix_up
 fix_up_none n zero W s h = refl
 fix_up_none n (suc f) W s h = absurd (omega arith)
 
-up_hulls_step : (n f : ℕ) (W : List ℕ) (s : ℕ) → 0 < f → s < n
-    → changes n (up_hulls n f W s) ≡ differs n W s + changes n (up_hulls n (f - 1) (fix n W s) (par W s))
+up_hulls_step : (n f : ℕ) (W : List ℕ) (s : ℕ) → s < n
+    → changes n (up_hulls n (suc f) W s) ≡ differs n W s + changes n (up_hulls n f (fix n W s) (par W s))
 unfolding up_hulls on_link
-up_hulls_step n zero W s z h = absurd (omega arith)
-up_hulls_step n (suc f) W s z h = simp (lt-leb n s h, sub-one)
+up_hulls_step n f W s h = simp (lt-leb n s h)
 
 up_hulls_out : (n f : ℕ) (W : List ℕ) (s : ℕ) → n ≤ s → up_hulls n f W s ≡ []
 unfolding up_hulls on_link
@@ -112,45 +110,48 @@ up_hulls_none n zero W s h = refl
 up_hulls_none n (suc f) W s h = absurd (omega arith)
 
 -- a hull more fits
-module _ (n : ℕ) (W : List ℕ) (s d k h : ℕ) (e : d ≡ differs n W s) (f : k + h ≤ 32) (z : 0 < h) where
-  pub reach_fits : k + d < 18446744073709551616
-  reach_fits = omega (arith, differs_le n W s)
+module _ (n : ℕ) (W : List ℕ) (s d k i : ℕ) (e : d ≡ differs n W s) (f : k ≤ i) where
+  pub reach_fits : i < 32 → k + d < 18446744073709551616
+  reach_fits z = omega (arith, differs_le n W s)
 
-  pub reach_room : k + d + (h - 1) ≤ 32
+  pub reach_room : k + d ≤ i + 1
   reach_room = omega (arith, differs_le n W s)
 
-pub begin_sum : (x : ℕ) → x ≡ 0 + x
-begin_sum x = omega arith
+-- what is left after i steps of at most m
+pub left_over : (m i : ℕ) → i < m → m - i ≡ suc (m - (i + 1))
+left_over m i h = omega arith
 
-module _ (n f : ℕ) (T W : List ℕ) (w : ℕ) (e : T ≡ fix_up n f W w) where
-  pub up_again : (l : Link) (s : ℕ) (X : List ℕ) (u : ℕ) → l ≡ link_of n w → l ≡ Slot s → X ≡ fix n W s → u ≡ par X s → 0 < f → T ≡ fix_up n (f - 1) X u
-  up_again l s X u q k p g z =
-      let i : s ≡ w = slot_is n w s l q k in
-      let m : u ≡ par W s = g ∙ ap (λ (Y : List ℕ). par Y s) p ∙ word_fix n W s Parent s refl in
-      let y : fix_up n f W s ≡ fix_up n (f - 1) (fix n W s) (par W s) = fix_up_step n f W s z (slot_live n w s l q k) in
-      e ∙ cc (i, m, y, p)
+module _ (n m i : ℕ) (T W : List ℕ) (w : ℕ) (e : T ≡ fix_up n (m - i) W w) where
+  pub up_again : (l : Option ℕ) (s : ℕ) (X : List ℕ) (u : ℕ) → l ≡ link_of n w → l ≡ Some s → X ≡ fix n W s → u ≡ par X s → i < m → T ≡ fix_up n (m - (i + 1)) X u
+  up_again l s X u q k p h z =
+      let j : s ≡ w = slot_is n w s l q k in
+      let x : u ≡ par W s = h ∙ ap (λ (Y : List ℕ). par Y s) p ∙ word_fix n W s Parent s refl in
+      let y : fix_up n (suc (m - (i + 1))) W s ≡ fix_up n (m - (i + 1)) (fix n W s) (par W s) = fix_up_step n (m - (i + 1)) W s (slot_live n w s l q k) in
+      let v : m - i ≡ suc (m - (i + 1)) = left_over m i z in
+      e ∙ cc (j, x, y, p, v)
 
-  -- and how many of the hulls changed: k so far
-  module _ (R k : ℕ) (g : R ≡ k + changes n (up_hulls n f W w)) where
-    pub reach_again : (l : Link) (s : ℕ) (X : List ℕ) (u d : ℕ) → l ≡ link_of n w → l ≡ Slot s → d ≡ differs n W s → X ≡ fix n W s → u ≡ par X s → 0 < f
-        → R ≡ k + d + changes n (up_hulls n (f - 1) X u)
-    reach_again l s X u d q j i p h z =
-        let y : s ≡ w = slot_is n w s l q j in
-        let m : u ≡ par W s = h ∙ ap (λ (Y : List ℕ). par Y s) p ∙ word_fix n W s Parent s refl in
-        let x : changes n (up_hulls n f W s) ≡ differs n W s + changes n (up_hulls n (f - 1) (fix n W s) (par W s)) = up_hulls_step n f W s z (slot_live n w s l q j) in
-        rw (i, p, m) (g ∙ rw (← y, x, add_assoc))
+  pub up_stops : (l : Option ℕ) → l ≡ link_of n w → l ≡ None → W ≡ T
+  up_stops l q k = sym (e ∙ fix_up_out n (m - i) W w (nil_is n w l q k))
 
-    pub reach_stops : (l : Link) → l ≡ link_of n w → l ≡ Nil → k ≡ R
-    reach_stops l q j = let y : changes n (up_hulls n f W w) ≡ 0 = rw (up_hulls_out n f W w (nil_is n w l q j)) in omega arith
+  pub up_ends : m ≤ i → W ≡ T
+  up_ends h = sym (e ∙ fix_up_none n (m - i) W w (omega arith))
 
-    pub reach_ends : f ≤ 0 → k ≡ R
-    reach_ends h = let y : changes n (up_hulls n f W w) ≡ 0 = rw (up_hulls_none n f W w h) in omega arith
+-- and how many of the hulls changed: k so far
+module _ (n m i : ℕ) (W : List ℕ) (w R k : ℕ) (e : R ≡ k + changes n (up_hulls n (m - i) W w)) where
+  pub reach_again : (l : Option ℕ) (s : ℕ) (X : List ℕ) (u d : ℕ) → l ≡ link_of n w → l ≡ Some s → d ≡ differs n W s → X ≡ fix n W s → u ≡ par X s → i < m
+      → R ≡ k + d + changes n (up_hulls n (m - (i + 1)) X u)
+  reach_again l s X u d q j f p h z =
+      let y : s ≡ w = slot_is n w s l q j in
+      let v : u ≡ par W s = h ∙ ap (λ (Y : List ℕ). par Y s) p ∙ word_fix n W s Parent s refl in
+      let x : changes n (up_hulls n (suc (m - (i + 1))) W s) ≡ differs n W s + changes n (up_hulls n (m - (i + 1)) (fix n W s) (par W s)) =
+      up_hulls_step n (m - (i + 1)) W s (slot_live n w s l q j) in
+      rw (f, p, v) (e ∙ rw (← y, left_over m i z, x, add_assoc))
 
-  pub up_stops : (l : Link) → l ≡ link_of n w → l ≡ Nil → W ≡ T
-  up_stops l q k = sym (e ∙ fix_up_out n f W w (nil_is n w l q k))
+  pub reach_stops : (l : Option ℕ) → l ≡ link_of n w → l ≡ None → k ≡ R
+  reach_stops l q h = let y : changes n (up_hulls n (m - i) W w) ≡ 0 = rw (up_hulls_out n (m - i) W w (nil_is n w l q h)) in omega arith
 
-  pub up_ends : f ≤ 0 → W ≡ T
-  up_ends h = sym (e ∙ fix_up_none n f W w h)
+  pub reach_ends : m ≤ i → k ≡ R
+  reach_ends h = let y : changes n (up_hulls n (m - i) W w) ≡ 0 = rw (up_hulls_none n (m - i) W w (omega arith)) in omega arith
 
 -- the leftmost slot
 module _ (n : ℕ) (W : List ℕ) (k : ℕ) where
@@ -159,12 +160,12 @@ module _ (n : ℕ) (W : List ℕ) (k : ℕ) where
   left_low zero e = refl
   left_low (suc h) e = absurd (omega arith)
 
-  pub left_ends : (h w : ℕ) (l : Link) → w ≡ kid W true k → l ≡ link_of n w → l ≡ Nil → k ≡ leftmost n h W k
+  pub left_ends : (h w : ℕ) (l : Option ℕ) → w ≡ kid W true k → l ≡ link_of n w → l ≡ None → k ≡ leftmost n h W k
   unfolding leftmost on_link
   left_ends zero w l e p q = refl
   left_ends (suc h) w l e p q = rw (← e, le-leb n w (nil_is n w l p q))
 
-  pub left_on : (h w s r : ℕ) (l : Link) → (h ≡ 0 → ⊥) → w ≡ kid W true k → l ≡ link_of n w → l ≡ Slot s → r ≡ leftmost n (h - 1) W s → r ≡ leftmost n h W k
+  pub left_on : (h w s r : ℕ) (l : Option ℕ) → (h ≡ 0 → ⊥) → w ≡ kid W true k → l ≡ link_of n w → l ≡ Some s → r ≡ leftmost n (h - 1) W s → r ≡ leftmost n h W k
   unfolding leftmost
   left_on zero w s r l z e p q d = absurd (z refl)
   left_on (suc h) w s r l z e p q d = read_linked r n (kid W true k) w l (λ (x : ℕ). leftmost n h W x) k e p s q (rw (sub-one (suc h)) at d)

@@ -3,25 +3,21 @@
 // the repairs return is here too.
 #![tactic(auto)]
 
-ghost use Rattle.std.specs.Prelude.{◌≡◌, true, ◌+◌, ◌<◌};
+ghost use Rattle.std.specs.Prelude.{◌≡◌, true, List, ℕ, ◌+◌, ◌<◌, ◌≤◌};
 ghost use Rattle.words.specs.Layouts.{as_eight, kid_fits, HoldsIn, HasIn};
 ghost use Rattle.words.specs.Ix.{on_link};
-ghost use Rattle.words.specs.Nodes.{fix};
+ghost use Rattle.words.specs.Nodes.{fix, HoldsBits};
 ghost use Rattle.tree_edit.specs.Links.{adopt, set_child_lem, redirected, remove_child_lem, redirect, replaced, root_after, fix_up, leftmost};
 ghost use Rattle.tree_edit.specs.Rotations.{rotate};
-ghost use Rattle.tree_edit.specs.Reach.{differs, changes, both_hulls, up_hulls};
+ghost use Rattle.tree_edit.specs.Reach.{Work, differs, changes, both_hulls, up_hulls, loop_hulls};
+ghost use Rattle.tree_edit.specs.Rounds as rule;
+ghost use Rattle.tree_edit.specs.Rounds.{again, ending, loop};
+ghost use Rattle.tree_edit.specs.Store.{store};
+ghost use Rattle.tree_links.specs.Answers.{next, reach};
 
-use words::ix::{Link, U};
+use std::ops::ControlFlow;
+use words::ix::{U, slot_at};
 use words::node::{child_of, parent_of, put_child, put_parent, update_subtree_interval};
-
-// What a round of a repair returns: the root, and how many hulls changed in the round.
-#[derive(Clone, Copy)]
-pub enum Next {
-    // The repair is done.
-    Done { root: u64, reach: u64 },
-    // The repair continues at the slot `at`.
-    Again { root: u64, at: u64, reach: u64 },
-}
 
 // The root after a repair, and how many hulls changed in it.
 #[derive(Clone, Copy)]
@@ -30,12 +26,50 @@ pub struct Repaired {
     pub reach: u64,
 }
 
+// Where a repair goes on after a round: the root, the slot, and how many hulls changed in the
+// round.
+#[derive(Clone, Copy)]
+pub struct Onward {
+    pub root: u64,
+    pub at: u64,
+    pub reach: u64,
+}
+
+// What a round of a repair returns: `Break` if the repair is done, else `Continue`.
+pub type Next = ControlFlow<Repaired, Onward>;
+
+// A repair, which is a loop over a round. `round` and `hulls` are the rule of one round: what it
+// comes to, and the hulls that it works out.
+pub trait Rounds {
+    ghost round: { ℕ → List ℕ → List ℕ → ℕ → ℕ → rule.Next };
+
+    ghost hulls: { ℕ → List ℕ → List ℕ → ℕ → List Work };
+
+    // Does one round, at the slot `at`.
+    fn one_round(
+        nodes: &mut [u64],
+        narrow: bool,
+        colours: &mut [u8],
+        count: u64,
+        root: u64,
+        at: u64,
+    ) -> Next
+        requires { HoldsIn narrow nodes.old count × HoldsBits colours.old count × (at < count) }
+        ensures { (next result (as_eight narrow nodes.new) colours.new ≡ round count (as_eight narrow nodes.old) colours.old root at)
+            × (reach result ≡ changes count (hulls count (as_eight narrow nodes.old) colours.old at)) };
+
+    // The repair goes on at a slot, and a round changes at most four hulls.
+    ghost stays: { (n : ℕ) (W C : List ℕ) (r s : ℕ) (X D : List ℕ) (q i : ℕ) → s < n → round n W C r s ≡ again X D q i → i < n };
+
+    ghost few: { (n : ℕ) (W C : List ℕ) (s : ℕ) → changes n (hulls n W C s) ≤ 4 };
+}
+
 // Sets the child's parent link, if `child` is a slot.
 pub fn adopt_child(nodes: &mut [u64], narrow: bool, count: u64, child: u64, parent: u64)
     requires { HoldsIn narrow nodes.old count × (parent < count) }
     ensures { as_eight narrow nodes.new ≡ adopt count (as_eight narrow nodes.old) child parent }
 {
-    let Link::Slot(s) = Link::new(child, count) else {
+    let Some(s) = slot_at(child, count) else {
         return;
     };
     put_parent(nodes, narrow, s, parent);
@@ -63,7 +97,7 @@ pub fn replace_child_at(
     requires { HoldsIn narrow nodes.old count × (kid_fits narrow new ≡ true) }
     ensures { as_eight narrow nodes.new ≡ redirect count (as_eight narrow nodes.old) parent old new }
 {
-    let Link::Slot(s) = Link::new(parent, count) else {
+    let Some(s) = slot_at(parent, count) else {
         return;
     };
     replace_child(nodes, narrow, s, old, new);
@@ -99,7 +133,7 @@ pub fn leftmost_from(nodes: &[u64], narrow: bool, count: u64, k: u64, height: u6
     if height == 0 {
         return k;
     }
-    let Link::Slot(left) = Link::new(child_of(nodes, narrow, k, true), count) else {
+    let Some(left) = slot_at(child_of(nodes, narrow, k, true), count) else {
         return k;
     };
     leftmost_from(nodes, narrow, count, left, height - 1)
@@ -110,7 +144,7 @@ pub fn leftmost_from(nodes: &[u64], narrow: bool, count: u64, k: u64, height: u6
 fn root_below(count: u64, root: u64, parent: u64, new: u64) -> u64
     ensures { result ≡ on_link count parent (λ s. root) new }
 {
-    let Link::Slot(_) = Link::new(parent, count) else {
+    let Some(_) = slot_at(parent, count) else {
         return new;
     };
     root
@@ -185,14 +219,47 @@ pub fn fix_intervals_up(nodes: &mut [u64], narrow: bool, count: u64, from: u64) 
 {
     let mut at = from;
     let mut reach: u64 = 0;
-    let mut height: u64 = 32;
-    while height > 0 {
-        let Link::Slot(ix) = Link::new(at, count) else {
+    for _ in 0..32_u64 {
+        let Some(ix) = slot_at(at, count) else {
             return reach;
         };
         reach += rework_hull(nodes, narrow, count, ix);
         at = parent_of(nodes, narrow, ix);
-        height -= 1;
     }
     reach
+}
+
+// Repairs the tree from the slot `from`, in at most `rounds` rounds.
+pub fn repair<R: Rounds>(
+    nodes: &mut [u64],
+    narrow: bool,
+    colours: &mut [u8],
+    count: u64,
+    root: u64,
+    from: u64,
+    rounds: u64,
+) -> Repaired
+    requires { HoldsIn narrow nodes.old count × HoldsBits colours.old count × (from < count) × (rounds ≤ 36) }
+    ensures { (store (as_eight narrow nodes.new) colours.new result.root ≡ ending (loop (R.round count) rounds (as_eight narrow nodes.old) colours.old root from))
+        × (result.reach ≡ changes count (loop_hulls (R.round count) (R.hulls count) rounds (as_eight narrow nodes.old) colours.old root from)) }
+{
+    let mut at = from;
+    let mut top = root;
+    let mut reach = 0;
+    for _ in 0..rounds {
+        match R::one_round(nodes, narrow, colours, count, top, at) {
+            ControlFlow::Break(last) => {
+                return Repaired {
+                    root: last.root,
+                    reach: reach + last.reach,
+                };
+            }
+            ControlFlow::Continue(next) => {
+                top = next.root;
+                at = next.at;
+                reach += next.reach;
+            }
+        }
+    }
+    Repaired { root: top, reach }
 }

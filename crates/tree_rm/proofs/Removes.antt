@@ -9,8 +9,8 @@ use borrow.Author.Tests.{lt-leb, leb-false, eq-eqb, ne_eqb}
 use Rattle.words.specs.Ix.{link_of, on_link}
 use Rattle.words.specs.Nodes.{value, kid, par, hull, entry, put_node_lem, swap}
 use Rattle.words.specs.declared.interval.Interval.{Interval}
-use Rattle.words.specs.declared.ix.Link.{Link}
-use Rattle.words.specs.declared.ix.Link.TheVariants.{Slot, Nil}
+use Rattle.std.specs.declared.option.Option.{Option}
+use Rattle.std.specs.declared.option.Option.TheVariants.{Some, None}
 use Rattle.words.specs.declared.node.Entry.{Entry}
 use Rattle.words.proofs.Laws.{unlinked, slot_live}
 use Rattle.bitvec.specs.Colours.{red, paint}
@@ -48,17 +48,17 @@ unfolding child
 child_is W x l r m e f q = rw (← e, ← f) q
 
 -- a slot is cut off below the link word g
-pub cut_is : (n g w s v : ℕ) (W X Y : List ℕ) (l : Link) → w ≡ g → l ≡ link_of n w → l ≡ Slot s → X ≡ remove_child_lem W s v → Y ≡ fix_up n 32 X s → Y ≡ cut_words n W g v
+pub cut_is : (n g w s v : ℕ) (W X Y : List ℕ) (l : Option ℕ) → w ≡ g → l ≡ link_of n w → l ≡ Some s → X ≡ remove_child_lem W s v → Y ≡ fix_up n 32 X s → Y ≡ cut_words n W g v
 unfolding cut_words_with
 cut_is n g w s v W X Y l e p q f h =
     read_linked Y n g w l (λ (x : ℕ). fix_up n 32 (remove_child_lem W x v) x) W e p s q (h ∙ ap (λ (Z : List ℕ). fix_up n 32 Z s) f)
 
-module _ (n : ℕ) (W : List ℕ) (x y : ℕ) (l : Link) (e : l ≡ link_of n y) where
-  pub leaf_root : (r q : ℕ) → l ≡ Nil → q ≡ cut_root n r (par W x) → q ≡ cut_root n r (above n W x y)
+module _ (n : ℕ) (W : List ℕ) (x y : ℕ) (l : Option ℕ) (e : l ≡ link_of n y) where
+  pub leaf_root : (r q : ℕ) → l ≡ None → q ≡ cut_root n r (par W x) → q ≡ cut_root n r (above n W x y)
   unfolding above
   leaf_root r q z d = rw (← unlinked (par W x) n y l (λ (s : ℕ). x) (par W x) e z refl) d
 
-  pub leaf_words : (X : List ℕ) → l ≡ Nil → X ≡ cut_words n W (par W x) x → X ≡ cut_words n (handed n W x y) (above n W x y) (emptied n x y)
+  pub leaf_words : (X : List ℕ) → l ≡ None → X ≡ cut_words n W (par W x) x → X ≡ cut_words n (handed n W x y) (above n W x y) (emptied n x y)
   unfolding above handed emptied
   leaf_words X z d =
       rw (
@@ -68,11 +68,11 @@ module _ (n : ℕ) (W : List ℕ) (x y : ℕ) (l : Link) (e : l ≡ link_of n y)
       )
       d
 
-  pub child_root : (s r : ℕ) → l ≡ Slot s → x < n → r ≡ cut_root n r (above n W x y)
+  pub child_root : (s r : ℕ) → l ≡ Some s → x < n → r ≡ cut_root n r (above n W x y)
   unfolding above cut_root on_link
   child_root s r z h = rw (lt-leb n y (rw (slot_is n y s l e z) at (slot_live n y s l e z)), lt-leb n x h)
 
-  pub child_words : (s : ℕ) (X Y Z : List ℕ) → l ≡ Slot s → x < n → X ≡ swap W x s → Y ≡ remove_child_lem X x s → Z ≡ fix_up n 32 Y x
+  pub child_words : (s : ℕ) (X Y Z : List ℕ) → l ≡ Some s → x < n → X ≡ swap W x s → Y ≡ remove_child_lem X x s → Z ≡ fix_up n 32 Y x
       → Z ≡ cut_words n (handed n W x y) (above n W x y) (emptied n x y)
   unfolding above handed emptied cut_words_with on_link
   child_words s X Y Z z h f g d =
@@ -81,14 +81,14 @@ module _ (n : ℕ) (W : List ℕ) (x y : ℕ) (l : Link) (e : l ≡ link_of n y)
       rw (lt-leb n y k, lt-leb n x h) (cc)
 
 -- how many hulls change
-pub cut_changes : (n g w s v : ℕ) (W X : List ℕ) (l : Link) (k : ℕ) → w ≡ g → l ≡ link_of n w → l ≡ Slot s → X ≡ remove_child_lem W s v → k ≡ changes n (up_hulls n 32 X s)
+pub cut_changes : (n g w s v : ℕ) (W X : List ℕ) (l : Option ℕ) (k : ℕ) → w ≡ g → l ≡ link_of n w → l ≡ Some s → X ≡ remove_child_lem W s v → k ≡ changes n (up_hulls n 32 X s)
     → k ≡ changes n (cut_hulls n W g v)
 unfolding cut_hulls
 cut_changes n g w s v W X l k e p q f h =
     hulls_linked k n g w l (λ (x : ℕ). up_hulls n 32 (remove_child_lem W x v) x) e p s q (h ∙ ap (λ (Z : List ℕ). changes n (up_hulls n 32 Z s)) f)
 
-module _ (n : ℕ) (W : List ℕ) (x y : ℕ) (l : Link) (e : l ≡ link_of n y) where
-  pub leaf_changes : (k : ℕ) → l ≡ Nil → k ≡ changes n (cut_hulls n W (par W x) x) → k ≡ changes n (cut_hulls n (handed n W x y) (above n W x y) (emptied n x y))
+module _ (n : ℕ) (W : List ℕ) (x y : ℕ) (l : Option ℕ) (e : l ≡ link_of n y) where
+  pub leaf_changes : (k : ℕ) → l ≡ None → k ≡ changes n (cut_hulls n W (par W x) x) → k ≡ changes n (cut_hulls n (handed n W x y) (above n W x y) (emptied n x y))
   unfolding above handed emptied
   leaf_changes k z d =
       rw (
@@ -98,7 +98,7 @@ module _ (n : ℕ) (W : List ℕ) (x y : ℕ) (l : Link) (e : l ≡ link_of n y)
       )
       d
 
-  pub child_changes : (s : ℕ) (X Y : List ℕ) (k : ℕ) → l ≡ Slot s → x < n → X ≡ swap W x s → Y ≡ remove_child_lem X x s → k ≡ changes n (up_hulls n 32 Y x)
+  pub child_changes : (s : ℕ) (X Y : List ℕ) (k : ℕ) → l ≡ Some s → x < n → X ≡ swap W x s → Y ≡ remove_child_lem X x s → k ≡ changes n (up_hulls n 32 Y x)
       → k ≡ changes n (cut_hulls n (handed n W x y) (above n W x y) (emptied n x y))
   unfolding above handed emptied cut_hulls on_link
   child_changes s X Y k z h f g d =

@@ -13,8 +13,8 @@ use bitvec::colours::copy_colour;
 use tree_links::{adopt_child, fix_intervals_up, leftmost_from, remove_child, replace_child_at};
 use tree_rm_pairs::{after_move, moved_pairs};
 use tree_rm_repair::restructure_rm;
-use words::interval::{Interval, smaller};
-use words::ix::{Link, U};
+use words::interval::Interval;
+use words::ix::{U, slot_at};
 use words::node::{Entry, child_of, entry_of, hull_at, parent_of, put_node, swap_with, value_of};
 use words::pair::Pairs;
 
@@ -131,10 +131,7 @@ fn least_child(nodes: &[u64], narrow: bool, rm: u64) -> u64
     requires { HasIn narrow nodes.now rm }
     ensures { result ≡ child (as_eight narrow nodes.now) rm }
 {
-    smaller(
-        child_of(nodes, narrow, rm, true),
-        child_of(nodes, narrow, rm, false),
-    )
+    child_of(nodes, narrow, rm, true).min(child_of(nodes, narrow, rm, false))
 }
 
 // The slot that is vacated, the root, and how many hulls changed. A hull is the least interval that
@@ -152,7 +149,7 @@ fn cut_leaf(nodes: &mut [u64], narrow: bool, count: u64, root: u64, rm: u64) -> 
     ensures { (result.slot ≡ rm) × (result.root ≡ cut_root count root (par (as_eight narrow nodes.old) rm)) × (as_eight narrow nodes.new ≡ cut_words count (as_eight narrow nodes.old) (par (as_eight narrow nodes.old) rm) rm)
         × (result.reach ≡ changes count (cut_hulls count (as_eight narrow nodes.old) (par (as_eight narrow nodes.old) rm) rm)) }
 {
-    let Link::Slot(parent_ix) = Link::new(parent_of(nodes, narrow, rm), count) else {
+    let Some(parent_ix) = slot_at(parent_of(nodes, narrow, rm), count) else {
         return Cut {
             slot: rm,
             root: U,
@@ -175,7 +172,7 @@ fn cut_off(nodes: &mut [u64], narrow: bool, count: u64, root: u64, rm: u64, chil
     ensures { (result.slot ≡ emptied count rm child) × (result.slot < count) × (result.root ≡ cut_root count root (above count (as_eight narrow nodes.old) rm child)) × (as_eight narrow nodes.new ≡ cut_words count (handed count (as_eight narrow nodes.old) rm child) (above count (as_eight narrow nodes.old) rm child) (emptied count rm child))
         × (result.reach ≡ changes count (cut_hulls count (handed count (as_eight narrow nodes.old) rm child) (above count (as_eight narrow nodes.old) rm child) (emptied count rm child))) }
 {
-    let Link::Slot(child_ix) = Link::new(child, count) else {
+    let Some(child_ix) = slot_at(child, count) else {
         return cut_leaf(nodes, narrow, count, root, rm);
     };
     swap_nodes(nodes, narrow, rm, child_ix);

@@ -4,7 +4,7 @@
 ghost use Rattle.std.specs.Prelude.{◌≡◌, cond, ◌<◌};
 ghost use Rattle.tree_rm_rule.specs.Pairs.{none, moved_to, emptied, home, named, lower, upper, by_old_slot, moved};
 
-use words::ix::{Link, U};
+use words::ix::{U, slot_at};
 use words::pair::{Pair, Pairs};
 
 // Returns the slot of the entry that was in `slot`, after the entry of `from` moved to `to`.
@@ -18,7 +18,7 @@ pub fn after_move(from: u64, to: u64, slot: u64) -> u64
 fn emptied_slot(count: u64, rm: u64, child: u64) -> u64
     ensures { result ≡ emptied count rm child }
 {
-    let Link::Slot(child_ix) = Link::new(child, count) else {
+    let Some(child_ix) = slot_at(child, count) else {
         return rm;
     };
     child_ix

@@ -2,13 +2,12 @@
 use mathlib.Core.Path.{◌≡◌, refl, sym, ap, ◌∙◌}
 use mathlib.Core.Bool.{Bool, true, false, cond, not, ◌&&◌, not-not}
 use mathlib.Core.List.{List}
-use Prim.Native.Nat.{ℕ, ◌<◌, ◌≤◌}
-use native.Mathlib.Omega.{arith}
+use Prim.Native.Nat.{ℕ, ◌<◌}
 use lib.Dec.{eqb}
 use Rattle.words.specs.Ix.{link_of}
 use Rattle.words.specs.Nodes.{kid, par, fix}
-use Rattle.words.specs.declared.ix.Link.{Link}
-use Rattle.words.specs.declared.ix.Link.TheVariants.{Slot}
+use Rattle.std.specs.declared.option.Option.{Option}
+use Rattle.std.specs.declared.option.Option.TheVariants.{Some}
 use Rattle.bitvec.specs.Colours.{red, red_at, paint, paint_at}
 use Rattle.tree_edit.specs.Links.{root_after, replaced, set_child_lem}
 use Rattle.tree_edit.specs.Rotations.{rotate, rotate_4, rotate_2}
@@ -21,8 +20,7 @@ use Rattle.tree_rm_repair.specs.declared.Case as K
 use Rattle.tree_rm_repair.specs.declared.Case.TheVariants as ks
 use Rattle.tree_edit.specs.Reach.{changes, both_hulls}
 use Rattle.tree_rm_rule.specs.Reach.{act_hulls, round_of_hulls, round_at_hulls, round_hulls, repair_hulls, restructure_hulls}
-use Rattle.tree_rm_rule.proofs.Reached.{round_le}
-use Rattle.tree_links.proofs.Loops.{link_stays, at_side, side_changes}
+use Rattle.tree_links.proofs.Loops.{at_side, side_changes}
 use Rattle.tree_edit.proofs.Colours.{red_slot, red_child}
 use Rattle.tree_rm_rule.proofs.RepairInPlace.{four_close}
 use Rattle.tree_links.proofs.LinkLaws.{read_linked, hulls_linked}
@@ -119,7 +117,7 @@ unfolding round_of
 round_is n W C r ix P b S c d k N e f g h = rw (← e, ← f, ← g) h
 
 -- the sibling S, and the links c and d of its children
-module _ (n : ℕ) (W C : List ℕ) (P : ℕ) (b : Bool) (w S c d : ℕ) (l : Link) (e : w ≡ kid W (not b) P) (q : l ≡ link_of n w) (z : l ≡ Slot S)
+module _ (n : ℕ) (W C : List ℕ) (P : ℕ) (b : Bool) (w S c d : ℕ) (l : Option ℕ) (e : w ≡ kid W (not b) P) (q : l ≡ link_of n w) (z : l ≡ Some S)
     (f : c ≡ kid W b S) (g : d ≡ kid W (not b) S) (k : K.Case) (i : case_of k ≡ choose (red C P) (red C S) (red_at n C c) (red_at n C d)) where
   pub at_sibling : (r ix : ℕ) (N : Next) → N ≡ act n (case_of k) W C r ix b P S c d → N ≡ round_at_lem n W C r ix P b
   unfolding round_at_lem
@@ -131,39 +129,15 @@ module _ (n : ℕ) (W C : List ℕ) (P : ℕ) (b : Bool) (w S c d : ℕ) (l : Li
   sibling_changes x h =
       hulls_linked x n (kid W (not b) P) w l (λ (S : ℕ). round_of_hulls n W C P b S) e q S z (round_changes n W C P b S c d k x f g i h)
 
-pub parent_changes : (n : ℕ) (W C : List ℕ) (ix x w p t : ℕ) (l : Link) → w ≡ par W ix → l ≡ link_of n w → l ≡ Slot p → t ≡ kid W true p
+pub parent_changes : (n : ℕ) (W C : List ℕ) (ix x w p t : ℕ) (l : Option ℕ) → w ≡ par W ix → l ≡ link_of n w → l ≡ Some p → t ≡ kid W true p
     → x ≡ changes n (round_at_hulls n W C p (eqb t ix)) → x ≡ changes n (round_hulls n W C ix)
 unfolding round_hulls
 parent_changes n W C ix x w p t l e q k f h = side_changes (λ (P : ℕ) (b : Bool). round_at_hulls n W C P b) n W ix x w p t l e q k f h
 
-pub at_parent : (n : ℕ) (W C : List ℕ) (r ix : ℕ) (N : Next) (w p x : ℕ) (l : Link) → w ≡ par W ix → l ≡ link_of n w → l ≡ Slot p
+pub at_parent : (n : ℕ) (W C : List ℕ) (r ix : ℕ) (N : Next) (w p x : ℕ) (l : Option ℕ) → w ≡ par W ix → l ≡ link_of n w → l ≡ Some p
     → x ≡ kid W true p → N ≡ round_at_lem n W C r ix p (eqb x ix) → N ≡ round n W C r ix
 unfolding round
 at_parent n W C r ix = at_side (λ (P : ℕ) (b : Bool). round_at_lem n W C r ix P b) (done W C r) n W ix
-
--- the loop stands at a slot
-act_stays : (n : ℕ) (k : Case) (W C : List ℕ) (r ix : ℕ) (b : Bool) (P S c d : ℕ) (X D : List ℕ) (q i : ℕ) → ix < n → P < n
-    → act n k W C r ix b P S c d ≡ again X D q i → i < n
-act_stays n one W C r ix b P S c d X D q i h l e = let z : P ≡ i = cc in omega arith
-act_stays n two W C r ix b P S c d X D q i h l e = let z : ix ≡ i = cc in omega arith
-act_stays n three W C r ix b P S c d X D q i h l e = let z : ◌≡◌ {A = ℕ} 0 1 = cc in absurd (omega arith)
-act_stays n four W C r ix b P S c d X D q i h l e = let z : ix ≡ i = cc in omega arith
-act_stays n five W C r ix b P S c d X D q i h l e = let z : ◌≡◌ {A = ℕ} 0 1 = cc in absurd (omega arith)
-
-pub round_stays : (n : ℕ) (W C : List ℕ) (r ix : ℕ) (X D : List ℕ) (q i : ℕ) → ix < n → round n W C r ix ≡ again X D q i → i < n
-unfolding round round_at_lem round_of
-round_stays n W C r ix X D q i h e =
-    link_stays n (par W ix) (λ (P : ℕ). round_at_lem n W C r ix P (eqb (kid W true P) ix)) W C r X D q i
-    (λ P l z. link_stays n (kid W (not (eqb (kid W true P) ix)) P) (λ (S : ℕ). round_of n W C r ix P (eqb (kid W true P) ix) S) W C r X D q i
-    (λ S m y. at_round P (eqb (kid W true P) ix) S l y) z)
-    e
-  where
-    at_round : (P : ℕ) (b : Bool) (S : ℕ) → P < n → round_of n W C r ix P b S ≡ again X D q i → i < n
-    at_round P b S l z =
-        act_stays n (choose (red C P) (red C S) (red_at n C (kid W b S)) (red_at n C (kid W (not b) S))) W C r ix b P S (kid W b S) (kid W (not b) S) X D q i h l z
-
-pub most : (n : ℕ) (W C : List ℕ) (ix : ℕ) → changes n (round_hulls n W C ix) ≤ 4
-most n W C ix = omega (arith, round_le n W C ix)
 
 -- before a slot is vacated
 module _ (n : ℕ) (W C : List ℕ) (r x y : ℕ) (v : Bool) (e : v ≡ red C x) where

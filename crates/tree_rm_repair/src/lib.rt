@@ -17,12 +17,16 @@ ghost use Rattle.tree_links.specs.Answers.{next, reach};
 ghost use Rattle.tree_edit.specs.Reach.{changes};
 ghost use Rattle.tree_rm_rule.specs.Reach.{act_hulls, round_at_hulls, round_hulls, repair_hulls, restructure_hulls};
 ghost use Rattle.words.specs.Nodes.{HoldsBits};
+ghost use Rattle.tree_rm_rule.proofs.Stays.{round_stays, most};
 
 use bitvec::colours::{
     copy_colour, is_black, is_black_or_nil, is_red, set_black, set_black_at, set_red,
 };
-use tree_links::{Next, Repaired, replace_children, rework_both, rotate_up, set_child};
-use words::ix::Link;
+use std::ops::ControlFlow;
+use tree_links::{
+    Next, Onward, Repaired, Rounds, repair, replace_children, rework_both, rotate_up, set_child,
+};
+use words::ix::slot_at;
 use words::node::{child_of, parent_of};
 
 #[derive(Clone, Copy)]
@@ -121,11 +125,11 @@ fn case_two(
     set_red(colours, kin.parent);
     set_black(colours, kin.sibling);
     let top = rotate_two(nodes, narrow, count, root, kin);
-    Next::Again {
+    ControlFlow::Continue(Onward {
         root: top,
         at: ix,
         reach: 0,
-    }
+    })
 }
 
 fn case_four(
@@ -144,11 +148,11 @@ fn case_four(
     set_red(colours, kin.sibling);
     rotate_four(nodes, narrow, count, kin);
     let changed = rework_both(nodes, narrow, count, kin.sibling, kin.close);
-    Next::Again {
+    ControlFlow::Continue(Onward {
         root,
         at: ix,
         reach: changed,
-    }
+    })
 }
 
 fn case_five(
@@ -174,10 +178,10 @@ fn case_five(
         kin.parent,
         kin.sibling,
     );
-    Next::Done {
+    ControlFlow::Break(Repaired {
         root: top,
         reach: 0,
-    }
+    })
 }
 
 // Does what the case asks for, for the node ix with its relatives.
@@ -198,17 +202,17 @@ fn act_on(
     match case {
         Case::One => {
             set_red(colours, kin.sibling);
-            Next::Again {
+            ControlFlow::Continue(Onward {
                 root,
                 at: kin.parent,
                 reach: 0,
-            }
+            })
         }
         Case::Two => case_two(nodes, narrow, colours, count, root, ix, kin),
         Case::Three => {
             set_black(colours, kin.parent);
             set_red(colours, kin.sibling);
-            Next::Done { root, reach: 0 }
+            ControlFlow::Break(Repaired { root, reach: 0 })
         }
         Case::Four => case_four(nodes, narrow, colours, count, root, ix, kin),
         Case::Five => case_five(nodes, narrow, colours, count, root, kin),
@@ -231,8 +235,8 @@ fn round_at(
     ensures { (next result (as_eight narrow nodes.new) colours.new ≡ round_at_lem count (as_eight narrow nodes.old) colours.old root ix parent left)
         × (reach result ≡ changes count (round_at_hulls count (as_eight narrow nodes.old) colours.old parent left)) }
 {
-    let Link::Slot(sibling) = Link::new(child_of(nodes, narrow, parent, !left), count) else {
-        return Next::Done { root, reach: 0 };
+    let Some(sibling) = slot_at(child_of(nodes, narrow, parent, !left), count) else {
+        return ControlFlow::Break(Repaired { root, reach: 0 });
     };
     let close = child_of(nodes, narrow, sibling, left);
     let distant = child_of(nodes, narrow, sibling, !left);
@@ -247,25 +251,33 @@ fn round_at(
     act_on(nodes, narrow, colours, count, root, ix, kin, case)
 }
 
-// Does one round of the loop, at the node ix.
-fn one_round(
-    nodes: &mut [u64],
-    narrow: bool,
-    colours: &mut [u8],
-    count: u64,
-    root: u64,
-    ix: u64,
-) -> Next
-    requires { HoldsIn narrow nodes.old count × HoldsBits colours.old count × (ix < count) }
-    ensures { (next result (as_eight narrow nodes.new) colours.new ≡ round count (as_eight narrow nodes.old) colours.old root ix)
-        × (reach result ≡ changes count (round_hulls count (as_eight narrow nodes.old) colours.old ix)) }
-{
-    // Case (terminal): Node is the root of the tree.
-    let Link::Slot(parent) = Link::new(parent_of(nodes, narrow, ix), count) else {
-        return Next::Done { root, reach: 0 };
-    };
-    let left = child_of(nodes, narrow, parent, true) == ix;
-    round_at(nodes, narrow, colours, count, root, ix, parent, left)
+// The repair before a removal, as a loop of rounds.
+struct Removal;
+
+impl Rounds for Removal {
+    ghost round = { round };
+
+    ghost hulls = { round_hulls };
+
+    fn one_round(
+        nodes: &mut [u64],
+        narrow: bool,
+        colours: &mut [u8],
+        count: u64,
+        root: u64,
+        at: u64,
+    ) -> Next {
+        // Case (terminal): Node is the root of the tree.
+        let Some(parent) = slot_at(parent_of(nodes, narrow, at), count) else {
+            return ControlFlow::Break(Repaired { root, reach: 0 });
+        };
+        let left = child_of(nodes, narrow, parent, true) == at;
+        round_at(nodes, narrow, colours, count, root, at, parent, left)
+    }
+
+    ghost stays = { round_stays };
+
+    ghost few = { most };
 }
 
 // Restructures the tree before ix is removed. In a store that passes the check 36 rounds are
@@ -282,31 +294,7 @@ fn restructure_rm_complex_cases(
     ensures { (store (as_eight narrow nodes.new) colours.new result.root ≡ ending (repair count 36 (as_eight narrow nodes.old) colours.old root ix))
         × (result.reach ≡ changes count (repair_hulls count 36 (as_eight narrow nodes.old) colours.old root ix)) }
 {
-    let mut at = ix;
-    let mut top = root;
-    let mut reach: u64 = 0;
-    let mut rounds: u64 = 36;
-    while rounds > 0 {
-        match one_round(nodes, narrow, colours, count, top, at) {
-            Next::Done { root: r, reach: k } => {
-                return Repaired {
-                    root: r,
-                    reach: reach + k,
-                };
-            }
-            Next::Again {
-                root: r,
-                at: i,
-                reach: k,
-            } => {
-                top = r;
-                at = i;
-                reach += k;
-                rounds -= 1;
-            }
-        }
-    }
-    Repaired { root: top, reach }
+    repair::<Removal>(nodes, narrow, colours, count, root, ix, 36)
 }
 
 // Restructures the tree before ix, with the child link `child`, is removed.

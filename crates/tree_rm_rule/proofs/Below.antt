@@ -9,7 +9,7 @@ use native.Mathlib.Omega.{arith}
 use lib.Dec.{eqb, leb}
 use borrow.Author.Tests.{leb-false}
 use Rattle.words.specs.Ix.{U}
-use Rattle.words.specs.Nodes.{value, kid, par, hull, entry, put_entry_lem, swap, HoldsBits}
+use Rattle.words.specs.Nodes.{kid, par, hull, entry, put_entry_lem, swap, HoldsBits}
 use Rattle.words.specs.declared.node.Field.TheVariants.{Start, End, Value, HullStart, HullEnd, Child, Parent}
 use Rattle.bitvec.specs.Colours.{red, red_at, paint, paint_at}
 use Rattle.tree_edit.specs.Links.{redirected, remove_child_lem, fix_up, leftmost}

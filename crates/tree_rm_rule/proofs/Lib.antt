@@ -22,6 +22,7 @@ pub mod Unique
 pub mod RepairInPlace
 pub mod Inside
 pub mod Reached
+pub mod Stays
 pub mod Examples
 pub mod Sequence
 pub mod Below

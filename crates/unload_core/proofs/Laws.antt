@@ -28,8 +28,8 @@ module _ (q : Span) (W C : List ℕ) (n r : ℕ) where
   pub over_store : (S : Store) → S ≡ rest.store → n ≤ 0 → store W C r ≡ S
   over_store S e h = sym (e ∙ ap (λ (R : Sweep). R.store) (over h))
 
-  pub over_count : (m : ℕ) → m ≡ rest.count → n ≤ 0 → n ≡ m
-  over_count m e h = sym (e ∙ ap (λ (R : Sweep). R.count) (over h))
+  pub over_count : (m : ℕ) → m ≡ rest.count → n ≤ 0 → 0 ≡ m
+  over_count m e h = let z : n ≡ 0 = omega arith in sym (e ∙ ap (λ (R : Sweep). R.count) (over h) ∙ z)
 
   -- the search in it
   module _ (s : ℕ) (f : s ≡ first_in q W n r) where

@@ -50,9 +50,9 @@ pub fn unload_from(
         ≡ (unload_rule_lem (as_eight narrow nodes.old) colours.old count root range).store)
         × (result.count ≡ (unload_rule_lem (as_eight narrow nodes.old) colours.old count root range).count) }
 {
-    let mut left = count;
     let mut at = root;
-    while left > 0 {
+    for gone in 0..count {
+        let left = count - gone;
         let slot = first_met(nodes, narrow, left, at, range);
         if left <= slot {
             return Left {
@@ -61,10 +61,6 @@ pub fn unload_from(
             };
         }
         at = without(nodes, narrow, colours, left, at, slot);
-        left -= 1;
     }
-    Left {
-        count: left,
-        root: at,
-    }
+    Left { count: 0, root: at }
 }

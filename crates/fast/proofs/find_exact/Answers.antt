@@ -6,8 +6,8 @@ use Rattle.fast.proofs.find_exact.Goals as goal
 pub returns-in_default : goal.returns-in_default
 returns-in_default c = search exact_none
 
-pub exact_down-requires : goal.exact_down-requires
-exact_down-requires c = (omega arith, search slot_live, (omega arith, omega arith))
+pub find_down-requires : goal.find_down-requires
+find_down-requires c = (omega arith, search slot_live, (omega arith, omega arith))
 
 pub returns : goal.returns
 returns c = search exact_done

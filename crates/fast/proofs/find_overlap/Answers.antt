@@ -20,8 +20,8 @@ least_end-requires c = search has_end
 pub last_start-requires : goal.last_start-requires
 last_start-requires c = search has_start
 
-pub overlap_down-requires : goal.overlap_down-requires
-overlap_down-requires c = (omega arith, search slot_live, (omega arith, omega arith))
+pub find_down-requires : goal.find_down-requires
+find_down-requires c = (omega arith, search slot_live, (omega arith, omega arith))
 
 pub returns : goal.returns
 returns c = let args = c.args in

@@ -1,13 +1,10 @@
 use mathlib.Core.Path.{◌≡◌}
+use Prim.Native.Nat.{◌-◌}
 use Rattle.words.specs.Layouts.{as_eight}
 use Rattle.words.specs.Intervals.{passed}
 use Rattle.first_rule.specs.First.{first_past_lem}
 use Rattle.first.proofs.first_past.Given as goal
 
-abbrev pub invariant-loop-height : goal.invariant-loop-height
-invariant-loop-height l =
-    first_past_lem (passed l.lo) (as_eight l.narrow l.nodes) l.count l.initial.height l.initial.at ≡ first_past_lem (passed l.lo) (as_eight l.narrow l.nodes) l.count l.height l.at
-
-abbrev pub decreases-loop-height : goal.decreases-loop-height
-decreases-loop-height l =
-    l.height
+abbrev pub invariant-loop : goal.invariant-loop
+invariant-loop l =
+    first_past_lem (passed l.lo) (as_eight l.narrow l.nodes) l.count 32 l.root ≡ first_past_lem (passed l.lo) (as_eight l.narrow l.nodes) l.count (32 - l.counter) l.at

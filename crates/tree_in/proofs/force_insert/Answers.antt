@@ -1,5 +1,4 @@
 use Rattle.tree_in.proofs.Inserts.{insert_is, insert_changes}
-use borrow.Author.Rules.{rules}
 use Rattle.tree_in.proofs.force_insert.Goals as goal
 
 pub returns : goal.returns

@@ -1,7 +1,6 @@
 use Rattle.tree_in.proofs.Inserts.{hung_words_lem, room_above, room_then, next_kid}
 use Rattle.tree_in_rule.specs.Insert.{hung_root, hung_words}
 use Rattle.words.proofs.Laws.{linked, unlinked}
-use borrow.Author.Rules.{rules}
 use Rattle.tree_in.proofs.hang_node.Goals as goal
 
 pub returns-in_default : goal.returns-in_default

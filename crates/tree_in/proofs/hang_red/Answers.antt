@@ -1,5 +1,4 @@
 use Rattle.tree_in.proofs.Inserts.{hung_is}
-use borrow.Author.Rules.{rules}
 use Rattle.tree_in.proofs.hang_red.Goals as goal
 
 pub returns : goal.returns

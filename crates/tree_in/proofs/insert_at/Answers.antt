@@ -1,6 +1,5 @@
 use Rattle.tree_in.proofs.Inserts.{insert_at_is, insert_at_changes, repair_few, walk_few}
 use native.Mathlib.Omega.{arith}
-use borrow.Author.Rules.{rules}
 use Rattle.tree_in.proofs.insert_at.Goals as goal
 
 pub overflow_add-result : goal.overflow_add-result

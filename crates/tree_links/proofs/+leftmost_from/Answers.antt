@@ -1,5 +1,4 @@
 use native.Mathlib.Omega.{arith}
-use Rattle.words.proofs.Laws.{slot_live}
 use Rattle.tree_links.proofs.LinkLaws.{left_ends, left_low, left_on}
 use Rattle.tree_links.proofs.+leftmost_from.Goals as goal
 

@@ -1,7 +1,6 @@
 use Rattle.tree_edit.specs.Links.{adopt}
 use Rattle.words.proofs.Laws.{linked, slot_room, unlinked}
 use Rattle.words.proofs.Layouts.{live_up}
-use borrow.Author.Rules.{rules}
 use Rattle.tree_links.proofs.adopt_child.Goals as goal
 
 pub returns-in_default : goal.returns-in_default

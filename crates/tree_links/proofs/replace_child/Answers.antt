@@ -1,5 +1,4 @@
 use Rattle.tree_edit.specs.Links.{redirected}
-use borrow.Author.Rules.{rules}
 use Rattle.tree_links.proofs.replace_child.Goals as goal
 
 pub returns : goal.returns

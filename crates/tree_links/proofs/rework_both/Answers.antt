@@ -1,5 +1,4 @@
 use Rattle.tree_links.proofs.LinkLaws.{both_changes, both_fit, both_words}
-use borrow.Author.Rules.{rules}
 use Rattle.tree_links.proofs.rework_both.Goals as goal
 
 pub overflow_add-result : goal.overflow_add-result

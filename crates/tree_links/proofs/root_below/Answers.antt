@@ -1,5 +1,4 @@
 use Rattle.words.proofs.Laws.{linked, unlinked}
-use borrow.Author.Rules.{rules}
 use Rattle.tree_links.proofs.root_below.Goals as goal
 
 pub returns-in_default : goal.returns-in_default

@@ -1,7 +1,6 @@
 use Rattle.tree_edit.specs.Rotations.{rotate}
 use Rattle.words.proofs.Layouts.{live_kid}
 use native.Mathlib.Omega.{arith}
-use borrow.Author.Rules.{rules}
 use Rattle.tree_links.proofs.rotate_up.Goals as goal
 
 pub set_child-requires-2 : goal.set_child-requires-2

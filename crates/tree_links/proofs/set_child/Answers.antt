@@ -1,5 +1,4 @@
 use Rattle.tree_edit.specs.Links.{set_child_lem}
-use borrow.Author.Rules.{rules}
 use Rattle.tree_links.proofs.set_child.Goals as goal
 
 pub returns : goal.returns

@@ -1,5 +1,4 @@
 use Rattle.tree_rm_repair.proofs.Rounds.{case_is}
-use borrow.Author.Rules.{rules}
 use Rattle.tree_rm_repair.proofs.case_at.Goals as goal
 
 pub returns : goal.returns

@@ -1,6 +1,5 @@
 use mathlib.Core.Path.{refl}
 use Rattle.tree_rm_repair.proofs.Rounds.{five_is}
-use borrow.Author.Rules.{rules}
 use Rattle.tree_rm_repair.proofs.case_five.Goals as goal
 
 pub returns : goal.returns

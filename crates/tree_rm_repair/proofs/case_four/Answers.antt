@@ -1,5 +1,4 @@
 use Rattle.tree_rm_repair.proofs.Rounds.{four_is, four_changes}
-use borrow.Author.Rules.{rules}
 use Rattle.tree_rm_repair.proofs.case_four.Goals as goal
 
 pub returns : goal.returns

@@ -1,5 +1,4 @@
 use mathlib.Core.Path.{refl}
-use borrow.Author.Rules.{rules}
 use Rattle.tree_rm_repair.proofs.case_two.Goals as goal
 
 pub returns : goal.returns

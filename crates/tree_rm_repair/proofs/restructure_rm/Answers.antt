@@ -2,7 +2,6 @@ use mathlib.Core.Path.{ap}
 use mathlib.Core.Bool.{not}
 use Rattle.tree_rm_repair.proofs.Rounds.{ready_child, ready_red, ready_repair, still_red, still_child, repair_changes}
 use Rattle.tree_edit.proofs.Colours.{red_fits}
-use borrow.Author.Rules.{rules}
 use native.Mathlib.Omega.{arith}
 use Rattle.tree_rm_repair.proofs.restructure_rm.Goals as goal
 

@@ -3,7 +3,6 @@ use Rattle.tree_rm_rule.specs.Repair.{round_at_lem}
 use Rattle.tree_links.proofs.LinkLaws.{hulls_unlinked, read_unlinked}
 use Rattle.tree_rm_repair.proofs.Rounds.{at_sibling, sibling_changes, close_there}
 use Rattle.words.proofs.Laws.{slot_live, slot_room}
-use borrow.Author.Rules.{rules}
 use native.Mathlib.Omega.{arith}
 use Rattle.tree_rm_repair.proofs.round_at.Goals as goal
 

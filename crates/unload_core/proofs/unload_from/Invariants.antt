@@ -1,5 +1,5 @@
 use mathlib.Core.Path.{◌≡◌}
-use Prim.Native.Nat.{◌≤◌}
+use Prim.Native.Nat.{◌-◌}
 use lib.ListN.{length}
 use Rattle.words.specs.Layouts.{as_eight}
 use Rattle.tree_edit.specs.Store.{store}
@@ -8,12 +8,8 @@ use Rattle.unload_rule.specs.Unload.{unload_rule_lem}
 use Rattle.first_rule.specs.First.{first_in}
 use Rattle.unload_core.proofs.unload_from.Given as goal
 
-abbrev pub invariant-loop-left : goal.invariant-loop-left
-invariant-loop-left l =
-    ((unload_rule_lem (as_eight l.narrow l.initial.nodes) l.initial.colours l.count l.root l.range).store ≡ (sweep (first_in l.range) l.left (store (as_eight l.narrow l.nodes) l.colours l.at) l.left).store)
-    × ((unload_rule_lem (as_eight l.narrow l.initial.nodes) l.initial.colours l.count l.root l.range).count ≡ (sweep (first_in l.range) l.left (store (as_eight l.narrow l.nodes) l.colours l.at) l.left).count)
-    × (length l.nodes ≡ length l.initial.nodes) × (length l.colours ≡ length l.initial.colours) × (l.left ≤ l.count)
-
-abbrev pub decreases-loop-left : goal.decreases-loop-left
-decreases-loop-left l =
-    l.left
+abbrev pub invariant-loop-gone : goal.invariant-loop-gone
+invariant-loop-gone l =
+    ((unload_rule_lem (as_eight l.narrow l.initial.nodes) l.initial.colours l.count l.root l.range).store ≡ (sweep (first_in l.range) (l.count - l.gone) (store (as_eight l.narrow l.nodes) l.colours l.at) (l.count - l.gone)).store)
+    × ((unload_rule_lem (as_eight l.narrow l.initial.nodes) l.initial.colours l.count l.root l.range).count ≡ (sweep (first_in l.range) (l.count - l.gone) (store (as_eight l.narrow l.nodes) l.colours l.at) (l.count - l.gone)).count)
+    × (length l.nodes ≡ length l.initial.nodes) × (length l.colours ≡ length l.initial.colours)

@@ -7,8 +7,8 @@ loop-k-init c = search proper_start
 pub loop-k-preserved : goal.loop-k-preserved
 loop-k-preserved c = search every_on
 
-pub returns-else-is_proper_at : goal.returns-else-is_proper_at
-returns-else-is_proper_at c = search every_not
+pub returns-then-not-is_proper_at : goal.returns-then-not-is_proper_at
+returns-then-not-is_proper_at c = search every_not
 
 pub returns : goal.returns
 returns c = search every_end

@@ -6,7 +6,3 @@ use Rattle.builder.proofs.list.all_proper.Given as goal
 abbrev pub invariant-loop-k : goal.invariant-loop-k
 invariant-loop-k l =
     all_proper_lem l.list ≡ every (proper_at l.list) l.k (l.n - l.k)
-
-abbrev pub decreases-loop-k : goal.decreases-loop-k
-decreases-loop-k l =
-    l.n - l.k

@@ -5,7 +5,7 @@ pub nonzero_rem-out : goal.nonzero_rem-out
 nonzero_rem-out c = search weight_pos
 
 pub returns-then-count-ne0 : goal.returns-then-count-ne0
-returns-then-count-ne0 c = search (last_none, last_some)
+returns-then-count-ne0 c = search last_some
 
 pub returns-else-count-ne0 : goal.returns-else-count-ne0
-returns-else-count-ne0 c = search (last_none, last_some)
+returns-else-count-ne0 c = search last_none

@@ -3,18 +3,6 @@ use Rattle.image.proofs.Writes.{image_put}
 use borrow.Author.Rules.{rules}
 use Rattle.image.proofs.write.write.Goals as goal
 
-pub put_header-requires : goal.put_header-requires
-unfolding bytes_for
-put_header-requires c = search rules
-
-pub put_entries-requires : goal.put_entries-requires
-unfolding bytes_for
-put_entries-requires c = search rules
-
-pub put_links-requires : goal.put_links-requires
-unfolding bytes_for
-put_links-requires c = search rules
-
 pub put_colours-requires : goal.put_colours-requires
 unfolding bytes_for
 put_colours-requires c = search rules

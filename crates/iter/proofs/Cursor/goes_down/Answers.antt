@@ -3,4 +3,4 @@ use Rattle.iter.proofs.Cursor.goes_down.Goals as goal
 
 pub returns : goal.returns
 unfolding deeper
-returns c = rw (← c.goes_overlap.ensures)
+returns g c = rw (← c.goes.ensures.0)

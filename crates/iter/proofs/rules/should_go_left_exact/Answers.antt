@@ -1,5 +1,6 @@
 use Rattle.iter.proofs.Laws.{child_there, child_gone, both_left}
 use Rattle.words.proofs.Laws.{slot_room}
+use Rattle.words.proofs.Orders.{le_by}
 use Rattle.iter.specs.Exact.{should_go_exact, toward}
 use Rattle.iter.proofs.rules.should_go_left_exact.Goals as goal
 
@@ -13,4 +14,4 @@ hull_at-requires c = search slot_room
 
 pub returns : goal.returns
 unfolding should_go_exact toward
-returns c = search (child_there, both_left)
+returns c = search (child_there, both_left, le_by)

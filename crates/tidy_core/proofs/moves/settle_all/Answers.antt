@@ -1,16 +1,14 @@
-use mathlib.Core.Path.{refl}
-use native.Mathlib.Omega.{arith}
-use Rattle.tidy_core.proofs.Moving.{end_words, end_colours, past_words, past_colours, onward}
+use Rattle.tidy_core.proofs.Moving.{settle_all_lem, end_words, end_colours, past_words, past_colours, onward}
 use Rattle.tidy_core.proofs.moves.settle_all.Goals as goal
 
-pub loop-turns-init : goal.loop-turns-init
-loop-turns-init c = (refl, refl, refl)
+pub loop-init : goal.loop-init
+loop-init c = search settle_all_lem
 
 pub returns-then-count-i : goal.returns-then-count-i
 returns-then-count-i c = (search past_words, search past_colours)
 
-pub loop-turns-preserved : goal.loop-turns-preserved
-loop-turns-preserved c = (search onward, omega arith, omega arith)
+pub loop-preserved : goal.loop-preserved
+loop-preserved c = search onward
 
 pub returns : goal.returns
 returns c = (search end_words, search end_colours)

@@ -1,6 +1,5 @@
 use mathlib.Core.Path.{◌≡◌}
-use Prim.Native.Nat.{◌-◌, ◌≤◌}
-use lib.ListN.{length}
+use Prim.Native.Nat.{◌-◌}
 use Rattle.words.specs.Layouts.{as_eight}
 use Rattle.plain_rule.specs.Tour.{tour}
 use Rattle.tidy_rule.specs.Plan.{numbered, proposed}
@@ -8,8 +7,4 @@ use Rattle.tidy_core.proofs.planner.number_all.Given as goal
 
 abbrev pub invariant-loop-place : goal.invariant-loop-place
 invariant-loop-place l =
-    (proposed l.count (as_eight l.narrow l.nodes) l.root l.initial.out ≡ numbered l.place (tour l.count (l.count - l.place) (as_eight l.narrow l.nodes) l.at) l.out) × (l.place ≤ l.count) × (length l.out ≡ length l.initial.out)
-
-abbrev pub decreases-loop-place : goal.decreases-loop-place
-decreases-loop-place l =
-    l.count - l.place
+    proposed l.count (as_eight l.narrow l.nodes) l.root l.initial.out ≡ numbered l.place (tour l.count (l.count - l.place) (as_eight l.narrow l.nodes) l.at) l.out

@@ -1,17 +1,11 @@
-use mathlib.Core.Path.{refl}
-use native.Mathlib.Omega.{arith}
-use borrow.Author.Rules.{rules}
 use Rattle.tidy_core.proofs.Tagging.{tagged_none, tagged_on, tagged_done}
 use Rattle.tidy_core.proofs.tags.tag_all.Goals as goal
 
 pub loop-s-init : goal.loop-s-init
-loop-s-init c = (search tagged_none, omega arith, refl)
-
-pub tag_node-requires : goal.tag_node-requires
-tag_node-requires c = (omega arith, search rules, omega arith)
+loop-s-init c = search tagged_none
 
 pub loop-s-preserved : goal.loop-s-preserved
-loop-s-preserved c = (search tagged_on, omega arith, omega arith)
+loop-s-preserved c = search tagged_on
 
 pub returns : goal.returns
 returns c = search tagged_done

@@ -2,7 +2,6 @@ use Rattle.tree_in_rule.specs.Descent.{under}
 use Rattle.words.proofs.Laws.{linked, slot_live, unlinked}
 use Rattle.words.proofs.Layouts.{kid_up, none_fits, live_up}
 use native.Mathlib.Omega.{arith}
-use borrow.Author.Rules.{rules}
 use Rattle.tree_in.proofs.descent.insert_inner.Goals as goal
 
 pub returns-in_default : goal.returns-in_default

@@ -1,4 +1,3 @@
-use borrow.Author.Rules.{rules}
 use Rattle.tree_in.proofs.descent.next_down.Goals as goal
 
 pub returns : goal.returns

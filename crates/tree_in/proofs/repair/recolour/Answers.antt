@@ -1,4 +1,3 @@
-use borrow.Author.Rules.{rules}
 use Rattle.tree_in.proofs.repair.recolour.Goals as goal
 
 pub returns : goal.returns

@@ -1,6 +1,5 @@
 use Rattle.tree_in.proofs.InsertRounds.{inner_is, inner_changes, rotated_most}
 use native.Mathlib.Omega.{arith}
-use borrow.Author.Rules.{rules}
 use Rattle.tree_in.proofs.repair.rotate_inner.Goals as goal
 
 pub rotate_outer-requires : goal.rotate_outer-requires

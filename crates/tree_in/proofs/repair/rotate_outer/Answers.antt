@@ -1,5 +1,4 @@
 use Rattle.tree_in.proofs.InsertRounds.{outer_is, outer_changes, rotated_fits}
-use borrow.Author.Rules.{rules}
 use Rattle.tree_in.proofs.repair.rotate_outer.Goals as goal
 
 pub overflow_add-result : goal.overflow_add-result

@@ -1,6 +1,5 @@
 use Rattle.tree_in.proofs.InsertRounds.{uncle_black, uncle_fits, uncle_red, black_changes, red_changes}
 use native.Mathlib.Omega.{arith}
-use borrow.Author.Rules.{rules}
 use Rattle.tree_in.proofs.repair.round_at.Goals as goal
 
 pub returns-then-is_black_or_nil : goal.returns-then-is_black_or_nil

@@ -4,7 +4,6 @@ use Rattle.tree_in_rule.specs.Reach.{insert_round_below_hulls}
 use Rattle.tree_links.proofs.LinkLaws.{read_unlinked, hulls_unlinked}
 use Rattle.words.proofs.Laws.{slot_live, slot_room}
 use native.Mathlib.Omega.{arith}
-use borrow.Author.Rules.{rules}
 use Rattle.tree_in.proofs.repair.round_below.Goals as goal
 
 pub returns-in_default : goal.returns-in_default

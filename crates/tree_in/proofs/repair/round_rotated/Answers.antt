@@ -1,5 +1,4 @@
 use Rattle.tree_in.proofs.InsertRounds.{read_equal, read_unequal, equal_changes, unequal_changes}
-use borrow.Author.Rules.{rules}
 use Rattle.tree_in.proofs.repair.round_rotated.Goals as goal
 
 pub returns-then-child_of-index : goal.returns-then-child_of-index

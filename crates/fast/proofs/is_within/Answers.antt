@@ -1,6 +1,0 @@
-use Rattle.fast.specs.Numbers.{lies_in_lem}
-use Rattle.fast.proofs.is_within.Goals as goal
-
-pub returns : goal.returns
-unfolding lies_in_lem
-returns c = rw (c.end_of.ensures, c.start_of.ensures)
