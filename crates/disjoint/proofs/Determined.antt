@@ -1,9 +1,8 @@
 -- Any two answers, and any two contents of each lent slice at exit, that a promise allows are
 -- equal.
+use Rattle.std.specs.Prelude.{Result, Ok, Err}
 use mathlib.Core.Path.{◌≡◌, refl, sym, ap, ◌∙◌}
 use mathlib.Core.Bool.{cond}
-use mathlib.Core.List.{List}
-use Prim.Native.Nat.{ℕ}
 use native.Mathlib.Omega.{arith}
 use lib.Dec.{eqb}
 use borrow.Author.Tests.{ne_eqb}
@@ -11,23 +10,16 @@ use contract.Lifetimes.{Lfts}
 use borrow.Fn.Kinds as K
 use denote.Triple.Clauses.{AtExit}
 use Rattle.words.specs.Refusals.{refusal_number}
+use Rattle.words.specs.declared.refusal.Refusal.{Refusal}
 use Rattle.words.proofs.Refusals.{refusal_at, at_number, number_pos}
-use Rattle.iset.specs.Effects.{Effect, effect}
-use Rattle.iset.specs.Check.{check_number}
 use Rattle.iset.specs.Insert.{InsertAnswer}
-use Rattle.iset.specs.Remove.{RemoveAnswer, remove_answer}
 use Rattle.iset.specs.declared.Map.{Map}
-use Rattle.iset.specs.declared.Checked.{Checked}
-use Rattle.iset.specs.declared.Checked.TheVariants as checked
-use Rattle.iset.specs.declared.remove.Removal.{Removal}
-use Rattle.iset.specs.declared.remove.Removal.TheVariants as removal
+use Rattle.iset.specs.declared.insert.Inserted.{Inserted}
 use Rattle.iset.proofs.Determined.{same_effect, checked_at, checked_back, removal_at, removal_back}
 use Rattle.disjoint.specs.Point.{PointAnswer, point_answer}
 use Rattle.disjoint.specs.Place.{place_answer}
-use Rattle.disjoint.specs.declared.point.Pointed.{Pointed}
-use Rattle.disjoint.specs.declared.point.Pointed.TheVariants as pointed
-use Rattle.disjoint.specs.declared.insert.Placement.{Placement}
-use Rattle.disjoint.specs.declared.insert.Placement.TheVariants as placement
+use Rattle.disjoint_core.specs.declared.point.Spot.{Spot}
+use Rattle.disjoint.specs.declared.insert.Blocked.{Blocked}
 use Rattle.disjoint.proofs.DisjointMap.check.Reads as check-reads
 use Rattle.disjoint.proofs.DisjointMap.check.Kinds as check-kinds
 use Rattle.disjoint.proofs.DisjointMap.point.Reads as point-reads
@@ -49,12 +41,12 @@ pub check-determined :
 check-determined κs a r r' s s' p q = sym (checked_back r) ∙ ap checked_at (p ∙ sym q) ∙ checked_back r'
 
 -- a point lookup's
-abbrev pub pointed_at : PointAnswer → Pointed
-pointed_at x = cond (eqb x.no 0) (pointed.Done (record { slot = x.slot; entered = x.entered })) (pointed.Refused (refusal_at x.no))
+abbrev pub pointed_at : PointAnswer → Result Spot Refusal
+pointed_at x = cond (eqb x.no 0) (Ok (record { slot = x.slot; entered = x.entered })) (Err (refusal_at x.no))
 
-pub pointed_back : (r : Pointed) → pointed_at (point_answer r) ≡ r
-pointed_back (pointed.Done a) = refl
-pointed_back (pointed.Refused y) = rw (ne_eqb (refusal_number y) 0 (omega (arith, number_pos y)), at_number y)
+pub pointed_back : (r : Result Spot Refusal) → pointed_at (point_answer r) ≡ r
+pointed_back (Ok a) = refl
+pointed_back (Err y) = rw (ne_eqb (refusal_number y) 0 (omega (arith, number_pos y)), at_number y)
 
 pub point-determined :
     (κs : Lfts 2) (a : K.Dens κs point-kinds.ps) (r r' : (K.res_t point-kinds.r κs).Denot) (s s' : AtExit (K.ended_of 2 point-kinds.ps point-kinds.r) κs)
@@ -68,15 +60,15 @@ pub open-point-determined :
 open-point-determined κs a r r' s s' p q = sym (pointed_back r) ∙ ap pointed_at (p ∙ sym q) ∙ pointed_back r'
 
 -- an insertion's, with the slot that a refusal names
-abbrev pub placement_at : InsertAnswer → Placement
+abbrev pub placement_at : InsertAnswer → Result Inserted Blocked
 placement_at x =
     cond (eqb x.no 0)
-    (placement.Done (record { map = x.map; slot = x.slot; reach = x.reach }))
-    (placement.Refused (refusal_at x.no) x.slot)
+    (Ok (record { map = x.map; slot = x.slot; reach = x.reach }))
+    (Err (record { why = refusal_at x.no; slot = x.slot }))
 
-pub placement_back : (m : Map) (r : Placement) → placement_at (place_answer m r) ≡ r
-placement_back m (placement.Done g) = refl
-placement_back m (placement.Refused y v) = rw (ne_eqb (refusal_number y) 0 (omega (arith, number_pos y)), at_number y)
+pub placement_back : (m : Map) (r : Result Inserted Blocked) → placement_at (place_answer m r) ≡ r
+placement_back m (Ok g) = refl
+placement_back m (Err y) = rw (ne_eqb (refusal_number y.why) 0 (omega (arith, number_pos y.why)), at_number y.why)
 
 pub insert-determined :
     (κs : Lfts 2) (a : K.Dens κs insert-kinds.ps) (r r' : (K.res_t insert-kinds.r κs).Denot) (s s' : AtExit (K.ended_of 2 insert-kinds.ps insert-kinds.r) κs)

@@ -9,8 +9,7 @@ use lib.ListN.{length}
 use lib.Dec.{ltb}
 use borrow.Author.Tests.{eq-eqb, ne_eqb, ltb-true, ltb-false}
 use Rattle.words.specs.Ix.{U}
-use Rattle.words.specs.Intervals.{intersects}
-use Rattle.words.specs.Nodes.{capacity, interval}
+use Rattle.words.specs.Nodes.{capacity}
 use Rattle.words.specs.declared.node.Entry.{Entry}
 use Rattle.tree.specs.Tree.{height}
 use Rattle.tree.specs.Passes.{Passes}

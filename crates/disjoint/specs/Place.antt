@@ -4,23 +4,20 @@
 -- it).
 -- Letters: m map, W words, C colours, n count, r root, a start, b end, s slot that was met,
 --   k number of a refusal, y refusal, g answer of the code, e entry
-use Rattle.std.specs.Prelude.{cond, List, ℕ, eqb, ltb}
+use Rattle.std.specs.Prelude.{cond, List, ℕ, eqb, ltb, Result, Ok, Err, ⊤}
 use Rattle.words.specs.Ix.{U}
 use Rattle.words.specs.Refusals.{refusal_number}
 use Rattle.words.specs.declared.node.Entry.{Entry}
+use Rattle.words.specs.declared.refusal.Refusal.{Refusal}
 use Rattle.first_rule.specs.First.{first_in}
 use Rattle.disjoint_rule.specs.Disjoint.{range_of}
 use Rattle.iset.specs.Effects.{Effect, effect}
 use Rattle.iset.specs.Check.{first, count_number}
 use Rattle.iset.specs.Insert.{open_insert_number, InsertAnswer, insert_entry_lem}
 use Rattle.iset.specs.declared.Map.{Map}
-use Rattle.iset.specs.declared.insert.Insertion.{Insertion}
-use Rattle.iset.specs.declared.insert.Insertion.TheVariants as insertion
+use Rattle.iset.specs.declared.insert.Inserted.{Inserted}
 use Rattle.disjoint.specs.Check.{disjoint_rule_lem}
-use Rattle.disjoint.specs.declared.insert.Placement.{Placement}
-use Rattle.disjoint.specs.declared.insert.Placement.TheVariants.{Done, Refused}
-use Rattle.disjoint.specs.declared.insert.Trial.{Trial}
-use Rattle.disjoint.specs.declared.insert.Trial.TheVariants as trial
+use Rattle.disjoint.specs.declared.insert.Blocked.{Blocked}
 
 -- the first slot in tree order whose entry intersects the interval from a to b, U if there is none
 abbrev pub met : (words : List ℕ) (count root start end : ℕ) → ℕ
@@ -51,26 +48,25 @@ pub record TrialAnswer : Type 0 where
   pub no : ℕ
   pub slot : ℕ
 
-abbrev pub tried : (trial : Trial) → TrialAnswer
-tried trial.Free = record { no = 0; slot = U }
-tried (trial.Refused y s) = record { no = refusal_number y; slot = s }
+abbrev pub tried : (trial : Result ⊤ Blocked) → TrialAnswer
+tried (Ok _) = record { no = 0; slot = U }
+tried (Err y) = record { no = refusal_number y.why; slot = y.slot }
 
 abbrev pub trial_by : (number slot : ℕ) → TrialAnswer
 trial_by k s = record { no = k; slot = named k s }
 
--- an answer of crate iset as one of this crate
-abbrev pub placement_of : (insertion : Insertion) → Placement
-placement_of (insertion.Done g) = Done g
-placement_of (insertion.Refused y) = Refused y U
+-- a refusal of crate iset as one of this crate
+abbrev pub unnamed : (refusal : Refusal) → Blocked
+unnamed y = record { why = y; slot = U }
 
 -- a refusal: the map as given, the slot that it names, and by item 9 "a refusal 0"
 abbrev pub refused_placement : (map : Map) (number slot : ℕ) → InsertAnswer
 refused_placement m k s = record { no = k; slot = s; map = m; reach = 0 }
 
 -- what the code's answer stands for
-abbrev pub place_answer : (map : Map) (placement : Placement) → InsertAnswer
-place_answer m (Done g) = record { no = 0; slot = g.slot; map = g.map; reach = g.reach }
-place_answer m (Refused y s) = refused_placement m (refusal_number y) s
+abbrev pub place_answer : (map : Map) (placement : Result Inserted Blocked) → InsertAnswer
+place_answer m (Ok g) = record { no = 0; slot = g.slot; map = g.map; reach = g.reach }
+place_answer m (Err y) = refused_placement m (refusal_number y.why) y.slot
 
 -- a call that is refused by the number k, or not
 abbrev pub place_by : (map : Map) (words colours : List ℕ) (entry : Entry) (number : ℕ)

@@ -23,9 +23,9 @@ ghost use Rattle.disjoint.specs.Check.{disjoint_rule_lem};
 
 use disjoint_core::apart::all_apart;
 pub use disjoint_core::point::Spot;
+pub use iset::Map;
 pub use iset::insert::Inserted;
-pub use iset::remove::{Removal, Removed};
-pub use iset::{Checked, Map};
+pub use iset::remove::Removed;
 pub use words::refusal::Refusal;
 
 // A map of which its calls demand that no two entries intersect. Any map may stand in it: each call
@@ -36,27 +36,25 @@ pub struct DisjointMap {
 }
 
 // Returns NotDisjoint if two entries of a store that passes the check of crate iset intersect.
-fn test_apart(nodes: &[u64], narrow: bool, count: u64) -> Checked
+fn test_apart(nodes: &[u64], narrow: bool, count: u64) -> Result<(), Refusal>
     requires { HoldsIn narrow nodes.now count }
     ensures { check_number result ≡ cond (apart_below (as_eight narrow nodes.now) count count) 0 14 }
 {
     if all_apart(nodes, narrow, count) {
-        Checked::Sound
+        Ok(())
     } else {
-        Checked::Refused(Refusal::NotDisjoint)
+        Err(Refusal::NotDisjoint)
     }
 }
 
 impl DisjointMap {
     // The check: that of crate iset, and then NotDisjoint if two entries intersect.
-    pub fn check_in(self, nodes: &[u64], narrow: bool, colours: &[u8]) -> Checked
+    #[tactic(auto, using(words::proofs::Refusals::number_pos, crate::proofs::Laws::checked_words), unfolding(crate::specs::Check::disjoint_rule_lem))]
+    pub fn check_in(self, nodes: &[u64], narrow: bool, colours: &[u8]) -> Result<(), Refusal>
         ensures { check_number result ≡ disjoint_rule_lem self.map (as_eight narrow nodes.now) colours.now }
     {
         let map = self.map;
-        let checked = map.check_in(nodes, narrow, colours);
-        let Checked::Sound = checked else {
-            return checked;
-        };
+        map.check_in(nodes, narrow, colours)?;
         test_apart(nodes, narrow, map.count)
     }
 }

@@ -1,5 +1,6 @@
 -- Said of the code: what the promises of `image_count` and `image_value` allow, beside what those
 -- of `Map::read_image` and `Map::drain` allow.
+use Rattle.std.specs.Prelude.{Ok}
 use mathlib.Core.Path.{◌≡◌, refl, sym, ap, ◌∙◌}
 use mathlib.Core.List.{List}
 use Prim.Native.Nat.{ℕ, ◌<◌, ◌≤◌}
@@ -19,8 +20,6 @@ use Rattle.iset.specs.Build.{BuildAnswer}
 use Rattle.iset.specs.Image.{read_image_call}
 use Rattle.iset.specs.Lookup.{drain_number, DrainAnswer, drain_call}
 use Rattle.iset.specs.declared.Map.{Map}
-use Rattle.iset.specs.declared.build.Built.TheVariants as built
-use Rattle.iset.specs.declared.lookup.Drain.TheVariants as drain
 use Rattle.iset.proofs.Map.read_image.Reads as read-reads
 use Rattle.iset.proofs.Map.read_image.Kinds as read-kinds
 use Rattle.iset.proofs.Map.drain.Reads as drain-reads
@@ -38,9 +37,9 @@ use Rattle.image_host.proofs.image_value.Kinds as value-kinds
 -- `Map::read_image` read an image and returned the map M; then `Map::drain` in what it left, from
 -- the fresh cursor and for the address a, returned d. There was room for all.
 module _ (κr : Lfts 3) (b : K.Dens κr read-kinds.ps) (M : Map) (t : AtExit (K.ended_of 3 read-kinds.ps read-kinds.r) κr)
-    (reads : read-reads.Post κr b (built.Done M) t)
+    (reads : read-reads.Post κr b (Ok M) t)
     (κd : Lfts 3) (c : K.Dens κd drain-kinds.ps) (d : Drained) (u : AtExit (K.ended_of 3 drain-kinds.ps drain-kinds.r) κd)
-    (drains : drain-reads.Post κd c (drain.Done d) u)
+    (drains : drain-reads.Post κd c (Ok d) u)
     (a : ℕ) (map_is : c.0 ≡ M) (words_are : c.1.0.now ≡ t.1.0.now) (colours-are : c.1.1.0.now ≡ t.1.1.0.now)
     (query-is : c.1.1.1.0 ≡ Overlap (only a)) (cursor_is : c.1.1.1.1.0 ≡ fresh M.root)
     (enough : M.count ≤ limit_of_lem c.1.1.1.1.1.0 (length c.1.1.1.1.1.1.0.now)) where

@@ -5,7 +5,7 @@
 use Rattle.std.specs.Prelude.{◌≡◌, true, List, ℕ, ◌+◌, ◌*◌, ◌<◌, ◌≤◌, length, get_or}
 use Rattle.words.specs.Ix.{U}
 use Rattle.words.specs.Nodes.{value, Holds, HoldsBits}
-use Rattle.words.specs.declared.interval.Bound.TheVariants.{Included}
+use Rattle.std.specs.declared.ops.Bound.TheVariants.{Included}
 use Rattle.words.specs.declared.interval.Span.{Span}
 use Rattle.audit.specs.Calls.{calls}
 use Rattle.iter.specs.Cursors.{fresh}

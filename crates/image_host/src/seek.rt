@@ -15,16 +15,15 @@ fn note(entry: Entry, address: u64, k: u64, seen: Seen) -> Seen
     requires { seen.hits + 1 < 18446744073709551616 }
     ensures { result ≡ noted address k seen entry }
 {
-    if (address < entry.end) & (entry.start <= address) {
-        if seen.hits == k {
-            return Seen {
-                hits: seen.hits + 1,
-                value: entry.value,
-            };
-        }
+    if address < entry.end && entry.start <= address {
+        let value = if seen.hits == k {
+            entry.value
+        } else {
+            seen.value
+        };
         return Seen {
             hits: seen.hits + 1,
-            value: seen.value,
+            value,
         };
     }
     seen

@@ -1,7 +1,7 @@
 -- What each public call answers where it is not refused, in the documents' words: said of the
 -- calls' own answers and of what they leave. `Map::check` has nothing but its number (Refusals),
 -- steps and drains are in Runs.
-use Rattle.std.proofs.Common.{◌≡◌, ℕ, ◌+◌, ◌-◌, ◌/◌, ◌<◌, ◌≤◌, true, false, ◌⊎◌, List, [], length, sym, refl, ap, ◌∙◌, inl, inr, arith, eq-eqb}
+use Rattle.std.proofs.Common.{◌≡◌, ℕ, ◌+◌, ◌-◌, ◌/◌, ◌<◌, ◌≤◌, true, false, ◌⊎◌, List, [], length, sym, refl, ap, ◌∙◌, inl, inr, arith, eq-eqb, Ok}
 use contract.Lifetimes.{Lfts}
 use borrow.Fn.Kinds as K
 use denote.Triple.Clauses.{AtExit}
@@ -32,24 +32,15 @@ use Rattle.iset.specs.Remove.{RemoveAnswer, remove_number, remove_answer, remove
 use Rattle.iset.specs.Insert.{InsertAnswer, insert_number, insert_answer, insert_call}
 use Rattle.iset.specs.Unload.{UnloadAnswer, unload_answer, unload_call}
 use Rattle.iset.specs.Ticket.{read_answer, read_call}
-use Rattle.iset.specs.declared.ticket.Reading.TheVariants as reading
 use Rattle.iset.specs.Lookup.{start_number, start_answer, start_call, step_answer, step_call, DrainAnswer, drain_answer, drain_call}
 use Rattle.iset.specs.Tallies.{TallyAnswer, tally_answer}
 use Rattle.iset.specs.Plain.{plain_call}
 use Rattle.iset.specs.Find.{find_all_call}
 use Rattle.iset.specs.Demands.{removal, insertion}
 use Rattle.iset.specs.declared.Map.{Map}
-use Rattle.iset.specs.declared.build.Built.TheVariants as built
 use Rattle.iset.specs.declared.remove.Removed as removed-payload
-use Rattle.iset.specs.declared.remove.Removal.TheVariants as removed-as
 use Rattle.iset.specs.declared.insert.Inserted as inserted-payload
-use Rattle.iset.specs.declared.insert.Insertion.TheVariants as inserted-as
 use Rattle.iset.specs.declared.unload.Unloaded as unloaded-payload
-use Rattle.iset.specs.declared.unload.Unloading.TheVariants as unloaded-as
-use Rattle.iset.specs.declared.lookup.Started.TheVariants as started
-use Rattle.iset.specs.declared.lookup.Stepped.TheVariants as stepped
-use Rattle.iset.specs.declared.lookup.Drain.TheVariants as drained
-use Rattle.iset.specs.declared.scan.Looked.TheVariants as looked
 use Rattle.iset.proofs.Map.read.Reads as read-reads
 use Rattle.iset.proofs.Map.read.Kinds as read-kinds
 use Rattle.iset.proofs.Map.build.Reads as build-reads
@@ -143,60 +134,60 @@ module _ (m : Map) (W C : List ℕ) (x : Interval) (e : (start_call m W C x).no 
 -- Said of the code: where an answer r that a call's promise allows from its arguments a is no
 -- refusal, its parts are those above.
 pub build_done : (κs : Lfts 3) (a : K.Dens κs build-kinds.ps) (r : (K.res_t build-kinds.r κs).Denot) (s : AtExit (K.ended_of 3 build-kinds.ps build-kinds.r) κs)
-    → build-reads.Post κs a r s → (m : Map) → r ≡ built.Done m
+    → build-reads.Post κs a r s → (m : Map) → r ≡ Ok m
     → (build_call a.0 a.1.0.now a.1.1.0.now a.1.1.1.0.now).answer ≡ record { no = 0; map = m }
 build_done κs a r s p m e = ap (λ (c : Effect BuildAnswer). c.answer) (sym p) ∙ ap (build_answer a.0) e
 
 pub remove_done_lem : (κs : Lfts 2) (a : K.Dens κs remove-kinds.ps) (r : (K.res_t remove-kinds.r κs).Denot) (s : AtExit (K.ended_of 2 remove-kinds.ps remove-kinds.r) κs)
-    → remove-reads.Post κs a r s → (g : removed-payload.Removed) → r ≡ removed-as.Done g
+    → remove-reads.Post κs a r s → (g : removed-payload.Removed) → r ≡ Ok g
     → (remove_call a.0 a.1.0.now a.1.1.0.now a.1.1.1.0).answer
     ≡ record { no = 0; value = g.value; map = g.map; pairs = g.pairs; reach = g.reach }
 remove_done_lem κs a r s p g e = ap (λ (c : Effect RemoveAnswer). c.answer) (sym p) ∙ ap (remove_answer a.0) e
 
 pub insert_done_lem : (κs : Lfts 2) (a : K.Dens κs insert-kinds.ps) (r : (K.res_t insert-kinds.r κs).Denot) (s : AtExit (K.ended_of 2 insert-kinds.ps insert-kinds.r) κs)
-    → insert-reads.Post κs a r s → (g : inserted-payload.Inserted) → r ≡ inserted-as.Done g
+    → insert-reads.Post κs a r s → (g : inserted-payload.Inserted) → r ≡ Ok g
     → (insert_call a.0 a.1.0.now a.1.1.0.now (record { start = a.1.1.1.0; end = a.1.1.1.1.0; value = a.1.1.1.1.1.0 })).answer
     ≡ record { no = 0; slot = g.slot; map = g.map; reach = g.reach }
 insert_done_lem κs a r s p g e = ap (λ (c : Effect InsertAnswer). c.answer) (sym p) ∙ ap (insert_answer a.0) e
 
 pub unload_done_lem : (κs : Lfts 2) (a : K.Dens κs unload-kinds.ps) (r : (K.res_t unload-kinds.r κs).Denot) (s : AtExit (K.ended_of 2 unload-kinds.ps unload-kinds.r) κs)
-    → unload-reads.Post κs a r s → (g : unloaded-payload.Unloaded) → r ≡ unloaded-as.Done g
+    → unload-reads.Post κs a r s → (g : unloaded-payload.Unloaded) → r ≡ Ok g
     → (unload_call a.0 a.1.0.now a.1.1.0.now a.1.1.1.0 a.1.1.1.1.0).answer ≡ record { no = 0; gone = g.gone; map = g.map }
 unload_done_lem κs a r s p g e = ap (λ (c : Effect UnloadAnswer). c.answer) (sym p) ∙ ap (unload_answer a.0) e
 
 pub read_done : (κs : Lfts 2) (a : K.Dens κs read-kinds.ps) (r : (K.res_t read-kinds.r κs).Denot) (s : AtExit (K.ended_of 2 read-kinds.ps read-kinds.r) κs)
-    → read-reads.Post κs a r s → (e : Entry) → r ≡ reading.Done e
+    → read-reads.Post κs a r s → (e : Entry) → r ≡ Ok e
     → read_call a.0 a.1.0.now a.1.1.0.now a.1.1.1.0 ≡ record { no = 0; entry = e }
 read_done κs a r s p e q = sym p ∙ ap read_answer q
 
 pub fresh_exact_done : (κs : Lfts 2) (a : K.Dens κs exact-kinds.ps) (r : (K.res_t exact-kinds.r κs).Denot) (s : AtExit (K.ended_of 2 exact-kinds.ps exact-kinds.r) κs)
-    → exact-reads.Post κs a r s → (c : Cursor) → r ≡ started.Done c
+    → exact-reads.Post κs a r s → (c : Cursor) → r ≡ Ok c
     → start_call a.0 a.1.0.now a.1.1.0.now a.1.1.1.0 ≡ record { no = 0; cursor = c }
 fresh_exact_done κs a r s p c e = sym p ∙ ap start_answer e
 
 -- a hit's slot is its cursor's; at the end the slot is U and the cursor (U, no levels)
 pub step_done_lem : (κs : Lfts 2) (a : K.Dens κs step-kinds.ps) (r : (K.res_t step-kinds.r κs).Denot) (s : AtExit (K.ended_of 2 step-kinds.ps step-kinds.r) κs)
     → step-reads.Post κs a r s → (c : Cursor) (n : ℕ)
-    → (r ≡ stepped.Done (Hit c n) → step_call a.0 a.1.0.now a.1.1.0.now a.1.1.1.0 a.1.1.1.1.0
+    → (r ≡ Ok (Hit c n) → step_call a.0 a.1.0.now a.1.1.0.now a.1.1.1.0 a.1.1.1.1.0
     ≡ record { no = 0; hit = true; slot = c.slot; next = c; entered = n })
-    × (r ≡ stepped.Done (End n) → step_call a.0 a.1.0.now a.1.1.0.now a.1.1.1.0 a.1.1.1.1.0
+    × (r ≡ Ok (End n) → step_call a.0 a.1.0.now a.1.1.0.now a.1.1.1.0 a.1.1.1.1.0
     ≡ record { no = 0; hit = false; slot = U; next = record { slot = U; levels = 0; bits = 0 }; entered = n })
 step_done_lem κs a r s p c n = (λ e. sym p ∙ ap (step_answer a.1.1.1.1.0) e, λ e. sym p ∙ ap (step_answer a.1.1.1.1.0) e)
 
 pub drain_done_lem : (κs : Lfts 3) (a : K.Dens κs drain-kinds.ps) (r : (K.res_t drain-kinds.r κs).Denot) (s : AtExit (K.ended_of 3 drain-kinds.ps drain-kinds.r) κs)
-    → drain-reads.Post κs a r s → (d : Drained) → r ≡ drained.Done d
+    → drain-reads.Post κs a r s → (d : Drained) → r ≡ Ok d
     → (drain_call a.0 a.1.0.now a.1.1.0.now a.1.1.1.0 a.1.1.1.1.0 a.1.1.1.1.1.0 a.1.1.1.1.1.1.0.now).answer
     ≡ record { no = 0; hits = d.hits; entered = d.entered; next = d.next }
 drain_done_lem κs a r s p d e = ap (λ (c : Output DrainAnswer). c.answer) (sym p) ∙ ap (drain_answer a.1.1.1.1.0) e
 
 pub plain_done : (κs : Lfts 3) (a : K.Dens κs plain-kinds.ps) (r : (K.res_t plain-kinds.r κs).Denot) (s : AtExit (K.ended_of 3 plain-kinds.ps plain-kinds.r) κs)
-    → plain-reads.Post κs a r s → (d : Tally) → r ≡ looked.Done d
+    → plain-reads.Post κs a r s → (d : Tally) → r ≡ Ok d
     → (plain_call a.0 a.1.0.now a.1.1.0.now a.1.1.1.0 a.1.1.1.1.0.now).answer
     ≡ record { no = 0; hits = d.hits; entered = d.entered }
 plain_done κs a r s p d e = ap (λ (c : Output TallyAnswer). c.answer) (sym p) ∙ ap tally_answer e
 
 pub find_all_done : (κs : Lfts 3) (a : K.Dens κs find-all-kinds.ps) (r : (K.res_t find-all-kinds.r κs).Denot) (s : AtExit (K.ended_of 3 find-all-kinds.ps find-all-kinds.r) κs)
-    → find-all-reads.Post κs a r s → (d : Tally) → r ≡ looked.Done d
+    → find-all-reads.Post κs a r s → (d : Tally) → r ≡ Ok d
     → (find_all_call a.0 a.1.0.now a.1.1.0.now a.1.1.1.0 a.1.1.1.1.0.now).answer
     ≡ record { no = 0; hits = d.hits; entered = d.entered }
 find_all_done κs a r s p d e = ap (λ (c : Output TallyAnswer). c.answer) (sym p) ∙ ap tally_answer e

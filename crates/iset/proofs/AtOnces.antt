@@ -1,33 +1,19 @@
 -- A lookup that finds all hits at once: what the code's answer stands for, and what it has in
 -- common with steps and drains.
-use Rattle.std.proofs.Common.{◌≡◌, ℕ, ◌<◌, ◌≤◌, Bool, List, [], ◌∷◌, length, take, drop, sym, ap, ◌∙◌, append-nil, add-zero, le-ltb}
+use Rattle.std.proofs.Common.{◌≡◌, ℕ, ◌<◌, ◌≤◌, Bool, List, [], ◌∷◌, length, take, drop, sym, ◌∙◌, append-nil, add-zero, le-ltb}
 use lib.Seq.{take-append_seam}
 use Rattle.words.specs.Lists.{filter}
-use Rattle.words.specs.Refusals.{refusal_number}
-use Rattle.words.specs.declared.refusal.Refusal.{Refusal}
 use Rattle.tree.specs.Tree.{Tree, slots}
 use Rattle.iter.specs.Cursors.{ended}
 use Rattle.iter.specs.Drains.{limit_of_lem, filled}
 use Rattle.iter.specs.declared.Cursor.{Cursor}
 use Rattle.iter.specs.declared.rules.Query.{Query}
-use Rattle.plain.specs.declared.Tally.{Tally}
 use Rattle.iset.specs.Effects.{Output, output}
-use Rattle.iset.specs.Check.{check_number}
 use Rattle.iset.specs.Lookup.{drain_call}
-use Rattle.iset.specs.Tallies.{TallyAnswer, tally_done, refused_tally}
+use Rattle.iset.specs.Tallies.{TallyAnswer}
 use Rattle.iset.specs.AtOnce.{handed_out, drain_slots, AtOnce}
 use Rattle.iset.specs.Runs.{Ask, drain, run, total, Lookup, OnceEach}
 use Rattle.iset.specs.declared.Map.{Map}
-use Rattle.iset.specs.declared.Checked.{Checked}
-use Rattle.iset.specs.declared.Checked.TheVariants.{Refused}
-
--- the code's answers, as the rules have them, in the form that `search` takes
-pub tally_is : (a b : Tally) (X Y : List ℕ) → a ≡ b → X ≡ Y → output (tally_done a) X ≡ output (tally_done b) Y
-tally_is a b X Y e f = λ i. output (tally_done (e i)) (f i)
-
-pub refused_tally_lem : (k : ℕ) (t : Checked) (z : Refusal) → check_number t ≡ k → t ≡ Refused z → (out : List ℕ)
-    → output (refused_tally (refusal_number z)) out ≡ output (refused_tally k) out
-refused_tally_lem k t z e q out = ap (λ (i : ℕ). output (refused_tally i) out) (sym (ap check_number q) ∙ e)
 
 -- the hits l and the nodes entered b, which are k and y, and the output that `written` makes of
 -- hits

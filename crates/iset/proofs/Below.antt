@@ -49,7 +49,6 @@ use Rattle.iset.specs.Build.{build_number, refused_build, build_list_lem, build_
 use Rattle.iset.specs.Remove.{remove_number, RemoveAnswer, refused_removal, remove_reach, remove_slot_lem, remove_call}
 use Rattle.iset.specs.Insert.{insert_number, InsertAnswer, refused_insertion, insert_reach, insert_entry_lem, insert_call}
 use Rattle.unload_rule.proofs.Below as unloading
-use Rattle.tidy_rule.specs.Tidy.{tidied}
 use Rattle.tidy_rule.proofs.Below as tidying
 use Rattle.iset.specs.Tidy.{propose_number, propose_by, propose_call, renumber_number, RenumberAnswer, refused_renumbering, renumber_plan_lem, renumber_call}
 use Rattle.iset.specs.Unload.{unload_number, UnloadAnswer, refused_unloading, unload_range_lem, unload_call}

@@ -1,33 +1,26 @@
 -- Any two answers, and any two contents of each lent slice at exit, that a promise allows are
 -- equal.
-use Rattle.std.proofs.Common.{◌≡◌, ℕ, cond, eqb, List, sym, refl, ap, ◌∙◌, arith, ne_eqb}
+use Rattle.std.proofs.Common.{◌≡◌, ℕ, cond, eqb, List, sym, refl, ap, ◌∙◌, arith, ne_eqb, Result, Ok, Err}
+use Rattle.std.specs.Prelude.{⊤}
 use contract.Lifetimes.{Lfts}
 use borrow.Fn.Kinds as K
 use denote.Triple.Clauses.{AtExit}
 use Rattle.words.specs.Refusals.{refusal_number}
+use Rattle.words.specs.declared.refusal.Refusal.{Refusal}
 use Rattle.words.proofs.Refusals.{refusal_at, at_number, number_pos}
 use Rattle.iset.specs.Effects.{Effect, effect, Output, output}
 use Rattle.iset.specs.Check.{check_number}
-use Rattle.iset.specs.declared.Checked.{Checked}
-use Rattle.iset.specs.declared.Checked.TheVariants.{Sound, Refused}
 use Rattle.iset.specs.Build.{BuildAnswer, build_answer}
-use Rattle.iset.specs.declared.build.Built.{Built}
-use Rattle.iset.specs.declared.build.Built.TheVariants.{Done}
-use Rattle.iset.specs.declared.build.Built.TheVariants as built
 use Rattle.iset.specs.Remove.{RemoveAnswer, remove_answer}
 use Rattle.iset.specs.declared.Map.{Map}
-use Rattle.iset.specs.declared.remove.Removal.{Removal}
-use Rattle.iset.specs.declared.remove.Removal.TheVariants as removal
+use Rattle.iset.specs.declared.remove.Removed.{Removed}
 use Rattle.iset.specs.Unload.{UnloadAnswer, unload_answer}
-use Rattle.iset.specs.declared.unload.Unloading.{Unloading}
-use Rattle.iset.specs.declared.unload.Unloading.TheVariants as unloading
+use Rattle.iset.specs.declared.unload.Unloaded.{Unloaded}
 use Rattle.iset.proofs.Map.unload.Reads as unload-reads
 use Rattle.iset.proofs.Map.unload.Kinds as unload-kinds
 use Rattle.iset.proofs.Map.open_unload.Reads as open-unload-reads
 use Rattle.iset.proofs.Map.open_unload.Kinds as open-unload-kinds
 use Rattle.iset.specs.Tidy.{RenumberAnswer, renumber_answer}
-use Rattle.iset.specs.declared.tidy.Renumbering.{Renumbering}
-use Rattle.iset.specs.declared.tidy.Renumbering.TheVariants as renumbering
 use Rattle.iset.proofs.Map.propose.Reads as propose-reads
 use Rattle.iset.proofs.Map.propose.Kinds as propose-kinds
 use Rattle.iset.proofs.Map.open_propose.Reads as open-propose-reads
@@ -37,14 +30,10 @@ use Rattle.iset.proofs.Map.renumber.Kinds as renumber-kinds
 use Rattle.iset.proofs.Map.open_renumber.Reads as open-renumber-reads
 use Rattle.iset.proofs.Map.open_renumber.Kinds as open-renumber-kinds
 use Rattle.iset.specs.Insert.{InsertAnswer, insert_answer}
-use Rattle.iset.specs.declared.insert.Insertion.{Insertion}
-use Rattle.iset.specs.declared.insert.Insertion.TheVariants as insertion
+use Rattle.iset.specs.declared.insert.Inserted.{Inserted}
 use Rattle.iset.specs.Ticket.{ReadAnswer, read_answer}
-use Rattle.iset.specs.declared.ticket.Reading.{Reading}
-use Rattle.iset.specs.declared.ticket.Reading.TheVariants as reading
+use Rattle.words.specs.declared.node.Entry.{Entry}
 use Rattle.iset.specs.Image.{WriteAnswer, write_answer}
-use Rattle.iset.specs.declared.save.Written.{Written}
-use Rattle.iset.specs.declared.save.Written.TheVariants as written
 use Rattle.iset.proofs.Map.write_image.Reads as write-image-reads
 use Rattle.iset.proofs.Map.write_image.Kinds as write-image-kinds
 use Rattle.iset.proofs.Map.open_write_image.Reads as open-write-image-reads
@@ -68,14 +57,8 @@ use Rattle.iter.specs.declared.seek.Step.{Step}
 use Rattle.iter.specs.declared.seek.Step.TheVariants.{Hit, End}
 use Rattle.iset.specs.Lookup.{StartAnswer, start_answer, StepAnswer, step_answer, DrainAnswer, drain_answer}
 use Rattle.iset.specs.Tallies.{TallyAnswer, tally_answer}
-use Rattle.iset.specs.declared.scan.Looked.{Looked}
-use Rattle.iset.specs.declared.scan.Looked.TheVariants as looked
-use Rattle.iset.specs.declared.lookup.Started.{Started}
-use Rattle.iset.specs.declared.lookup.Started.TheVariants as started
-use Rattle.iset.specs.declared.lookup.Stepped.{Stepped}
-use Rattle.iset.specs.declared.lookup.Stepped.TheVariants as stepped
-use Rattle.iset.specs.declared.lookup.Drain.{Drain}
-use Rattle.iset.specs.declared.lookup.Drain.TheVariants as drain
+use Rattle.plain.specs.declared.Tally.{Tally}
+use Rattle.iter.specs.declared.drain.Drained.{Drained}
 use Rattle.iset.proofs.Map.fresh.Reads as fresh-reads
 use Rattle.iset.proofs.Map.fresh.Kinds as fresh-kinds
 use Rattle.iset.proofs.Map.fresh_exact.Reads as exact-reads
@@ -92,8 +75,8 @@ use Rattle.iset.proofs.Map.build.Reads as build-reads
 use Rattle.iset.proofs.Map.build.Kinds as build-kinds
 use Rattle.iset.proofs.remove.Removed.slot_after.Reads as slot-after-reads
 use Rattle.iset.proofs.remove.Removed.slot_after.Kinds as slot-after-kinds
-use Rattle.iset.proofs.Checked.number.Reads as number-reads
-use Rattle.iset.proofs.Checked.number.Kinds as number-kinds
+use Rattle.iset.proofs.number_of.Reads as number-reads
+use Rattle.iset.proofs.number_of.Kinds as number-kinds
 use Rattle.iset.proofs.Map.new.Reads as new-reads
 use Rattle.iset.proofs.Map.new.Kinds as new-kinds
 use Rattle.iset.proofs.Map.open_insert.Reads as open-insert-reads
@@ -137,12 +120,12 @@ pub number-determined :
 number-determined κs a r r' s s' p q = p ∙ sym q
 
 -- the check's number says which answer it is
-abbrev pub checked_at : ℕ → Checked
-checked_at k = cond (eqb k 0) Sound (Refused (refusal_at k))
+abbrev pub checked_at : ℕ → Result ⊤ Refusal
+checked_at k = cond (eqb k 0) (Ok tt) (Err (refusal_at k))
 
-pub checked_back : (r : Checked) → checked_at (check_number r) ≡ r
-checked_back Sound = refl
-checked_back (Refused y) = rw (ne_eqb (refusal_number y) 0 (omega (arith, number_pos y)), at_number y)
+pub checked_back : (r : Result ⊤ Refusal) → checked_at (check_number r) ≡ r
+checked_back (Ok u) = refl
+checked_back (Err y) = rw (ne_eqb (refusal_number y) 0 (omega (arith, number_pos y)), at_number y)
 
 pub check-determined :
     (κs : Lfts 2) (a : K.Dens κs check-kinds.ps) (r r' : (K.res_t check-kinds.r κs).Denot) (s s' : AtExit (K.ended_of 2 check-kinds.ps check-kinds.r) κs)
@@ -150,12 +133,12 @@ pub check-determined :
 check-determined κs a r r' s s' p q = sym (checked_back r) ∙ ap checked_at (p ∙ sym q) ∙ checked_back r'
 
 -- and so do a build's
-abbrev pub built_at : BuildAnswer → Built
-built_at x = cond (eqb x.no 0) (Done x.map) (built.Refused (refusal_at x.no))
+abbrev pub built_at : BuildAnswer → Result Map Refusal
+built_at x = cond (eqb x.no 0) (Ok x.map) (Err (refusal_at x.no))
 
-pub built_back : (m : Map) (r : Built) → built_at (build_answer m r) ≡ r
-built_back m (Done n) = refl
-built_back m (built.Refused y) = rw (ne_eqb (refusal_number y) 0 (omega (arith, number_pos y)), at_number y)
+pub built_back : (m : Map) (r : Result Map Refusal) → built_at (build_answer m r) ≡ r
+built_back m (Ok n) = refl
+built_back m (Err y) = rw (ne_eqb (refusal_number y) 0 (omega (arith, number_pos y)), at_number y)
 
 pub build-determined :
     (κs : Lfts 3) (a : K.Dens κs build-kinds.ps) (r r' : (K.res_t build-kinds.r κs).Denot) (s s' : AtExit (K.ended_of 3 build-kinds.ps build-kinds.r) κs)
@@ -163,15 +146,15 @@ pub build-determined :
 build-determined κs a r r' s s' p q = same_effect built_at (built_back a.0 r) (built_back a.0 r') p q
 
 -- and a removal's
-abbrev pub removal_at : RemoveAnswer → Removal
+abbrev pub removal_at : RemoveAnswer → Result Removed Refusal
 removal_at x =
     cond (eqb x.no 0)
-    (removal.Done (record { map = x.map; value = x.value; pairs = x.pairs; reach = x.reach }))
-    (removal.Refused (refusal_at x.no))
+    (Ok (record { map = x.map; value = x.value; pairs = x.pairs; reach = x.reach }))
+    (Err (refusal_at x.no))
 
-pub removal_back : (m : Map) (r : Removal) → removal_at (remove_answer m r) ≡ r
-removal_back m (removal.Done g) = refl
-removal_back m (removal.Refused y) = rw (ne_eqb (refusal_number y) 0 (omega (arith, number_pos y)), at_number y)
+pub removal_back : (m : Map) (r : Result Removed Refusal) → removal_at (remove_answer m r) ≡ r
+removal_back m (Ok g) = refl
+removal_back m (Err y) = rw (ne_eqb (refusal_number y) 0 (omega (arith, number_pos y)), at_number y)
 
 pub remove-determined :
     (κs : Lfts 2) (a : K.Dens κs remove-kinds.ps) (r r' : (K.res_t remove-kinds.r κs).Denot) (s s' : AtExit (K.ended_of 2 remove-kinds.ps remove-kinds.r) κs)
@@ -179,12 +162,12 @@ pub remove-determined :
 remove-determined κs a r r' s s' p q = same_effect removal_at (removal_back _ r) (removal_back _ r') p q
 
 -- and an unloading's
-abbrev pub unloading_at : UnloadAnswer → Unloading
-unloading_at x = cond (eqb x.no 0) (unloading.Done (record { map = x.map; gone = x.gone })) (unloading.Refused (refusal_at x.no))
+abbrev pub unloading_at : UnloadAnswer → Result Unloaded Refusal
+unloading_at x = cond (eqb x.no 0) (Ok (record { map = x.map; gone = x.gone })) (Err (refusal_at x.no))
 
-pub unloading_back : (m : Map) (r : Unloading) → unloading_at (unload_answer m r) ≡ r
-unloading_back m (unloading.Done g) = refl
-unloading_back m (unloading.Refused y) = rw (ne_eqb (refusal_number y) 0 (omega (arith, number_pos y)), at_number y)
+pub unloading_back : (m : Map) (r : Result Unloaded Refusal) → unloading_at (unload_answer m r) ≡ r
+unloading_back m (Ok g) = refl
+unloading_back m (Err y) = rw (ne_eqb (refusal_number y) 0 (omega (arith, number_pos y)), at_number y)
 
 pub unload-determined :
     (κs : Lfts 2) (a : K.Dens κs unload-kinds.ps) (r r' : (K.res_t unload-kinds.r κs).Denot) (s s' : AtExit (K.ended_of 2 unload-kinds.ps unload-kinds.r) κs)
@@ -197,12 +180,12 @@ pub propose-determined :
     → propose-reads.Post κs a r s → propose-reads.Post κs a r' s' → (r ≡ r') × (s.1.1.1.0.now ≡ s'.1.1.1.0.now)
 propose-determined κs a r r' s s' p q = same_output checked_at (checked_back r) (checked_back r') p q
 
-abbrev pub renumbering_at : RenumberAnswer → Renumbering
-renumbering_at x = cond (eqb x.no 0) (renumbering.Done x.map) (renumbering.Refused (refusal_at x.no))
+abbrev pub renumbering_at : RenumberAnswer → Result Map Refusal
+renumbering_at x = cond (eqb x.no 0) (Ok x.map) (Err (refusal_at x.no))
 
-pub renumbering_back : (m : Map) (r : Renumbering) → renumbering_at (renumber_answer m r) ≡ r
-renumbering_back m (renumbering.Done g) = refl
-renumbering_back m (renumbering.Refused y) = rw (ne_eqb (refusal_number y) 0 (omega (arith, number_pos y)), at_number y)
+pub renumbering_back : (m : Map) (r : Result Map Refusal) → renumbering_at (renumber_answer m r) ≡ r
+renumbering_back m (Ok g) = refl
+renumbering_back m (Err y) = rw (ne_eqb (refusal_number y) 0 (omega (arith, number_pos y)), at_number y)
 
 pub renumber-determined :
     (κs : Lfts 3) (a : K.Dens κs renumber-kinds.ps) (r r' : (K.res_t renumber-kinds.r κs).Denot) (s s' : AtExit (K.ended_of 3 renumber-kinds.ps renumber-kinds.r) κs)
@@ -210,15 +193,15 @@ pub renumber-determined :
 renumber-determined κs a r r' s s' p q = same_effect renumbering_at (renumbering_back _ r) (renumbering_back _ r') p q
 
 -- and an insertion's
-abbrev pub insertion_at : InsertAnswer → Insertion
+abbrev pub insertion_at : InsertAnswer → Result Inserted Refusal
 insertion_at x =
     cond (eqb x.no 0)
-    (insertion.Done (record { map = x.map; slot = x.slot; reach = x.reach }))
-    (insertion.Refused (refusal_at x.no))
+    (Ok (record { map = x.map; slot = x.slot; reach = x.reach }))
+    (Err (refusal_at x.no))
 
-pub insertion_back : (m : Map) (r : Insertion) → insertion_at (insert_answer m r) ≡ r
-insertion_back m (insertion.Done g) = refl
-insertion_back m (insertion.Refused y) = rw (ne_eqb (refusal_number y) 0 (omega (arith, number_pos y)), at_number y)
+pub insertion_back : (m : Map) (r : Result Inserted Refusal) → insertion_at (insert_answer m r) ≡ r
+insertion_back m (Ok g) = refl
+insertion_back m (Err y) = rw (ne_eqb (refusal_number y) 0 (omega (arith, number_pos y)), at_number y)
 
 pub insert-determined :
     (κs : Lfts 2) (a : K.Dens κs insert-kinds.ps) (r r' : (K.res_t insert-kinds.r κs).Denot) (s s' : AtExit (K.ended_of 2 insert-kinds.ps insert-kinds.r) κs)
@@ -237,12 +220,12 @@ pub ticket-determined :
     → ticket-reads.Post κs a r s → ticket-reads.Post κs a r' s' → r ≡ r'
 ticket-determined κs a r r' s s' p q = p ∙ sym q
 
-abbrev pub reading_at : ReadAnswer → Reading
-reading_at x = cond (eqb x.no 0) (reading.Done x.entry) (reading.Refused (refusal_at x.no))
+abbrev pub reading_at : ReadAnswer → Result Entry Refusal
+reading_at x = cond (eqb x.no 0) (Ok x.entry) (Err (refusal_at x.no))
 
-pub reading_back : (r : Reading) → reading_at (read_answer r) ≡ r
-reading_back (reading.Done e) = refl
-reading_back (reading.Refused y) = rw (ne_eqb (refusal_number y) 0 (omega (arith, number_pos y)), at_number y)
+pub reading_back : (r : Result Entry Refusal) → reading_at (read_answer r) ≡ r
+reading_back (Ok e) = refl
+reading_back (Err y) = rw (ne_eqb (refusal_number y) 0 (omega (arith, number_pos y)), at_number y)
 
 pub read-determined :
     (κs : Lfts 2) (a : K.Dens κs read-kinds.ps) (r r' : (K.res_t read-kinds.r κs).Denot) (s s' : AtExit (K.ended_of 2 read-kinds.ps read-kinds.r) κs)
@@ -250,12 +233,12 @@ pub read-determined :
 read-determined κs a r r' s s' p q = sym (reading_back r) ∙ ap reading_at (p ∙ sym q) ∙ reading_back r'
 
 -- an image's
-abbrev pub written_at : WriteAnswer → Written
-written_at x = cond (eqb x.no 0) (written.Done x.length) (written.Refused (refusal_at x.no))
+abbrev pub written_at : WriteAnswer → Result ℕ Refusal
+written_at x = cond (eqb x.no 0) (Ok x.length) (Err (refusal_at x.no))
 
-pub written_back : (r : Written) → written_at (write_answer r) ≡ r
-written_back (written.Done v) = refl
-written_back (written.Refused y) = rw (ne_eqb (refusal_number y) 0 (omega (arith, number_pos y)), at_number y)
+pub written_back : (r : Result ℕ Refusal) → written_at (write_answer r) ≡ r
+written_back (Ok v) = refl
+written_back (Err y) = rw (ne_eqb (refusal_number y) 0 (omega (arith, number_pos y)), at_number y)
 
 pub write-image-determined :
     (κs : Lfts 3) (a : K.Dens κs write-image-kinds.ps) (r r' : (K.res_t write-image-kinds.r κs).Denot)
@@ -270,12 +253,12 @@ pub read-image-determined :
 read-image-determined κs a r r' s s' p q = same_effect built_at (built_back a.0 r) (built_back a.0 r') p q
 
 -- a fresh cursor's, a step's and a drain's
-abbrev pub started_at : StartAnswer → Started
-started_at x = cond (eqb x.no 0) (started.Done x.cursor) (started.Refused (refusal_at x.no))
+abbrev pub started_at : StartAnswer → Result Cursor Refusal
+started_at x = cond (eqb x.no 0) (Ok x.cursor) (Err (refusal_at x.no))
 
-pub started_back : (r : Started) → started_at (start_answer r) ≡ r
-started_back (started.Done c) = refl
-started_back (started.Refused y) = rw (ne_eqb (refusal_number y) 0 (omega (arith, number_pos y)), at_number y)
+pub started_back : (r : Result Cursor Refusal) → started_at (start_answer r) ≡ r
+started_back (Ok c) = refl
+started_back (Err y) = rw (ne_eqb (refusal_number y) 0 (omega (arith, number_pos y)), at_number y)
 
 pub slot-after-determined :
     (κs : Lfts 0) (a : K.Dens κs slot-after-kinds.ps) (r r' : (K.res_t slot-after-kinds.r κs).Denot)
@@ -296,38 +279,38 @@ fresh-exact-determined κs a r r' s s' p q = sym (started_back r) ∙ ap started
 abbrev step_at : StepAnswer → Step
 step_at x = cond x.hit (Hit x.next x.entered) (End x.entered)
 
-abbrev pub stepped_at : StepAnswer → Stepped
-stepped_at x = cond (eqb x.no 0) (stepped.Done (step_at x)) (stepped.Refused (refusal_at x.no))
+abbrev pub stepped_at : StepAnswer → Result Step Refusal
+stepped_at x = cond (eqb x.no 0) (Ok (step_at x)) (Err (refusal_at x.no))
 
-pub stepped_back : (c : Cursor) (r : Stepped) → stepped_at (step_answer c r) ≡ r
-stepped_back c (stepped.Done (Hit d e)) = refl
-stepped_back c (stepped.Done (End e)) = refl
-stepped_back c (stepped.Refused y) = rw (ne_eqb (refusal_number y) 0 (omega (arith, number_pos y)), at_number y)
+pub stepped_back : (c : Cursor) (r : Result Step Refusal) → stepped_at (step_answer c r) ≡ r
+stepped_back c (Ok (Hit d e)) = refl
+stepped_back c (Ok (End e)) = refl
+stepped_back c (Err y) = rw (ne_eqb (refusal_number y) 0 (omega (arith, number_pos y)), at_number y)
 
 pub step-determined :
     (κs : Lfts 2) (a : K.Dens κs step-kinds.ps) (r r' : (K.res_t step-kinds.r κs).Denot) (s s' : AtExit (K.ended_of 2 step-kinds.ps step-kinds.r) κs)
     → step-reads.Post κs a r s → step-reads.Post κs a r' s' → r ≡ r'
 step-determined κs a r r' s s' p q = sym (stepped_back _ r) ∙ ap stepped_at (p ∙ sym q) ∙ stepped_back _ r'
 
-abbrev pub drain_at : DrainAnswer → Drain
+abbrev pub drain_at : DrainAnswer → Result Drained Refusal
 drain_at x =
-    cond (eqb x.no 0) (drain.Done (record { hits = x.hits; entered = x.entered; next = x.next })) (drain.Refused (refusal_at x.no))
+    cond (eqb x.no 0) (Ok (record { hits = x.hits; entered = x.entered; next = x.next })) (Err (refusal_at x.no))
 
-pub drain_back : (c : Cursor) (r : Drain) → drain_at (drain_answer c r) ≡ r
-drain_back c (drain.Done d) = refl
-drain_back c (drain.Refused y) = rw (ne_eqb (refusal_number y) 0 (omega (arith, number_pos y)), at_number y)
+pub drain_back : (c : Cursor) (r : Result Drained Refusal) → drain_at (drain_answer c r) ≡ r
+drain_back c (Ok d) = refl
+drain_back c (Err y) = rw (ne_eqb (refusal_number y) 0 (omega (arith, number_pos y)), at_number y)
 
 pub drain-determined :
     (κs : Lfts 3) (a : K.Dens κs drain-kinds.ps) (r r' : (K.res_t drain-kinds.r κs).Denot) (s s' : AtExit (K.ended_of 3 drain-kinds.ps drain-kinds.r) κs)
     → drain-reads.Post κs a r s → drain-reads.Post κs a r' s' → (r ≡ r') × (s.1.1.1.1.1.1.0.now ≡ s'.1.1.1.1.1.1.0.now)
 drain-determined κs a r r' s s' p q = same_output drain_at (drain_back _ r) (drain_back _ r') p q
 
-abbrev pub looked_at : TallyAnswer → Looked
-looked_at x = cond (eqb x.no 0) (looked.Done (record { hits = x.hits; entered = x.entered })) (looked.Refused (refusal_at x.no))
+abbrev pub looked_at : TallyAnswer → Result Tally Refusal
+looked_at x = cond (eqb x.no 0) (Ok (record { hits = x.hits; entered = x.entered })) (Err (refusal_at x.no))
 
-pub looked_back : (r : Looked) → looked_at (tally_answer r) ≡ r
-looked_back (looked.Done a) = refl
-looked_back (looked.Refused y) = rw (ne_eqb (refusal_number y) 0 (omega (arith, number_pos y)), at_number y)
+pub looked_back : (r : Result Tally Refusal) → looked_at (tally_answer r) ≡ r
+looked_back (Ok a) = refl
+looked_back (Err y) = rw (ne_eqb (refusal_number y) 0 (omega (arith, number_pos y)), at_number y)
 
 pub plain-determined :
     (κs : Lfts 3) (a : K.Dens κs plain-kinds.ps) (r r' : (K.res_t plain-kinds.r κs).Denot) (s s' : AtExit (K.ended_of 3 plain-kinds.ps plain-kinds.r) κs)

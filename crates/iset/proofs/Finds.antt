@@ -1,11 +1,9 @@
 -- The fast lookup, of the public call: it finds what the other lookups find, and the nodes that it
 -- enters are among those that steps and drains enter.
-use Rattle.std.proofs.Common.{◌≡◌, ℕ, ◌<◌, ◌≤◌, List, [], ◌∷◌, ◌++◌, length, sym, refl, ap, ◌∙◌, append-nil, arith, take_all, eq-eqb}
+use Rattle.std.proofs.Common.{◌≡◌, ℕ, ◌<◌, ◌≤◌, List, [], ◌∷◌, ◌++◌, length, sym, refl, ◌∙◌, append-nil, arith, take_all, eq-eqb}
 use Rattle.words.specs.Lists.{filter}
-use Rattle.words.specs.declared.interval.Interval.{Interval}
 use Rattle.tree.specs.Tree.{slots, times}
 use Rattle.tree.specs.Passes.{Passes}
-use Rattle.iter.specs.Lists.{when}
 use Rattle.iter.specs.Cursors.{fresh, ended}
 use Rattle.iter.specs.Drains.{calls}
 use Rattle.iter.specs.Queries.{rules}
@@ -15,10 +13,8 @@ use Rattle.iter.specs.declared.rules.Query.TheVariants.{Overlap, Ruled, Exact}
 use Rattle.iter.proofs.Drains.{drain_count}
 use Rattle.fast_rule.specs.Fast.{start_at, fast_nodes, fast_hits, fitted}
 use Rattle.fast_rule.proofs.Runs.{fast_overlap, fast_ruled, fast_exact, fast_once, fast_among, fast_entered}
-use Rattle.iset.specs.Check.{check_rule}
 use Rattle.iset.specs.Effects.{output}
 use Rattle.iset.specs.Lookup.{start_number, drain_call}
-use Rattle.iset.specs.Plain.{plain_call}
 use Rattle.iset.specs.Find.{find_all_call}
 use Rattle.iset.specs.AtOnce.{handed_out}
 use Rattle.iset.specs.FindRuns.{FindAllRun, FastLookup}

@@ -1,6 +1,6 @@
 -- Demand 1 of writing and of reading an image: each is refused exactly as document 02, item 6 says,
 -- both ways, with the first refusal in its order; and a refused call leaves all that was lent.
-use Rattle.std.proofs.Common.{◌≡◌, ℕ, ◌<◌, ◌≤◌, true, cond, ltb, leb, List, length, sym, refl, ap, ◌∙◌, true≢false, arith, ltb-false, ltb-true, leb-false, leb-true}
+use Rattle.std.proofs.Common.{◌≡◌, ℕ, ◌<◌, ◌≤◌, true, cond, ltb, leb, List, length, sym, refl, ap, ◌∙◌, true≢false, arith, ltb-false, ltb-true, leb-false, leb-true, Result, Err}
 use contract.Lifetimes.{Lfts}
 use borrow.Fn.Kinds as K
 use denote.Triple.Clauses.{AtExit}
@@ -16,10 +16,6 @@ use Rattle.iset.specs.Build.{BuildAnswer, build_answer}
 use Rattle.iset.specs.Image.{write_image_number, WriteAnswer, write_answer, write_image_call, read_image_number, read_image_call}
 use Rattle.iset.specs.Refusals.{Rows, accept, refuse, Exactly, check_rows, NotLoaded, write_image_rows, read_image_rows}
 use Rattle.iset.specs.declared.Map.{Map}
-use Rattle.iset.specs.declared.build.Built.{Built}
-use Rattle.iset.specs.declared.build.Built.TheVariants as built
-use Rattle.iset.specs.declared.save.Written.{Written}
-use Rattle.iset.specs.declared.save.Written.TheVariants as written
 use Rattle.iset.proofs.Map.write_image.Reads as write-image-reads
 use Rattle.iset.proofs.Map.write_image.Kinds as write-image-kinds
 use Rattle.iset.proofs.Map.read_image.Reads as read-image-reads
@@ -92,24 +88,24 @@ module _ (m : Map) (W C : List ℕ) where
 -- Said of the code.
 pub write-image-code :
     (κs : Lfts 3) (a : K.Dens κs write-image-kinds.ps) (r : (K.res_t write-image-kinds.r κs).Denot) (s : AtExit (K.ended_of 3 write-image-kinds.ps write-image-kinds.r) κs)
-    → write-image-reads.Post κs a r s → (y : Refusal) → r ≡ written.Refused y → s.1.1.1.0.now ≡ a.1.1.1.0.now
+    → write-image-reads.Post κs a r s → (y : Refusal) → r ≡ Err y → s.1.1.1.0.now ≡ a.1.1.1.0.now
 write-image-code κs a r s p y e =
     let m : Map = a.0 in
     let W : List ℕ = a.1.0.now in
     let C : List ℕ = a.1.1.0.now in
     let out : List ℕ = a.1.1.1.0.now in
     let k : refusal_number y ≡ (write_image_call m W C out).answer.no =
-    ap (λ (x : Written). (write_answer x).no) (sym e) ∙ ap (λ (x : Output WriteAnswer). x.answer.no) p in
+    ap (λ (x : Result ℕ Refusal). (write_answer x).no) (sym e) ∙ ap (λ (x : Output WriteAnswer). x.answer.no) p in
     ap (λ (x : Output WriteAnswer). x.output) (p ∙ write_image_leaves m W C out (refused_number (write_image_call m W C out).answer.no y k))
 
 pub read-image-code :
     (κs : Lfts 3) (a : K.Dens κs read-image-kinds.ps) (r : (K.res_t read-image-kinds.r κs).Denot) (s : AtExit (K.ended_of 3 read-image-kinds.ps read-image-kinds.r) κs)
-    → read-image-reads.Post κs a r s → (y : Refusal) → r ≡ built.Refused y → (s.1.0.now ≡ a.1.0.now) × (s.1.1.0.now ≡ a.1.1.0.now)
+    → read-image-reads.Post κs a r s → (y : Refusal) → r ≡ Err y → (s.1.0.now ≡ a.1.0.now) × (s.1.1.0.now ≡ a.1.1.0.now)
 read-image-code κs a r s p y e =
     let m : Map = a.0 in
     let W : List ℕ = a.1.0.now in
     let C : List ℕ = a.1.1.0.now in
     let I : List ℕ = a.1.1.1.0.now in
     let k : refusal_number y ≡ (read_image_call m W C I).answer.no =
-    ap (λ (x : Built). (build_answer m x).no) (sym e) ∙ ap (λ (x : Effect BuildAnswer). x.answer.no) p in
+    ap (λ (x : Result Map Refusal). (build_answer m x).no) (sym e) ∙ ap (λ (x : Effect BuildAnswer). x.answer.no) p in
     store_left _ _ (p ∙ read_image_leaves m W C I (refused_number (read_image_call m W C I).answer.no y k))

@@ -1,16 +1,16 @@
 -- The room that the code finds in the words of either layout is that of their eight-word form.
-use Rattle.std.proofs.Common.{◌≡◌, ℕ, ◌+◌, ◌*◌, ◌/◌, ◌<◌, ◌≤◌, min, Bool, true, false, List, length, get_or, sym, refl, ap, ◌∙◌, arith}
+use Rattle.std.proofs.Common.{◌≡◌, ℕ, ◌+◌, ◌*◌, ◌<◌, ◌≤◌, min, Bool, true, false, List, length, get_or, sym, refl, ap, ◌∙◌, arith}
 use Rattle.words.specs.Ix.{U}
-use Rattle.words.specs.Nodes.{bits_of, capacity, par}
-use Rattle.words.specs.Layouts.{unpack, as_eight, spared, capacity_as}
+use Rattle.words.specs.Nodes.{bits_of, capacity, par, HoldsBits}
+use Rattle.words.specs.Layouts.{unpack, as_eight, spared, capacity_as, HoldsIn}
 use Rattle.words.specs.declared.node.Field.TheVariants.{Parent}
 use Rattle.words.proofs.Layouts.{length_unpack, eight_injective, eight_slots, word_unpack, tops_high}
 use Rattle.tree.specs.Passes.{Passes}
 use Rattle.tree.proofs.Cases.{compare}
 use Rattle.image_rule.proofs.Fitting.{passing_links}
-use Rattle.iset.specs.Check.{check_rule}
+use Rattle.iset.specs.Check.{count_number, check_rule}
 use Rattle.iset.specs.declared.Map.{Map}
-use Rattle.iset.proofs.Checks.{two_check}
+use Rattle.iset.proofs.Checks.{count_zero, two_check}
 
 pub capacity_same : (narrow : Bool) (N : List ℕ) (bytes c : ℕ) → c ≡ capacity_as narrow (length N) bytes → c ≡ capacity (length (as_eight narrow N)) bytes
 capacity_same narrow N bytes c e = e ∙ sym (ap (λ (k : ℕ). min k (min (bits_of bytes) 65535)) (eight_slots narrow N))
@@ -26,7 +26,7 @@ unfolding as_eight
 eight_held true N n few h = omega (arith, length_unpack N)
 eight_held false N n few h = omega arith
 
--- a number of slots within the capacity: what `HoldsIn` asks for, part by part
+-- a number of slots within the capacity: what `HoldsIn` asks for
 module _ (narrow : Bool) (N : List ℕ) (bytes n : ℕ) (h : n ≤ capacity (length (as_eight narrow N)) bytes) where
   pub held_few : n ≤ 65535
   held_few = omega arith
@@ -37,16 +37,19 @@ module _ (narrow : Bool) (N : List ℕ) (bytes n : ℕ) (h : n ≤ capacity (len
   pub held_eight : n * 8 ≤ length N + spared narrow
   held_eight = eight_held narrow N n (omega arith) (omega arith)
 
-  pub held_bits : n ≤ bits_of bytes
-  held_bits = omega arith
+  pub held_in : HoldsIn narrow N n
+  held_in = (held_few, held_six, held_eight)
+
+-- a count that passed its test
+pub counted : (m : Map) (narrow : Bool) (N C : List ℕ) → 0 ≡ count_number m (as_eight narrow N) C → HoldsIn narrow N m.count × HoldsBits C m.count
+counted m narrow N C e =
+    let h : m.count ≤ capacity (length (as_eight narrow N)) (length C) = count_zero m (as_eight narrow N) C (sym e) in
+    (held_in narrow N (length C) m.count h, omega (arith, h))
 
 -- and one that the code compared with the capacity
 module _ (narrow : Bool) (n len bytes c : ℕ) (e : c ≡ capacity_as narrow len bytes) (h : n ≤ c) where
   pub room_few : n ≤ 65535
   room_few = omega arith
-
-  pub room_bits : n ≤ bits_of bytes
-  room_bits = omega arith
 
   pub room_six : n * 6 ≤ len
   room_six = go narrow e
@@ -61,6 +64,9 @@ module _ (narrow : Bool) (n len bytes c : ℕ) (e : c ≡ capacity_as narrow len
       go : (b : Bool) → c ≡ capacity_as b len bytes → n * 8 ≤ len + spared b
       go true i = omega arith
       go false i = omega arith
+
+pub room_in : (narrow : Bool) (N : List ℕ) (n bytes c : ℕ) → c ≡ capacity_as narrow (length N) bytes → n ≤ c → HoldsIn narrow N n
+room_in narrow N n bytes c e h = held_in narrow N bytes n (omega (arith, capacity_same narrow N bytes c e))
 
 pub unpack_injective : (N M : List ℕ) → unpack N ≡ unpack M → N ≡ M
 unfolding as_eight

@@ -1,9 +1,8 @@
 -- The plain lookup: what its tests leave, in the form that `search` takes; and document 02's item
 -- 5, of the public call.
-use Rattle.std.proofs.Common.{◌≡◌, ℕ, ◌+◌, ◌*◌, ◌≤◌, Bool, true, false, cond, leb, List, [], length, sym, refl, ap, ◌∙◌, arith, eq-eqb, le-leb, leb-true}
+use Rattle.std.proofs.Common.{◌≡◌, ℕ, ◌≤◌, Bool, cond, leb, List, [], length, sym, ◌∙◌, eq-eqb, le-leb}
 use Rattle.words.specs.Lists.{filter}
-use Rattle.words.specs.Nodes.{capacity}
-use Rattle.words.specs.Layouts.{as_eight, spared}
+use Rattle.words.specs.Layouts.{as_eight, HoldsIn}
 use Rattle.tree.specs.Tree.{slots}
 use Rattle.tree.specs.Passes.{Passes}
 use Rattle.iter.specs.Cursors.{fresh}
@@ -15,47 +14,29 @@ use Rattle.iter.specs.declared.rules.Query.TheVariants.{Overlap, Exact}
 use Rattle.plain_rule.specs.Tour as tour
 use Rattle.plain_rule.proofs.Tours.{entries_are, entered_all}
 use Rattle.iset.specs.Effects.{output}
-use Rattle.iset.specs.Check.{check_number}
 use Rattle.iset.specs.Lookup.{start_number, open_start_number}
 use Rattle.iset.specs.Plain.{open_plain_number, plain_number, plain_call}
 use Rattle.iset.specs.AtOnce.{handed_out}
 use Rattle.iset.specs.PlainRuns.{PlainRun, Request5}
 use Rattle.iset.specs.Runs.{Ask, Lookup, OnceEach}
 use Rattle.iset.specs.declared.Map.{Map}
-use Rattle.iset.specs.declared.Checked.{Checked}
-use Rattle.iset.specs.declared.Checked.TheVariants.{Sound}
 use Rattle.iset.proofs.AtOnces.{counted, first_places, found_at_once}
-use Rattle.iset.proofs.Checks.{both_zero, places_held, count_zero}
+use Rattle.iset.proofs.Checks.{both_zero, places_held}
 use Rattle.iset.proofs.Found.{few}
-use Rattle.iset.proofs.Layouts.{held_few, held_six, held_eight}
-use Rattle.iset.proofs.Lookups.{open_start_accepts}
+use Rattle.iset.proofs.Lookups.{startable}
 use Rattle.iset.proofs.Orders.{plain_order}
 use Rattle.iset.proofs.Runs.{range_started, interval_started, overlap_runs, exact_runs}
 
--- what the tests of an opened lookup leave: slices with places
-module _ (m : Map) (narrow : Bool) (N C : List ℕ) (q : Query) (places : ℕ) (t : Checked)
-    (e : check_number t ≡ open_plain_number m (as_eight narrow N) C q places) (s : t ≡ Sound) where
-  abbrev W : List ℕ
-  W = as_eight narrow N
-
-  passed : (open_start_number m W C q ≡ 0) × (◌≡◌ {A = ℕ} (cond (leb m.count places) 0 9) 0)
-  unfolding open_plain_number
-  passed = both_zero (open_start_number m W C q) (cond (leb m.count places) 0 9) (sym e ∙ ap check_number s)
-
-  plain_room : m.count ≤ capacity (length W) (length C)
-  plain_room = count_zero m W C (open_start_accepts m W C q passed.0).0
-
-  pub plain_few : m.count ≤ 65535
-  plain_few = held_few narrow N (length C) m.count plain_room
-
-  pub plain_six : m.count * 6 ≤ length N
-  plain_six = held_six narrow N (length C) m.count plain_room
-
-  pub plain_eight : m.count * 8 ≤ length N + spared narrow
-  plain_eight = held_eight narrow N (length C) m.count plain_room
-
-  pub plain_places : m.count ≤ places
-  plain_places = places_held m.count places passed.1
+-- what the tests of an opened lookup leave: slices with places, and an output with a place for
+-- every entry
+pub findable : (m : Map) (narrow : Bool) (N C : List ℕ) (q : Query) (places : ℕ) → 0 ≡ open_plain_number m (as_eight narrow N) C q places
+    → HoldsIn narrow N m.count × (m.count ≤ places)
+unfolding open_plain_number
+findable m narrow N C q places e =
+    let W : List ℕ = as_eight narrow N in
+    let z : (open_start_number m W C q ≡ 0) × (◌≡◌ {A = ℕ} (cond (leb m.count places) 0 9) 0) =
+    both_zero (open_start_number m W C q) (cond (leb m.count places) 0 9) (sym e) in
+    ((startable m narrow N C q (sym z.0)).0, places_held m.count places z.1)
 
 -- An accepted lookup into an output that holds every entry. The store's tree is that of P, and L is
 -- a lookup of the same by steps and drains.

@@ -1,17 +1,12 @@
 -- What a reading through a ticket accepts, and its code's tests in the form that `search` takes.
-use Rattle.std.proofs.Common.{◌≡◌, ℕ, ◌+◌, ◌*◌, ◌<◌, ◌≤◌, Bool, true, false, cond, eqb, ltb, List, length, sym, refl, ap, ◌∙◌, arith, ltb-true, lt-ltb, eq-eqb, ne_eqb, eqb-true}
+use Rattle.std.proofs.Common.{◌≡◌, ℕ, ◌+◌, ◌<◌, ◌≤◌, Bool, true, false, cond, eqb, ltb, List, length, sym, refl, arith, ltb-true, lt-ltb, ne_eqb, eqb-true}
 use Rattle.words.specs.Nodes.{capacity}
-use Rattle.words.specs.Layouts.{as_eight, spared}
-use Rattle.words.specs.Refusals.{refusal_number}
-use Rattle.words.specs.declared.node.Entry.{Entry}
-use Rattle.words.specs.declared.refusal.Refusal.{Refusal}
-use Rattle.iset.specs.Check.{check_number, count_number, check_rule}
-use Rattle.iset.specs.Ticket.{age, ticket_number, open_read_number, read_number_lem, ReadAnswer, refused_reading}
+use Rattle.words.specs.Layouts.{as_eight, HasIn}
+use Rattle.iset.specs.Check.{count_number, check_rule}
+use Rattle.iset.specs.Ticket.{age, ticket_number, open_read_number, read_number_lem}
 use Rattle.iset.specs.declared.Map.{Map}
-use Rattle.iset.specs.declared.Checked.{Checked}
-use Rattle.iset.specs.declared.Checked.TheVariants.{Sound, Refused}
 use Rattle.iset.specs.declared.ticket.Ticket.{Ticket}
-use Rattle.iset.proofs.Layouts.{held_few, held_six, held_eight}
+use Rattle.iset.proofs.Layouts.{held_in}
 use Rattle.iset.proofs.Checks.{both_zero, count_zero, checked_count}
 
 module _ (m : Map) (W C : List ℕ) (t : Ticket) where
@@ -50,32 +45,8 @@ module _ (m : Map) (W C : List ℕ) (t : Ticket) where
   unfolding read_number_lem open_read_number ticket_number
   changed e d = rw (e, checked_count m W C e, ne_eqb distance 0 d)
 
--- the test of a ticket: the distance first
-module _ (m : Map) (t : Ticket) (d : ℕ) (e : d ≡ age m.version t.version) (r : ℕ) where
-  pub same_version : d ≡ 0 → r ≡ cond (ltb t.slot m.count) 0 3 → r ≡ ticket_number m t
-  unfolding ticket_number
-  same_version z q = rw (← e, eq-eqb d 0 z) q
-
-  pub other_version : (d ≡ 0 → ⊥) → r ≡ 11 → r ≡ ticket_number m t
-  unfolding ticket_number
-  other_version z q = rw (← e, ne_eqb d 0 z) q
-
 -- what the tests leave: a slot in the words
-module _ (m : Map) (narrow : Bool) (N C : List ℕ) (t : Ticket) (c : Checked) (e : check_number c ≡ open_read_number m (as_eight narrow N) C t) (q : c ≡ Sound) where
-  readable : t.slot + 1 ≤ capacity (length (as_eight narrow N)) (length C)
-  readable = let h = open_accepts m (as_eight narrow N) C t (sym e ∙ ap check_number q) in omega (arith, h.0, h.2)
-
-  pub readable_few : t.slot + 1 ≤ 65535
-  readable_few = held_few narrow N (length C) (t.slot + 1) readable
-
-  pub readable_six : (t.slot + 1) * 6 ≤ length N
-  readable_six = held_six narrow N (length C) (t.slot + 1) readable
-
-  pub readable_eight : (t.slot + 1) * 8 ≤ length N + spared narrow
-  readable_eight = held_eight narrow N (length C) (t.slot + 1) readable
-
-pub read_entry : (e x : Entry) → e ≡ x → ◌≡◌ {A = ReadAnswer} (record { no = 0; entry = e }) (record { no = 0; entry = x })
-read_entry e x q = rw q
-
-pub refused_reading_lem : (k : ℕ) (c : Checked) (z : Refusal) → check_number c ≡ k → c ≡ Refused z → refused_reading (refusal_number z) ≡ refused_reading k
-refused_reading_lem k c z e q = ap (λ (i : ℕ). refused_reading i) (sym (ap check_number q) ∙ e)
+pub readable : (m : Map) (narrow : Bool) (N C : List ℕ) (t : Ticket) → 0 ≡ open_read_number m (as_eight narrow N) C t → HasIn narrow N t.slot
+readable m narrow N C t e =
+    let h = open_accepts m (as_eight narrow N) C t (sym e) in
+    held_in narrow N (length C) (t.slot + 1) (omega (arith, h.0, h.2))

@@ -1,14 +1,14 @@
 -- Demand 1 of each public call: it is refused exactly as document 01's table says, both ways, with
 -- the first refusal in its order; and a refused call leaves all that was lent, and answers the map
 -- or the cursor as given.
-use Rattle.std.proofs.Common.{◌≡◌, ℕ, zero, suc, ◌+◌, ◌-◌, ◌/◌, ◌%◌, ◌<◌, ◌≤◌, Bool, true, false, cond, eqb, ltb, leb, ◌↔◌, List, length, sym, refl, ap, ◌∙◌, true≢false, add-one, arith, ltb-false, ltb-true, eq-eqb, ne_eqb, eqb-true, leb-false, leb-true}
+use Rattle.std.proofs.Common.{◌≡◌, ℕ, zero, suc, ◌+◌, ◌-◌, ◌/◌, ◌%◌, ◌<◌, ◌≤◌, Bool, true, false, cond, eqb, ltb, leb, ◌↔◌, List, length, sym, refl, ap, ◌∙◌, true≢false, add-one, arith, ltb-false, ltb-true, eq-eqb, ne_eqb, eqb-true, leb-false, leb-true, Result, Err}
 use contract.Lifetimes.{Lfts}
 use borrow.Fn.Kinds as K
 use denote.Triple.Clauses.{AtExit}
 use Rattle.words.specs.Ix.{U}
 use Rattle.words.specs.Nodes.{capacity}
-use Rattle.words.specs.declared.interval.Bound.{Bound}
-use Rattle.words.specs.declared.interval.Bound.TheVariants.{Included, Excluded, Unbounded}
+use Rattle.std.specs.declared.ops.Bound.{Bound}
+use Rattle.std.specs.declared.ops.Bound.TheVariants.{Included, Excluded, Unbounded}
 use Rattle.words.specs.declared.interval.Interval.{Interval}
 use Rattle.words.specs.declared.interval.Span.{Span}
 use Rattle.words.specs.declared.node.Entry.{Entry}
@@ -28,7 +28,6 @@ use Rattle.iter.specs.declared.Form.{Form}
 use Rattle.iter.specs.declared.Form.TheVariants as form
 use Rattle.iter.specs.declared.rules.Query.{Query}
 use Rattle.iter.specs.declared.rules.Query.TheVariants.{Overlap, Ruled, Exact}
-use Rattle.iter_laws.specs.Place.{Held}
 use Rattle.iter_laws.proofs.Whole.{any_holds, holds_any}
 use Rattle.iter_laws.proofs.OverlapRuns.{overlap_fresh_form, overlap_ended_form, overlap_held_form, overlap_bad_form}
 use Rattle.iter_laws.proofs.ExactRuns.{exact_start, exact_fresh_form, exact_ended_form, exact_held_form, exact_bad_form, exact_none_held}
@@ -50,18 +49,11 @@ use Rattle.iset.specs.declared.ticket.Ticket.{Ticket}
 use Rattle.words.specs.Refusals.{refusal_number}
 use Rattle.words.specs.declared.refusal.Refusal.{Refusal}
 use Rattle.words.proofs.Refusals.{number_pos}
-use Rattle.iset.specs.declared.build.Built.{Built}
-use Rattle.iset.specs.declared.build.Built.TheVariants as built
-use Rattle.iset.specs.declared.remove.Removal.{Removal}
-use Rattle.iset.specs.declared.remove.Removal.TheVariants as removal
-use Rattle.iset.specs.declared.insert.Insertion.{Insertion}
-use Rattle.iset.specs.declared.insert.Insertion.TheVariants as insertion
-use Rattle.iset.specs.declared.unload.Unloading.{Unloading}
-use Rattle.iset.specs.declared.unload.Unloading.TheVariants as unloading
-use Rattle.iset.specs.declared.lookup.Drain.{Drain}
-use Rattle.iset.specs.declared.lookup.Drain.TheVariants as drained
-use Rattle.iset.specs.declared.scan.Looked.{Looked}
-use Rattle.iset.specs.declared.scan.Looked.TheVariants as looked
+use Rattle.iset.specs.declared.remove.Removed.{Removed}
+use Rattle.iset.specs.declared.insert.Inserted.{Inserted}
+use Rattle.iset.specs.declared.unload.Unloaded.{Unloaded}
+use Rattle.iter.specs.declared.drain.Drained.{Drained}
+use Rattle.plain.specs.declared.Tally.{Tally}
 use Rattle.iset.proofs.Map.insert.Reads as insert-reads
 use Rattle.iset.proofs.Map.insert.Kinds as insert-kinds
 use Rattle.iset.proofs.Map.remove.Reads as remove-reads
@@ -306,7 +298,7 @@ module _ (m : Map) (W C : List ℕ) (e : Entry) where
   insert_leaves d = rw insert_no (kept (insert_number m W C e) _ _ (λ z. d (insert_no ∙ z)))
 
 -- BadRange, as the test of the bounds has it
-pub ordered_not : (x y : Bound) → ordered x y ≡ true → BadRange x y → ⊥
+pub ordered_not : (x y : Bound ℕ) → ordered x y ≡ true → BadRange x y → ⊥
 ordered_not (Included a) (Included b) e p = omega (arith, leb-true a b e)
 ordered_not (Included a) (Excluded b) e p = omega (arith, ltb-true a b e)
 ordered_not (Included a) Unbounded e p = p
@@ -315,7 +307,7 @@ ordered_not (Excluded a) (Excluded b) e p = omega (arith, ltb-true a b e)
 ordered_not (Excluded a) Unbounded e p = p
 ordered_not Unbounded y e p = p
 
-pub disordered : (x y : Bound) → ordered x y ≡ false → BadRange x y
+pub disordered : (x y : Bound ℕ) → ordered x y ≡ false → BadRange x y
 disordered (Included a) (Included b) e = leb-false a b e
 disordered (Included a) (Excluded b) e = ltb-false a b e
 disordered (Included a) Unbounded e = absurd (true≢false e)
@@ -555,40 +547,40 @@ pub store_left : {A : Type 0} (x y : Effect A) → x ≡ y → (x.words ≡ y.wo
 store_left {A = A} x y e = (ap (λ (c : Effect A). c.words) e, ap (λ (c : Effect A). c.colours) e)
 
 pub build_code : (κs : Lfts 3) (a : K.Dens κs build-kinds.ps) (r : (K.res_t build-kinds.r κs).Denot) (s : AtExit (K.ended_of 3 build-kinds.ps build-kinds.r) κs)
-    → build-reads.Post κs a r s → (y : Refusal) → r ≡ built.Refused y → (s.1.0.now ≡ a.1.0.now) × (s.1.1.0.now ≡ a.1.1.0.now)
+    → build-reads.Post κs a r s → (y : Refusal) → r ≡ Err y → (s.1.0.now ≡ a.1.0.now) × (s.1.1.0.now ≡ a.1.1.0.now)
 build_code κs a r s p y e =
     let m : Map = a.0 in
     let W : List ℕ = a.1.0.now in
     let C : List ℕ = a.1.1.0.now in
     let S : List ℕ = a.1.1.1.0.now in
     let k : refusal_number y ≡ (build_call m W C S).answer.no =
-    ap (λ (x : Built). (build_answer m x).no) (sym e) ∙ ap (λ (x : Effect BuildAnswer). x.answer.no) p in
+    ap (λ (x : Result Map Refusal). (build_answer m x).no) (sym e) ∙ ap (λ (x : Effect BuildAnswer). x.answer.no) p in
     store_left _ _ (p ∙ build_leaves m W C S (refused_number (build_call m W C S).answer.no y k))
 
 pub remove_code : (κs : Lfts 2) (a : K.Dens κs remove-kinds.ps) (r : (K.res_t remove-kinds.r κs).Denot) (s : AtExit (K.ended_of 2 remove-kinds.ps remove-kinds.r) κs)
-    → remove-reads.Post κs a r s → (y : Refusal) → r ≡ removal.Refused y → (s.1.0.now ≡ a.1.0.now) × (s.1.1.0.now ≡ a.1.1.0.now)
+    → remove-reads.Post κs a r s → (y : Refusal) → r ≡ Err y → (s.1.0.now ≡ a.1.0.now) × (s.1.1.0.now ≡ a.1.1.0.now)
 remove_code κs a r s p y e =
     let m : Map = a.0 in
     let W : List ℕ = a.1.0.now in
     let C : List ℕ = a.1.1.0.now in
     let t : ℕ = a.1.1.1.0 in
     let k : refusal_number y ≡ (remove_call m W C t).answer.no =
-    ap (λ (x : Removal). (remove_answer m x).no) (sym e) ∙ ap (λ (x : Effect RemoveAnswer). x.answer.no) p in
+    ap (λ (x : Result Removed Refusal). (remove_answer m x).no) (sym e) ∙ ap (λ (x : Effect RemoveAnswer). x.answer.no) p in
     store_left _ _ (p ∙ remove_leaves m W C t (refused_number (remove_call m W C t).answer.no y k))
 
 pub insert_code : (κs : Lfts 2) (a : K.Dens κs insert-kinds.ps) (r : (K.res_t insert-kinds.r κs).Denot) (s : AtExit (K.ended_of 2 insert-kinds.ps insert-kinds.r) κs)
-    → insert-reads.Post κs a r s → (y : Refusal) → r ≡ insertion.Refused y → (s.1.0.now ≡ a.1.0.now) × (s.1.1.0.now ≡ a.1.1.0.now)
+    → insert-reads.Post κs a r s → (y : Refusal) → r ≡ Err y → (s.1.0.now ≡ a.1.0.now) × (s.1.1.0.now ≡ a.1.1.0.now)
 insert_code κs a r s p y e =
     let m : Map = a.0 in
     let W : List ℕ = a.1.0.now in
     let C : List ℕ = a.1.1.0.now in
     let t : Entry = entry_of a.1.1.1.0 a.1.1.1.1.0 a.1.1.1.1.1.0 in
     let k : refusal_number y ≡ (insert_call m W C t).answer.no =
-    ap (λ (x : Insertion). (insert_answer m x).no) (sym e) ∙ ap (λ (x : Effect InsertAnswer). x.answer.no) p in
+    ap (λ (x : Result Inserted Refusal). (insert_answer m x).no) (sym e) ∙ ap (λ (x : Effect InsertAnswer). x.answer.no) p in
     store_left _ _ (p ∙ insert_leaves m W C t (refused_number (insert_call m W C t).answer.no y k))
 
 pub unload_code : (κs : Lfts 2) (a : K.Dens κs unload-kinds.ps) (r : (K.res_t unload-kinds.r κs).Denot) (s : AtExit (K.ended_of 2 unload-kinds.ps unload-kinds.r) κs)
-    → unload-reads.Post κs a r s → (y : Refusal) → r ≡ unloading.Refused y → (s.1.0.now ≡ a.1.0.now) × (s.1.1.0.now ≡ a.1.1.0.now)
+    → unload-reads.Post κs a r s → (y : Refusal) → r ≡ Err y → (s.1.0.now ≡ a.1.0.now) × (s.1.1.0.now ≡ a.1.1.0.now)
 unload_code κs a r s p y e =
     let m : Map = a.0 in
     let W : List ℕ = a.1.0.now in
@@ -596,11 +588,11 @@ unload_code κs a r s p y e =
     let t : ℕ = a.1.1.1.0 in
     let q : Span = a.1.1.1.1.0 in
     let k : refusal_number y ≡ (unload_call m W C t q).answer.no =
-    ap (λ (x : Unloading). (unload_answer m x).no) (sym e) ∙ ap (λ (x : Effect UnloadAnswer). x.answer.no) p in
+    ap (λ (x : Result Unloaded Refusal). (unload_answer m x).no) (sym e) ∙ ap (λ (x : Effect UnloadAnswer). x.answer.no) p in
     store_left _ _ (p ∙ unload_leaves m W C t q (refused_number (unload_call m W C t q).answer.no y k))
 
 pub drain_code : (κs : Lfts 3) (a : K.Dens κs drain-kinds.ps) (r : (K.res_t drain-kinds.r κs).Denot) (s : AtExit (K.ended_of 3 drain-kinds.ps drain-kinds.r) κs)
-    → drain-reads.Post κs a r s → (y : Refusal) → r ≡ drained.Refused y → s.1.1.1.1.1.1.0.now ≡ a.1.1.1.1.1.1.0.now
+    → drain-reads.Post κs a r s → (y : Refusal) → r ≡ Err y → s.1.1.1.1.1.1.0.now ≡ a.1.1.1.1.1.1.0.now
 drain_code κs a r s p y e =
     let m : Map = a.0 in
     let W : List ℕ = a.1.0.now in
@@ -610,21 +602,21 @@ drain_code κs a r s p y e =
     let t : ℕ = a.1.1.1.1.1.0 in
     let out : List ℕ = a.1.1.1.1.1.1.0.now in
     let k : refusal_number y ≡ (drain_call m W C q c t out).answer.no =
-    ap (λ (x : Drain). (drain_answer c x).no) (sym e) ∙ ap (λ (x : Output DrainAnswer). x.answer.no) p in
+    ap (λ (x : Result Drained Refusal). (drain_answer c x).no) (sym e) ∙ ap (λ (x : Output DrainAnswer). x.answer.no) p in
     ap (λ (x : Output DrainAnswer). x.output) (p ∙ drain_leaves m W C c t q out (refused_number (drain_call m W C q c t out).answer.no y k))
 
 -- the plain lookup and the fast one
-looked_code : (r : Looked) (X out : List ℕ) (c : Output TallyAnswer) → output (tally_answer r) X ≡ c
-    → ((c.answer.no ≡ 0 → ⊥) → c ≡ output (refused_tally c.answer.no) out) → (y : Refusal) → r ≡ looked.Refused y → X ≡ out
+looked_code : (r : Result Tally Refusal) (X out : List ℕ) (c : Output TallyAnswer) → output (tally_answer r) X ≡ c
+    → ((c.answer.no ≡ 0 → ⊥) → c ≡ output (refused_tally c.answer.no) out) → (y : Refusal) → r ≡ Err y → X ≡ out
 looked_code r X out c p leaves y e =
     let k : refusal_number y ≡ c.answer.no =
-    ap (λ (x : Looked). (tally_answer x).no) (sym e) ∙ ap (λ (x : Output TallyAnswer). x.answer.no) p in
+    ap (λ (x : Result Tally Refusal). (tally_answer x).no) (sym e) ∙ ap (λ (x : Output TallyAnswer). x.answer.no) p in
     ap (λ (x : Output TallyAnswer). x.output) (p ∙ leaves (refused_number c.answer.no y k))
 
 pub plain_code : (κs : Lfts 3) (a : K.Dens κs plain-kinds.ps) (r : (K.res_t plain-kinds.r κs).Denot) (s : AtExit (K.ended_of 3 plain-kinds.ps plain-kinds.r) κs)
-    → plain-reads.Post κs a r s → (y : Refusal) → r ≡ looked.Refused y → s.1.1.1.1.0.now ≡ a.1.1.1.1.0.now
+    → plain-reads.Post κs a r s → (y : Refusal) → r ≡ Err y → s.1.1.1.1.0.now ≡ a.1.1.1.1.0.now
 plain_code κs a r s p = looked_code r _ _ _ p (plain_leaves a.0 a.1.0.now a.1.1.0.now a.1.1.1.0 a.1.1.1.1.0.now)
 
 pub find_all_code : (κs : Lfts 3) (a : K.Dens κs find-all-kinds.ps) (r : (K.res_t find-all-kinds.r κs).Denot) (s : AtExit (K.ended_of 3 find-all-kinds.ps find-all-kinds.r) κs)
-    → find-all-reads.Post κs a r s → (y : Refusal) → r ≡ looked.Refused y → s.1.1.1.1.0.now ≡ a.1.1.1.1.0.now
+    → find-all-reads.Post κs a r s → (y : Refusal) → r ≡ Err y → s.1.1.1.1.0.now ≡ a.1.1.1.1.0.now
 find_all_code κs a r s p = looked_code r _ _ _ p (find_all_leaves a.0 a.1.0.now a.1.1.0.now a.1.1.1.0 a.1.1.1.1.0.now)

@@ -1,9 +1,7 @@
 -- Document 02, item 14, of the public calls.
-use Rattle.std.proofs.Common.{◌≡◌, ℕ, ◌<◌, ◌≤◌, List, map, length, get_or, take, sym, refl, ap, ◌∙◌, arith, length-take-le, eq-eqb, le-leb}
+use Rattle.std.proofs.Common.{◌≡◌, ℕ, ◌<◌, ◌≤◌, List, length, get_or, take, sym, refl, ap, ◌∙◌, arith, length-take-le, eq-eqb, le-leb}
 use Rattle.words.specs.Nodes.{capacity}
 use Rattle.tree.specs.Tree.{slots}
-use Rattle.tree.specs.Passes.{Passes}
-use Rattle.tree.proofs.Checked.{unique}
 use Rattle.plain_rule.specs.Tour.{entries}
 use Rattle.plain_rule.proofs.Tours.{entries_are}
 use Rattle.tidy_rule.specs.Plan.{renamed, proposed}
@@ -12,7 +10,6 @@ use Rattle.tidy_rule.specs.Tidied.{Tidied}
 use Rattle.tidy_rule.proofs.Plans.{Fits, is_fits}
 use Rattle.tidy_rule.proofs.Renumbers as renumbers
 use Rattle.tidy_rule.proofs.Proposals.{take_proposed, length_proposed, proposed_kept, proposed_place, proposal_fits, tidy_slots, no_move}
-use Rattle.iset.specs.Effects.{output}
 use Rattle.iset.specs.Check.{check_rule}
 use Rattle.iset.specs.Maps.{next_map}
 use Rattle.iset.specs.Renumbered.{propose_in_lem, renumber_in_lem, proposal_of, tidied_by, ReadsAs, Renumbered, Request14}

@@ -1,6 +1,6 @@
 -- "at exactly that many it can pass": 4,294,967,296 builds, one after the other, after which a
 -- ticket passes. The list of them is stated and not computed. Then the item as a whole.
-use Rattle.std.proofs.Common.{◌≡◌, ℕ, zero, suc, ◌+◌, ◌<◌, List, [], ◌∷◌, length, replicate, sym, refl, ap, ◌∙◌, arith, eq-eqb}
+use Rattle.std.proofs.Common.{◌≡◌, ℕ, zero, suc, ◌<◌, List, [], ◌∷◌, length, replicate, refl, ◌∙◌, arith, eq-eqb}
 use Rattle.builder.specs.Input.{start_of, end_of, every, proper_at, in_order_lem, all_proper_lem, sorted}
 use Rattle.iset.specs.Maps.{empty_map}
 use Rattle.iset.specs.Build.{build_number}

@@ -1,9 +1,9 @@
 -- Request 11, of the public calls.
-use Rattle.std.proofs.Common.{◌≡◌, ℕ, ◌+◌, ◌*◌, ◌<◌, ◌≤◌, max, Bool, true, false, leb, ◌↔◌, List, [], refl, arith, ltb-true, lt-ltb, leb-true}
+use Rattle.std.proofs.Common.{◌≡◌, ℕ, ◌+◌, ◌*◌, ◌<◌, max, Bool, true, false, leb, ◌↔◌, List, [], refl, arith, ltb-true, lt-ltb, leb-true}
 use Rattle.words.specs.Intervals.{admits}
-use Rattle.words.specs.Nodes.{word, start, stop, interval}
-use Rattle.words.specs.declared.interval.Bound.{Bound}
-use Rattle.words.specs.declared.interval.Bound.TheVariants.{Included, Excluded, Unbounded}
+use Rattle.words.specs.Nodes.{word, start, interval}
+use Rattle.std.specs.declared.ops.Bound.{Bound}
+use Rattle.std.specs.declared.ops.Bound.TheVariants.{Included, Excluded, Unbounded}
 use Rattle.words.specs.declared.interval.Span.{Span}
 use Rattle.tree.specs.Passes.{Passes}
 use Rattle.image_rule.specs.Written.{Words}
@@ -11,16 +11,15 @@ use Rattle.iter.specs.Ranges.{last, first_from, by_rule_lem, any_whole}
 use Rattle.iter.specs.Cursors.{fresh}
 use Rattle.iter.specs.Overlap.{meets}
 use Rattle.iter.specs.Queries.{rules}
-use Rattle.iter.specs.declared.rules.Query.TheVariants.{Overlap, Ruled}
+use Rattle.iter.specs.declared.rules.Query.TheVariants.{Ruled}
 use Rattle.iter.proofs.Bools.{and_right}
 use Rattle.iter_laws.specs.Addresses.{Shared}
 use Rattle.iter_laws.proofs.Whole.{holds_any, ruled_less, ruled_shared, shared_ruled}
 use Rattle.fast_rule.specs.Fast.{fast_rules, start_at, fast_nodes, fast_hits}
-use Rattle.iset.specs.Lookup.{open_start_number, open_step_number, open_drain_number, start_number, step_number, drain_number, step_call, drain_call, ordered, accepts}
+use Rattle.iset.specs.Lookup.{open_start_number, open_step_number, open_drain_number, start_number, step_number, drain_number, step_call, drain_call, ordered}
 use Rattle.iset.specs.Plain.{open_plain_number, plain_number, plain_call}
 use Rattle.iset.specs.Find.{find_all_call}
 use Rattle.iset.specs.Refusals.{BadRuled}
-use Rattle.iset.specs.Runs.{Ask}
 use Rattle.iset.specs.Ruled.{Request11}
 use Rattle.iset.specs.declared.Map.{Map}
 use Rattle.iset.proofs.Refusals.{ordered_not, not_accepted}
@@ -38,7 +37,7 @@ accepted_two q d = go (any_whole q.lo q.hi) refl
 
 -- a range that holds a whole address is ordered, by the first address that its lower bound lets
 -- pass
-admits_ordered : (lo hi : Bound) → admits hi (first_from lo) ≡ true → ordered lo hi ≡ true
+admits_ordered : (lo hi : Bound ℕ) → admits hi (first_from lo) ≡ true → ordered lo hi ≡ true
 admits_ordered (Included x) (Included y) h = h
 admits_ordered (Included x) (Excluded y) h = h
 admits_ordered (Included x) Unbounded h = refl
@@ -47,7 +46,7 @@ admits_ordered (Excluded x) (Excluded y) h = lt-ltb x y (omega (arith, ltb-true 
 admits_ordered (Excluded x) Unbounded h = refl
 admits_ordered Unbounded y h = refl
 
-pub whole_ordered : (lo hi : Bound) → any_whole lo hi ≡ true → ordered lo hi ≡ true
+pub whole_ordered : (lo hi : Bound ℕ) → any_whole lo hi ≡ true → ordered lo hi ≡ true
 whole_ordered lo hi e = admits_ordered lo hi (and_right (leb (first_from lo) last) (admits hi (first_from lo)) e)
 
 -- so rule 2 refuses what rule 1 refuses

@@ -1,5 +1,5 @@
 -- Document 02, item 6: both round trips of the calls, and all that is claimed of them.
-use Rattle.std.proofs.Common.{◌≡◌, ℕ, ◌<◌, ◌≤◌, true, List, length, take, drop, sym, refl, ap, ◌∙◌, arith, le-ltb, eq-eqb, le-leb}
+use Rattle.std.proofs.Common.{◌≡◌, ℕ, ◌≤◌, true, List, length, take, drop, sym, refl, ap, ◌∙◌, arith, le-ltb, eq-eqb, le-leb}
 use lib.Seq.{take-append_seam, drop-append_seam}
 use Rattle.words.specs.Nodes.{capacity, HoldsBits}
 use Rattle.tree.specs.Passes.{Passes}
@@ -21,7 +21,7 @@ use Rattle.iset.specs.Build.{BuildAnswer}
 use Rattle.iset.specs.Image.{write_image_number, WriteAnswer, write_done, write_image_call, read_image_number, read_store, read_image_call}
 use Rattle.iset.specs.Saved.{image_left, Kept, SameBelow, Request6}
 use Rattle.iset.specs.declared.Map.{Map}
-use Rattle.iset.proofs.Checks.{both_zero, places_held, check_zero, zero_check}
+use Rattle.iset.proofs.Checks.{both_zero, check_zero, zero_check}
 use Rattle.iset.proofs.Orders.{write_image_order}
 use Rattle.iset.proofs.Images.{accepts, read_sound, read_call_lem, good_complete}
 use Rattle.iset.proofs.ImageRefusals.{write_image_no, write_image_refusals, write_image_leaves, read_image_no, read_image_refusals, read_image_leaves}

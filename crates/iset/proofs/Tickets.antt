@@ -1,17 +1,16 @@
 -- Document 02, item 4: "a ticket is refused when at least 1 and fewer than 4,294,967,296 changes
 -- have come since; at exactly that many it can pass". A ticket is taken in a state S; then come
 -- calls, each on what the one before it answered and left, refused ones among them.
-use Rattle.std.proofs.Common.{◌≡◌, ℕ, zero, suc, ◌+◌, ◌%◌, ◌<◌, ◌≤◌, Bool, true, false, cond, eqb, List, [], ◌∷◌, sym, refl, ap, ◌∙◌, arith, eq-eqb}
+use Rattle.std.proofs.Common.{◌≡◌, ℕ, ◌+◌, ◌%◌, ◌<◌, ◌≤◌, Bool, true, false, cond, eqb, List, [], ◌∷◌, sym, refl, ap, ◌∙◌, arith, eq-eqb}
 use Rattle.iset.specs.Effects.{Effect}
 use Rattle.iset.specs.Maps.{raised, raised_by}
 use Rattle.iset.specs.Build.{BuildAnswer}
 use Rattle.iset.specs.Remove.{RemoveAnswer}
 use Rattle.iset.specs.Insert.{InsertAnswer}
-use Rattle.iset.specs.Unload.{UnloadAnswer}
 use Rattle.iset.specs.Tidy.{RenumberAnswer}
 use Rattle.iset.specs.Sequence.{Call, build, remove, insert, read, unload, renumber, State, answered, all_answered, refusal_of, once, changes_of, made}
 use Rattle.iset.specs.Ticket.{ticket_of, age, read_number_lem, read_done_lem, read_call}
-use Rattle.iset.specs.Versions.{version_after, read_in_lem}
+use Rattle.iset.specs.Versions.{read_in_lem}
 use Rattle.iset.specs.declared.ticket.Ticket.{Ticket}
 use Rattle.iset.proofs.Readings as readings
 use Rattle.iset.proofs.Refusals.{build_leaves, remove_leaves, insert_leaves, read_no}

@@ -1,6 +1,6 @@
 -- Demand 1 of numbering the slots anew: the planner and the step that accepts a plan are refused
 -- exactly as document 02 says, and a refused call leaves all that was lent.
-use Rattle.std.proofs.Common.{◌≡◌, ℕ, ◌<◌, ◌≤◌, Bool, true, false, cond, leb, List, length, sym, refl, ap, ◌∙◌, true≢false, arith, leb-false, leb-true}
+use Rattle.std.proofs.Common.{◌≡◌, ℕ, ◌<◌, true, false, cond, leb, List, length, sym, refl, ◌∙◌, true≢false, arith, leb-false, leb-true}
 use Rattle.tidy_rule.specs.Plan.{fits}
 use Rattle.tidy_rule.proofs.Plans.{Fits, fits_is, is_fits}
 use Rattle.iset.specs.Effects.{Effect, effect, Output, output}

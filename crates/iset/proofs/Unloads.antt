@@ -1,9 +1,8 @@
 -- Document 02, item 13: an unloading is public removals one after the other, two of them come to
 -- the same in either order, and all that is claimed of the call.
-use Rattle.std.proofs.Common.{◌≡◌, ℕ, zero, suc, ◌+◌, ◌-◌, ◌%◌, ◌<◌, ◌≤◌, Bool, true, false, cond, ◌||◌, eqb, ltb, List, [], ◌∷◌, map, length, sym, refl, ap, ◌∙◌, arith, ltb-false, ltb-true, eq-eqb}
+use Rattle.std.proofs.Common.{◌≡◌, ℕ, zero, suc, ◌+◌, ◌-◌, ◌<◌, ◌≤◌, Bool, true, false, cond, ◌||◌, eqb, List, [], ◌∷◌, map, length, sym, refl, ap, ◌∙◌, arith, eq-eqb}
 use Rattle.words.specs.Nodes.{capacity, entry}
 use Rattle.words.specs.declared.interval.Span.{Span}
-use Rattle.words.specs.declared.node.Entry.{Entry}
 use Rattle.tree.specs.Tree.{slots}
 use Rattle.tree.proofs.Cases.{compare}
 use Rattle.tree_edit.specs.Store.{Store, store}
@@ -21,10 +20,9 @@ use Rattle.iset.specs.Check.{check_rule}
 use Rattle.iset.specs.Maps.{map_at, next_map, raised, raised_by}
 use Rattle.iset.specs.Refusals.{BadRuled}
 use Rattle.iset.specs.Remove.{remove_number, remove_call}
-use Rattle.iset.specs.Sequence.{Call, remove, unload, State, unloaded, answered, all_answered, refusal_of, once, changes_of, made}
+use Rattle.iset.specs.Sequence.{Call, remove, unload, State, unloaded, answered, all_answered, refusal_of, changes_of, made}
 use Rattle.iset.specs.Unload.{unload_number, UnloadAnswer, refused_unloading, unload_range_lem, unload_call}
 use Rattle.iset.specs.Unloaded.{Good, removals, after_both, both_gone, Holding, EitherOrder, Request13}
-use Rattle.iset.specs.declared.Map.{Map}
 use Rattle.iset.proofs.Checks.{check_zero}
 use Rattle.iset.proofs.Opened.{unload_is}
 use Rattle.iset.proofs.Raised.{unload_version}

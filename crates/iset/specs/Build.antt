@@ -1,17 +1,16 @@
 -- "build 8, 1, 5, 6", each over the whole input
 -- Letters: W words, C colours, n count, m map that is replaced, S triples, k number of a refusal,
 --   y refusal, g answer of the code
-use Rattle.std.specs.Prelude.{ℕ, ◌/◌, ◌%◌, cond, List, length, ◌==◌, nat_lt}
+use Rattle.std.specs.Prelude.{ℕ, ◌/◌, ◌%◌, cond, List, length, ◌==◌, nat_lt, Result, Ok, Err}
 use Rattle.words.specs.Ix.{U}
 use Rattle.words.specs.Nodes.{capacity}
 use Rattle.words.specs.Refusals.{refusal_number}
+use Rattle.words.specs.declared.refusal.Refusal.{Refusal}
 use Rattle.builder.specs.Input.{all_proper_lem, sorted}
 use Rattle.builder.specs.Build.{build_words, build_colours, build_root}
 use Rattle.iset.specs.Effects.{Effect, effect}
 use Rattle.iset.specs.Maps.{map_at, next_map}
 use Rattle.iset.specs.declared.Map.{Map}
-use Rattle.iset.specs.declared.build.Built.{Built}
-use Rattle.iset.specs.declared.build.Built.TheVariants.{Done, Refused}
 
 -- the refusal's number, 0 for none, of the list S for so many words and bytes
 unfoldable pub build_number : (words bytes : ℕ) (triples : List ℕ) → ℕ
@@ -30,9 +29,9 @@ abbrev pub refused_build : (map : Map) (number : ℕ) → BuildAnswer
 refused_build m k = record { no = k; map = map_at 0 U m.version }
 
 -- what the code's answer stands for, of a build in the place of the map m
-abbrev pub build_answer : (map : Map) (built : Built) → BuildAnswer
-build_answer m (Done g) = record { no = 0; map = g }
-build_answer m (Refused y) = refused_build m (refusal_number y)
+abbrev pub build_answer : (map : Map) (built : Result Map Refusal) → BuildAnswer
+build_answer m (Ok g) = record { no = 0; map = g }
+build_answer m (Err y) = refused_build m (refusal_number y)
 
 -- a list that is accepted
 abbrev pub build_list_lem : (map : Map) (words colours triples : List ℕ) → Effect BuildAnswer

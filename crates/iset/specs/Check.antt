@@ -1,17 +1,16 @@
 -- "the check by itself 1, 2"
 -- Letters: m map, W words, C colours, k number of a refusal, x next number, y refusal
-use Rattle.std.specs.Prelude.{ℕ, cond, List, length, ◌==◌, nat_lt}
+use Rattle.std.specs.Prelude.{ℕ, cond, List, length, ◌==◌, nat_lt, Result, Ok, Err}
 use Rattle.words.specs.Nodes.{capacity}
 use Rattle.words.specs.Refusals.{refusal_number}
+use Rattle.words.specs.declared.refusal.Refusal.{Refusal}
 use Rattle.audit.specs.Survey.{whole_of}
 use Rattle.iset.specs.declared.Map.{Map}
-use Rattle.iset.specs.declared.Checked.{Checked}
-use Rattle.iset.specs.declared.Checked.TheVariants.{Sound, Refused}
 
 -- the refusal's number, 0 for none
-abbrev pub check_number : (checked : Checked) → ℕ
-check_number Sound = 0
-check_number (Refused y) = refusal_number y
+abbrev pub check_number : {A : Type 0} → (checked : Result A Refusal) → ℕ
+check_number (Ok _) = 0
+check_number (Err y) = refusal_number y
 
 -- a refusal's number k, or where that is 0 the one that comes next
 abbrev pub first : (number next : ℕ) → ℕ

@@ -1,9 +1,10 @@
 -- Document 02, item 6: "Save a map, load it back". docs/IMAGE.md has the bytes of an image.
 -- Letters: m map, W words, C colours, n count, r root, v length of an image, k number of a refusal,
 --   y refusal, I image (its bytes)
-use Rattle.std.specs.Prelude.{ℕ, cond, List, length, ◌==◌, nat_le, nat_lt}
+use Rattle.std.specs.Prelude.{ℕ, cond, List, length, ◌==◌, nat_le, nat_lt, Result, Ok, Err}
 use Rattle.words.specs.Nodes.{capacity}
 use Rattle.words.specs.Refusals.{refusal_number}
+use Rattle.words.specs.declared.refusal.Refusal.{Refusal}
 use Rattle.iter.specs.Drains.{filled}
 use Rattle.image_rule.specs.Layout.{image_length_lem, count_in_lem, root_in_lem, laid_out_lem}
 use Rattle.image_rule.specs.Stored.{is_good, loaded_words, loaded_colours}
@@ -13,8 +14,6 @@ use Rattle.iset.specs.Check.{first, count_number, check_rule}
 use Rattle.iset.specs.Maps.{next_map}
 use Rattle.iset.specs.Build.{BuildAnswer, refused_build}
 use Rattle.iset.specs.declared.Map.{Map}
-use Rattle.iset.specs.declared.save.Written.{Written}
-use Rattle.iset.specs.declared.save.Written.TheVariants.{Done, Refused}
 
 -- the first refusal's number, 0 for none, of writing the image of an opened store into an output
 -- with so many places
@@ -37,9 +36,9 @@ abbrev pub refused_write : (number : ℕ) → WriteAnswer
 refused_write k = record { no = k; length = 0 }
 
 -- what the code's answer stands for
-abbrev pub write_answer : (written : Written) → WriteAnswer
-write_answer (Done v) = write_done v
-write_answer (Refused y) = refused_write (refusal_number y)
+abbrev pub write_answer : (written : Result ℕ Refusal) → WriteAnswer
+write_answer (Ok v) = write_done v
+write_answer (Err y) = refused_write (refusal_number y)
 
 -- a call that is refused by the number k, and leaves the output as it was, or is not refused: the
 -- image is in the first places of the output, and those past it stay

@@ -1,10 +1,11 @@
 -- Document 02, item 1: "in the order 1, 2, 5"
 -- Letters: m map, W words, C colours, a start, b end, v value, S store, k number of a refusal or
 --   changed hulls, e entry, y refusal, g answer of the code
-use Rattle.std.specs.Prelude.{ℕ, ◌+◌, cond, List, length, ◌==◌, nat_lt}
+use Rattle.std.specs.Prelude.{ℕ, ◌+◌, cond, List, length, ◌==◌, nat_lt, Result, Ok, Err}
 use Rattle.words.specs.Ix.{U}
 use Rattle.words.specs.Nodes.{capacity}
 use Rattle.words.specs.Refusals.{refusal_number}
+use Rattle.words.specs.declared.refusal.Refusal.{Refusal}
 use Rattle.words.specs.declared.node.Entry.{Entry}
 use Rattle.tree_edit.specs.Store.{Store}
 use Rattle.tree_edit.specs.Reach.{changes}
@@ -14,8 +15,7 @@ use Rattle.iset.specs.Effects.{Effect, effect}
 use Rattle.iset.specs.Check.{first, check_rule}
 use Rattle.iset.specs.Maps.{next_map}
 use Rattle.iset.specs.declared.Map.{Map}
-use Rattle.iset.specs.declared.insert.Insertion.{Insertion}
-use Rattle.iset.specs.declared.insert.Insertion.TheVariants.{Done, Refused}
+use Rattle.iset.specs.declared.insert.Inserted.{Inserted}
 
 abbrev pub entry_of : (start end value : ℕ) → Entry
 entry_of a b v = record { start = a; end = b; value = v }
@@ -47,9 +47,9 @@ abbrev pub refused_insertion : (map : Map) (number : ℕ) → InsertAnswer
 refused_insertion m k = record { no = k; slot = U; map = m; reach = 0 }
 
 -- what the code's answer stands for
-abbrev pub insert_answer : (map : Map) (insertion : Insertion) → InsertAnswer
-insert_answer m (Done g) = record { no = 0; slot = g.slot; map = g.map; reach = g.reach }
-insert_answer m (Refused y) = refused_insertion m (refusal_number y)
+abbrev pub insert_answer : (map : Map) (insertion : Result Inserted Refusal) → InsertAnswer
+insert_answer m (Ok g) = record { no = 0; slot = g.slot; map = g.map; reach = g.reach }
+insert_answer m (Err y) = refused_insertion m (refusal_number y)
 
 -- what the rule of insertion answers, with k changed hulls: "slot count is always the next one"
 abbrev pub insert_done : (map : Map) (store : Store) (changed : ℕ) → InsertAnswer

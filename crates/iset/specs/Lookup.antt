@@ -3,12 +3,13 @@
 -- Letters: m map, W words, C colours, a lower number or answer, b higher number, h hit?, s step,
 --   d drained, y high bound or refusal, x low or interval, q range or query, c cursor, k rule or
 --   number of a refusal
-use Rattle.std.specs.Prelude.{ℕ, Bool, true, false, cond, List, length, ◌==◌, nat_le, nat_lt}
+use Rattle.std.specs.Prelude.{ℕ, Bool, true, false, cond, List, length, ◌==◌, nat_le, nat_lt, Result, Ok, Err}
 use Rattle.words.specs.Ix.{U}
 use Rattle.words.specs.Refusals.{refusal_number}
+use Rattle.words.specs.declared.refusal.Refusal.{Refusal}
 use Rattle.words.specs.Intervals.{proper}
-use Rattle.words.specs.declared.interval.Bound.{Bound}
-use Rattle.words.specs.declared.interval.Bound.TheVariants.{Included, Excluded, Unbounded}
+use Rattle.std.specs.declared.ops.Bound.{Bound}
+use Rattle.std.specs.declared.ops.Bound.TheVariants.{Included, Excluded, Unbounded}
 use Rattle.words.specs.declared.interval.Interval.{Interval}
 use Rattle.iter.specs.Ranges.{any_whole}
 use Rattle.iter.specs.Cursors.{fresh, ended}
@@ -26,15 +27,11 @@ use Rattle.iter.specs.declared.rules.Query.TheVariants.{Overlap, Ruled, Exact}
 use Rattle.iset.specs.Effects.{Output, output}
 use Rattle.iset.specs.Check.{first, count_number, check_rule}
 use Rattle.iset.specs.declared.Map.{Map}
-use Rattle.iset.specs.declared.lookup.Started.{Started}
-use Rattle.iset.specs.declared.lookup.Started.TheVariants as started
-use Rattle.iset.specs.declared.lookup.Stepped.{Stepped}
-use Rattle.iset.specs.declared.lookup.Stepped.TheVariants as stepped
-use Rattle.iset.specs.declared.lookup.Drain.{Drain}
-use Rattle.iset.specs.declared.lookup.Drain.TheVariants as drain
+use Rattle.iter.specs.declared.seek.Step.{Step}
+use Rattle.iter.specs.declared.drain.Drained.{Drained}
 
 -- not BadRange: a bound is Unbounded, or lo < hi, or lo = hi and both are Included
-abbrev pub ordered : (low high : Bound) → Bool
+abbrev pub ordered : (low high : Bound ℕ) → Bool
 ordered (Included a) (Included b) = nat_le a b
 ordered (Included a) (Excluded b) = nat_lt a b
 ordered (Included a) Unbounded = true
@@ -45,7 +42,7 @@ ordered Unbounded y = true
 
 -- document 02, item 11: not BadRange by the rule of a number, "4 also for rule 2 when no whole
 -- address lies in the range, and for any other rule number"
-abbrev pub accepts : (rule : ℕ) (low high : Bound) → Bool
+abbrev pub accepts : (rule : ℕ) (low high : Bound ℕ) → Bool
 accepts k x y = cond (k == 1) (ordered x y) (cond (k == 2) (any_whole x y) false)
 
 -- 4: BadRange; 5: "a given interval has start >= end"
@@ -102,9 +99,9 @@ pub record StartAnswer : Type 0 where
 abbrev pub refused_start : (number : ℕ) → StartAnswer
 refused_start k = record { no = k; cursor = ended }
 
-abbrev pub start_answer : (started : Started) → StartAnswer
-start_answer (started.Done c) = record { no = 0; cursor = c }
-start_answer (started.Refused y) = refused_start (refusal_number y)
+abbrev pub start_answer : (started : Result Cursor Refusal) → StartAnswer
+start_answer (Ok c) = record { no = 0; cursor = c }
+start_answer (Err y) = refused_start (refusal_number y)
 
 abbrev pub start_by : (map : Map) (words : List ℕ) (interval : Interval) (number : ℕ) → StartAnswer
 start_by m W x k = cond (k == 0) (record { no = 0; cursor = fresh (beginning m W (Exact x)) }) (refused_start k)
@@ -130,9 +127,9 @@ step_done h a = record { no = 0; hit = h; slot = a.slot; next = a.next; entered 
 abbrev pub refused_step : (cursor : Cursor) (number : ℕ) → StepAnswer
 refused_step c k = record { no = k; hit = false; slot = U; next = c; entered = 0 }
 
-abbrev pub step_answer : (cursor : Cursor) (stepped : Stepped) → StepAnswer
-step_answer c (stepped.Done s) = step_done (is_hit_lem s) (answer s)
-step_answer c (stepped.Refused y) = refused_step c (refusal_number y)
+abbrev pub step_answer : (cursor : Cursor) (stepped : Result Step Refusal) → StepAnswer
+step_answer c (Ok s) = step_done (is_hit_lem s) (answer s)
+step_answer c (Err y) = refused_step c (refusal_number y)
 
 abbrev pub step_by : (map : Map) (words : List ℕ) (query : Query) (cursor : Cursor) (number : ℕ)
     → StepAnswer
@@ -161,9 +158,9 @@ drain_done d = record { no = 0; hits = length d.slots; entered = d.entered; next
 abbrev pub refused_drain : (cursor : Cursor) (number : ℕ) → DrainAnswer
 refused_drain c k = record { no = k; hits = 0; entered = 0; next = c }
 
-abbrev pub drain_answer : (cursor : Cursor) (drain : Drain) → DrainAnswer
-drain_answer c (drain.Done d) = record { no = 0; hits = d.hits; entered = d.entered; next = d.next }
-drain_answer c (drain.Refused y) = refused_drain c (refusal_number y)
+abbrev pub drain_answer : (cursor : Cursor) (drain : Result Drained Refusal) → DrainAnswer
+drain_answer c (Ok d) = record { no = 0; hits = d.hits; entered = d.entered; next = d.next }
+drain_answer c (Err y) = refused_drain c (refusal_number y)
 
 -- "Places past the hits written stay."
 abbrev pub drain_by_lem : (map : Map) (words : List ℕ) (query : Query) (cursor : Cursor) (limit : ℕ)

@@ -8,8 +8,8 @@
 --   t ticket, I image (its bytes)
 use Rattle.std.specs.Prelude.{◌≡◌, ℕ, zero, suc, ◌/◌, ◌%◌, ◌<◌, ◌≤◌, true, ◌⊎◌, ◌↔◌, List, length, ◌≢◌}
 use Rattle.words.specs.Nodes.{capacity, bits_of}
-use Rattle.words.specs.declared.interval.Bound.{Bound}
-use Rattle.words.specs.declared.interval.Bound.TheVariants.{Included, Excluded, Unbounded}
+use Rattle.std.specs.declared.ops.Bound.{Bound}
+use Rattle.std.specs.declared.ops.Bound.TheVariants.{Included, Excluded, Unbounded}
 use Rattle.words.specs.declared.interval.Interval.{Interval}
 use Rattle.words.specs.declared.interval.Span.{Span}
 use Rattle.words.specs.declared.node.Entry.{Entry}
@@ -56,7 +56,7 @@ abbrev pub NoSuch : (map : Map) (slot : ℕ) → Type 0
 NoSuch m s = m.count ≤ s
 
 -- 4: "neither bound is Unbounded, and lo > hi, or lo = hi unless both are Included"
-abbrev pub BadRange : (low high : Bound) → Type 0
+abbrev pub BadRange : (low high : Bound ℕ) → Type 0
 BadRange (Included a) (Included b) = b < a
 BadRange (Included a) (Excluded b) = b ≤ a
 BadRange (Included a) Unbounded = ⊥

@@ -1,9 +1,10 @@
 -- "remove 1, 2, 3": the check, then what an opened removal tests
 -- Letters: m map, W words, C colours, R removal by the rule, P pairs, p pair, a kept slot, k number
 --   of a refusal or changed hulls, s slot, y refusal, g answer of the code
-use Rattle.std.specs.Prelude.{ℕ, ◌-◌, cond, List, ◌==◌, nat_lt}
+use Rattle.std.specs.Prelude.{ℕ, ◌-◌, cond, List, ◌==◌, nat_lt, Result, Ok, Err}
 use Rattle.words.specs.Ix.{U}
 use Rattle.words.specs.Refusals.{refusal_number}
+use Rattle.words.specs.declared.refusal.Refusal.{Refusal}
 use Rattle.tree_rm_rule.specs.Pairs.{none}
 use Rattle.tree_rm_rule.specs.Remove as rule
 use Rattle.tree_edit.specs.Reach.{changes}
@@ -14,8 +15,7 @@ use Rattle.iset.specs.Effects.{Effect, effect}
 use Rattle.iset.specs.Check.{first, count_number, check_rule}
 use Rattle.iset.specs.Maps.{next_map}
 use Rattle.iset.specs.declared.Map.{Map}
-use Rattle.iset.specs.declared.remove.Removal.{Removal}
-use Rattle.iset.specs.declared.remove.Removal.TheVariants.{Done, Refused}
+use Rattle.iset.specs.declared.remove.Removed.{Removed}
 
 -- the refusal's number, 0 for none, in an opened store; 3: "slot is not below count (U included)"
 unfoldable pub open_remove_number : (map : Map) (words colours : List ℕ) (slot : ℕ) → ℕ
@@ -40,9 +40,9 @@ abbrev pub refused_removal : (map : Map) (number : ℕ) → RemoveAnswer
 refused_removal m k = record { no = k; value = 0; map = m; pairs = record { first = none; second = none; third = none }; reach = 0 }
 
 -- what the code's answer stands for
-abbrev pub remove_answer : (map : Map) (removal : Removal) → RemoveAnswer
-remove_answer m (Done g) = record { no = 0; value = g.value; map = g.map; pairs = g.pairs; reach = g.reach }
-remove_answer m (Refused y) = refused_removal m (refusal_number y)
+abbrev pub remove_answer : (map : Map) (removal : Result Removed Refusal) → RemoveAnswer
+remove_answer m (Ok g) = record { no = 0; value = g.value; map = g.map; pairs = g.pairs; reach = g.reach }
+remove_answer m (Err y) = refused_removal m (refusal_number y)
 
 -- what the rule of removal answers, with k changed hulls
 abbrev pub remove_done : (map : Map) (removal : rule.Removed) (changed : ℕ) → RemoveAnswer

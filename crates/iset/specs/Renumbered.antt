@@ -7,7 +7,6 @@ use Rattle.words.specs.Nodes.{word, entry}
 use Rattle.words.specs.declared.node.Field.{Field}
 use Rattle.bitvec.specs.Colours.{red}
 use Rattle.tree.specs.Tree.{slots}
-use Rattle.tree.specs.Passes.{Passes}
 use Rattle.tidy_rule.specs.Plan.{renamed}
 use Rattle.tidy_rule.specs.Tidied.{with_slots, Tidied}
 use Rattle.iset.specs.Effects.{Effect, effect, Output, output}

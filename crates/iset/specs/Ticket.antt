@@ -1,16 +1,15 @@
 -- Document 02, item 4: "A ticket is a slot with the version it was taken at". Reading through it is
 -- refused with "11 Stale, after 2 and before 3": the check, then what an opened reading tests.
 -- Letters: m map, W words, C colours, s slot, e entry, k number of a refusal, y refusal, t ticket
-use Rattle.std.specs.Prelude.{ℕ, ◌+◌, ◌-◌, ◌%◌, cond, List, ◌==◌, nat_lt}
+use Rattle.std.specs.Prelude.{ℕ, ◌+◌, ◌-◌, ◌%◌, cond, List, ◌==◌, nat_lt, Result, Ok, Err}
 use Rattle.words.specs.Nodes.{entry}
 use Rattle.words.specs.Refusals.{refusal_number}
+use Rattle.words.specs.declared.refusal.Refusal.{Refusal}
 use Rattle.words.specs.declared.node.Entry.{Entry}
 use Rattle.iset.specs.Check.{first, count_number, check_rule}
 use Rattle.iset.specs.Insert.{entry_of}
 use Rattle.iset.specs.declared.Map.{Map}
 use Rattle.iset.specs.declared.ticket.Ticket.{Ticket}
-use Rattle.iset.specs.declared.ticket.Reading.{Reading}
-use Rattle.iset.specs.declared.ticket.Reading.TheVariants.{Done, Refused}
 
 abbrev pub ticket_of : (map : Map) (slot : ℕ) → Ticket
 ticket_of m s = record { slot = s; version = m.version }
@@ -45,9 +44,9 @@ abbrev pub refused_reading : (number : ℕ) → ReadAnswer
 refused_reading k = record { no = k; entry = entry_of 0 0 0 }
 
 -- what the code's answer stands for
-abbrev pub read_answer : (reading : Reading) → ReadAnswer
-read_answer (Done e) = record { no = 0; entry = e }
-read_answer (Refused y) = refused_reading (refusal_number y)
+abbrev pub read_answer : (reading : Result Entry Refusal) → ReadAnswer
+read_answer (Ok e) = record { no = 0; entry = e }
+read_answer (Err y) = refused_reading (refusal_number y)
 
 -- a call that is refused by the number k, or not
 abbrev pub read_by : (words : List ℕ) (ticket : Ticket) (number : ℕ) → ReadAnswer

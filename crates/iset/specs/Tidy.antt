@@ -2,16 +2,15 @@
 -- BadPlan, after 2".
 -- Letters: m map, W words, C colours, k number of a refusal, R store afterwards, y refusal,
 --   g answer of the code
-use Rattle.std.specs.Prelude.{ℕ, cond, List, length, ◌==◌, nat_le}
+use Rattle.std.specs.Prelude.{ℕ, cond, List, length, ◌==◌, nat_le, Result, Ok, Err}
 use Rattle.words.specs.Refusals.{refusal_number}
+use Rattle.words.specs.declared.refusal.Refusal.{Refusal}
 use Rattle.tidy_rule.specs.Plan.{fits, renamed, proposed}
 use Rattle.tidy_rule.specs.Tidy.{Both, tidied}
 use Rattle.iset.specs.Effects.{Effect, effect, Output, output}
 use Rattle.iset.specs.Check.{first, count_number, check_rule}
 use Rattle.iset.specs.Maps.{next_map}
 use Rattle.iset.specs.declared.Map.{Map}
-use Rattle.iset.specs.declared.tidy.Renumbering.{Renumbering}
-use Rattle.iset.specs.declared.tidy.Renumbering.TheVariants.{Done, Refused}
 
 -- The planner. The refusal's number, 0 for none, in an opened store, for an output with so many
 -- places; and of the public call.
@@ -51,9 +50,9 @@ abbrev pub refused_renumbering : (map : Map) (number : ℕ) → RenumberAnswer
 refused_renumbering m k = record { no = k; map = m }
 
 -- what the code's answer stands for
-abbrev pub renumber_answer : (map : Map) (renumbering : Renumbering) → RenumberAnswer
-renumber_answer m (Done g) = record { no = 0; map = g }
-renumber_answer m (Refused y) = refused_renumbering m (refusal_number y)
+abbrev pub renumber_answer : (map : Map) (renumbering : Result Map Refusal) → RenumberAnswer
+renumber_answer m (Ok g) = record { no = 0; map = g }
+renumber_answer m (Err y) = refused_renumbering m (refusal_number y)
 
 -- an accepted plan: "The version rises by one", also if nothing moves
 abbrev pub renumber_plan_lem : (map : Map) (words colours plan : List ℕ) → Effect RenumberAnswer

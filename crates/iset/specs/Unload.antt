@@ -2,8 +2,9 @@
 -- range by the rule of a number (item 11), as a lookup for it tests it.
 -- Letters: m map, W words, C colours, R sweep (what the rule comes to), k rule, q range, y refusal,
 --   g answer of the code
-use Rattle.std.specs.Prelude.{ℕ, cond, List, ◌==◌}
+use Rattle.std.specs.Prelude.{ℕ, cond, List, ◌==◌, Result, Ok, Err}
 use Rattle.words.specs.Refusals.{refusal_number}
+use Rattle.words.specs.declared.refusal.Refusal.{Refusal}
 use Rattle.words.specs.declared.interval.Span.{Span}
 use Rattle.iter.specs.Ranges.{by_rule_lem}
 use Rattle.iter.specs.declared.rules.Query.TheVariants.{Ruled}
@@ -13,8 +14,7 @@ use Rattle.iset.specs.Effects.{Effect, effect}
 use Rattle.iset.specs.Lookup.{open_start_number, start_number}
 use Rattle.iset.specs.Maps.{map_at, raised_by}
 use Rattle.iset.specs.declared.Map.{Map}
-use Rattle.iset.specs.declared.unload.Unloading.{Unloading}
-use Rattle.iset.specs.declared.unload.Unloading.TheVariants.{Done, Refused}
+use Rattle.iset.specs.declared.unload.Unloaded.{Unloaded}
 
 -- the refusal's number, 0 for none, in an opened store, and of the public call
 abbrev pub open_unload_number : (map : Map) (words colours : List ℕ) (rule : ℕ) (range : Span) → ℕ
@@ -34,9 +34,9 @@ abbrev pub refused_unloading : (map : Map) (number : ℕ) → UnloadAnswer
 refused_unloading m number = record { no = number; gone = 0; map = m }
 
 -- what the code's answer stands for
-abbrev pub unload_answer : (map : Map) (unloading : Unloading) → UnloadAnswer
-unload_answer m (Done g) = record { no = 0; gone = g.gone; map = g.map }
-unload_answer m (Refused y) = refused_unloading m (refusal_number y)
+abbrev pub unload_answer : (map : Map) (unloading : Result Unloaded Refusal) → UnloadAnswer
+unload_answer m (Ok g) = record { no = 0; gone = g.gone; map = g.map }
+unload_answer m (Err y) = refused_unloading m (refusal_number y)
 
 -- what the rule answers: "The version rises by the number removed"
 abbrev pub unload_done : (map : Map) (sweep : Sweep) → UnloadAnswer

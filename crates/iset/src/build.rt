@@ -1,39 +1,31 @@
 // Builds a map from a list of triples start, end, value.
+#![tactic(auto, using(crate::proofs::Laws::built, crate::proofs::Layouts::capacity_same, words::proofs::Refusals::number_pos), unfolding(crate::specs::Build::build_number, crate::specs::Build::build_call))]
+
 ghost use Rattle.std.specs.Prelude.{◌≡◌, length};
 ghost use Rattle.words.specs.Layouts.{as_eight};
 ghost use Rattle.iset.specs.Check.{check_number};
 ghost use Rattle.iset.specs.Effects.{effect};
 ghost use Rattle.iset.specs.Build.{build_number, build_answer, build_call};
 
-use crate::{Checked, Map, next_version};
+use crate::{Map, next_version, sound_if};
 use builder::from_sorted;
 use builder::list::{all_proper, sorted};
 use words::node::capacity;
 use words::refusal::Refusal;
 
-// What a build returns.
-#[derive(Clone, Copy)]
-pub enum Built {
-    Done(Map),
-    Refused(Refusal),
-}
-
 // The first refusal of building a list into node words and `bytes` colour bytes. Each test visits
 // the whole list.
-fn test_list(list: &[u64], nodes: &[u64], narrow: bool, bytes: usize) -> Checked
+fn test_list(list: &[u64], nodes: &[u64], narrow: bool, bytes: usize) -> Result<(), Refusal>
     ensures { check_number result ≡ build_number (length (as_eight narrow nodes.now)) bytes list.now }
 {
     let len = list.len();
-    if len % 3 != 0 {
-        return Checked::Refused(Refusal::BadList);
-    }
-    if capacity(nodes.len(), narrow, bytes) < (len / 3) as u64 {
-        return Checked::Refused(Refusal::NoRoom);
-    }
-    if all_proper(list) {
-        return Checked::sound_if(sorted(list), Refusal::NotSorted);
-    }
-    Checked::Refused(Refusal::BadInterval)
+    sound_if(len % 3 == 0, Refusal::BadList)?;
+    sound_if(
+        (len / 3) as u64 <= capacity(nodes.len(), narrow, bytes),
+        Refusal::NoRoom,
+    )?;
+    sound_if(all_proper(list), Refusal::BadInterval)?;
+    sound_if(sorted(list), Refusal::NotSorted)
 }
 
 impl Map {
@@ -46,19 +38,17 @@ impl Map {
         narrow: bool,
         colours: &mut [u8],
         list: &[u64],
-    ) -> Built
+    ) -> Result<Map, Refusal>
         ensures { effect (build_answer self result) (as_eight narrow nodes.new) colours.new
             ≡ build_call self (as_eight narrow nodes.old) colours.old list.now }
     {
-        let Checked::Refused(why) = test_list(list, nodes, narrow, colours.len()) else {
-            let n = list.len() / 3;
-            let root = from_sorted(list, nodes, narrow, colours, n);
-            return Built::Done(Map {
-                count: n as u64,
-                root,
-                version: next_version(self.version),
-            });
-        };
-        Built::Refused(why)
+        test_list(list, nodes, narrow, colours.len())?;
+        let n = list.len() / 3;
+        let root = from_sorted(list, nodes, narrow, colours, n);
+        Ok(Map {
+            count: n as u64,
+            root,
+            version: next_version(self.version),
+        })
     }
 }

@@ -1,15 +1,18 @@
 // The fast lookup finds all hits at once. It tests both ends of a node's hull before it enters the
 // node, so it enters no node that a drain does not enter. It finds what the other lookups find.
+#![tactic(auto, using(words::proofs::Refusals::number_pos, crate::proofs::Lookups::startable), unfolding(crate::specs::Find::open_find_all_call, crate::specs::Find::find_all_call, crate::specs::Lookup::start_number))]
+
 ghost use Rattle.std.specs.Prelude.{◌≡◌};
 ghost use Rattle.words.specs.Layouts.{as_eight};
 ghost use Rattle.iset.specs.Effects.{output};
 ghost use Rattle.iset.specs.Tallies.{tally_answer};
 ghost use Rattle.iset.specs.Find.{open_find_all_call, find_all_call};
 
-use crate::scan::Looked;
-use crate::{Checked, Map};
+use crate::Map;
 use fast::find_all;
 use iter::rules::Query;
+use plain::Tally;
+use words::refusal::Refusal;
 
 impl Map {
     // `find_all` for an opened store.
@@ -20,13 +23,11 @@ impl Map {
         colours: &[u8],
         query: Query,
         out: &mut [u64],
-    ) -> Looked
+    ) -> Result<Tally, Refusal>
         ensures { output (tally_answer result) out.new ≡ open_find_all_call self (as_eight narrow nodes.now) colours.now query out.old }
     {
-        let Checked::Refused(why) = self.test_start(nodes, narrow, colours, query) else {
-            return Looked::Done(find_all(nodes, narrow, self.count, self.root, query, out));
-        };
-        Looked::Refused(why)
+        self.test_start(nodes, narrow, colours, query)?;
+        Ok(find_all(nodes, narrow, self.count, self.root, query, out))
     }
 
     // Writes the slots of the entries that the query asks for, in tree order, as many as the output
@@ -38,12 +39,10 @@ impl Map {
         colours: &[u8],
         query: Query,
         out: &mut [u64],
-    ) -> Looked
+    ) -> Result<Tally, Refusal>
         ensures { output (tally_answer result) out.new ≡ find_all_call self (as_eight narrow nodes.now) colours.now query out.old }
     {
-        let Checked::Refused(why) = self.check_in(nodes, narrow, colours) else {
-            return self.open_find_all_in(nodes, narrow, colours, query, out);
-        };
-        Looked::Refused(why)
+        self.check_in(nodes, narrow, colours)?;
+        self.open_find_all_in(nodes, narrow, colours, query, out)
     }
 }

@@ -55,36 +55,23 @@ pub struct Map {
 pub fn next_version(version: u32) -> u32
     ensures { result ≡ raised version }
 {
-    std::num::wrapping_add_u32(version, 1)
+    version.wrapping_add(1)
 }
 
-// What the check returns.
-#[derive(Clone, Copy)]
-pub enum Checked {
-    Sound,
-    Refused(Refusal),
+// Ok if the test was passed, else its refusal.
+fn sound_if(passed: bool, why: Refusal) -> Result<(), Refusal>
+    ensures { check_number result ≡ (if passed then 0 else refusal_number why) }
+{
+    if passed { Ok(()) } else { Err(why) }
 }
 
-impl Checked {
-    // Sound if the test was passed, else its refusal.
-    fn sound_if(passed: bool, why: Refusal) -> Checked
-        ensures { check_number result ≡ (if passed then 0 else refusal_number why) }
-    {
-        if passed {
-            Checked::Sound
-        } else {
-            Checked::Refused(why)
-        }
-    }
-
-    // The refusal's number, or 0 if there is none.
-    pub fn number(self) -> u64
-        ensures { result ≡ check_number self }
-    {
-        match self {
-            Checked::Sound => 0,
-            Checked::Refused(why) => why.number(),
-        }
+// The refusal's number, or 0 if there is none.
+pub fn number_of(checked: Result<(), Refusal>) -> u64
+    ensures { result ≡ check_number checked }
+{
+    match checked {
+        Ok(()) => 0,
+        Err(why) => why.number(),
     }
 }
 
@@ -102,24 +89,24 @@ impl Map {
 
     // All that a call on an opened store tests of the store. Returns NoRoom if the count is above
     // what the slices hold.
-    fn test_count(self, nodes: &[u64], narrow: bool, colours: &[u8]) -> Checked
+    #[tactic(auto, using(crate::proofs::Layouts::capacity_same), unfolding(crate::specs::Check::count_number))]
+    fn test_count(self, nodes: &[u64], narrow: bool, colours: &[u8]) -> Result<(), Refusal>
         ensures { check_number result ≡ count_number self (as_eight narrow nodes.now) colours.now }
     {
-        if capacity(nodes.len(), narrow, colours.len()) < self.count {
-            return Checked::Refused(Refusal::NoRoom);
-        }
-        Checked::Sound
+        sound_if(
+            self.count <= capacity(nodes.len(), narrow, colours.len()),
+            Refusal::NoRoom,
+        )
     }
 
     // The store check. Returns NoRoom if the count is above what the slices hold, else Broken if
     // the store does not pass.
-    pub fn check_in(self, nodes: &[u64], narrow: bool, colours: &[u8]) -> Checked
+    #[tactic(auto, using(words::proofs::Refusals::number_pos, crate::proofs::Layouts::counted), unfolding(crate::specs::Check::count_number, crate::specs::Check::check_rule))]
+    pub fn check_in(self, nodes: &[u64], narrow: bool, colours: &[u8]) -> Result<(), Refusal>
         ensures { check_number result ≡ check_rule self (as_eight narrow nodes.now) colours.now }
     {
-        if capacity(nodes.len(), narrow, colours.len()) < self.count {
-            return Checked::Refused(Refusal::NoRoom);
-        }
-        Checked::sound_if(
+        self.test_count(nodes, narrow, colours)?;
+        sound_if(
             audit(nodes, narrow, colours, self.count, self.root),
             Refusal::Broken,
         )

@@ -2,6 +2,8 @@
 // rule 1 an entry intersects as in the Rust crate, and by rule 2 if some whole address lies in
 // both. A lookup goes step by step or returns many entries at once. A cursor is its place between
 // two calls.
+#![tactic(auto, using(words::proofs::Refusals::number_pos, crate::proofs::Lookups::startable, crate::proofs::Lookups::steppable, crate::proofs::Lookups::drainable), unfolding(crate::specs::Lookup::open_start_number, crate::specs::Lookup::open_step_number, crate::specs::Lookup::open_drain_number, crate::specs::Lookup::start_number, crate::specs::Lookup::step_number, crate::specs::Lookup::drain_number, crate::specs::Lookup::open_start_call, crate::specs::Lookup::start_call, crate::specs::Lookup::open_step_call, crate::specs::Lookup::step_call, crate::specs::Lookup::open_drain_call, crate::specs::Lookup::drain_call))]
+
 ghost use Rattle.std.specs.Prelude.{◌≡◌, ◌≤◌, ltb, if◌then◌else◌, nat_lt};
 ghost use Rattle.words.specs.Layouts.{as_eight, HoldsIn};
 ghost use Rattle.iter.specs.Cursors.{fresh};
@@ -15,7 +17,7 @@ ghost use Rattle.iset.specs.Effects.{output};
 ghost use Rattle.iset.specs.Check.{check_number};
 ghost use Rattle.iset.specs.Lookup.{ordered, accepts, query_number, beginning, form_number, open_start_number, open_step_number, open_drain_number, start_answer, open_start_call, start_call, step_answer, open_step_call, step_call, drain_answer, open_drain_call, drain_call};
 
-use crate::{Checked, Map};
+use crate::{Map, sound_if};
 use iter::drain::Drained;
 use iter::ranges::holds_whole;
 use iter::rules::{Query, find_index};
@@ -24,45 +26,17 @@ use iter::{Cursor, Form};
 use words::interval::{Bound, Interval, Span};
 use words::refusal::Refusal;
 
-// What the calls return.
-#[derive(Clone, Copy)]
-pub enum Started {
-    Done(Cursor),
-    Refused(Refusal),
-}
-
-#[derive(Clone, Copy)]
-pub enum Stepped {
-    Done(Step),
-    Refused(Refusal),
-}
-
-#[derive(Clone, Copy)]
-pub enum Drain {
-    Done(Drained),
-    Refused(Refusal),
-}
-
-// Whether a range is ordered, from `a`, which is Excluded, up to the bound `hi`.
-fn excluded_before(a: u64, hi: Bound) -> bool
-    ensures { result ≡ ordered (Bound.Excluded a) hi }
-{
-    match hi {
-        Bound::Included(b) => a < b,
-        Bound::Excluded(b) => a < b,
-        Bound::Unbounded => true,
-    }
-}
-
+// Whether a range is ordered: a bound is Unbounded, or the lower one is less than the upper one, or
+// both are Included and equal.
 fn check_ordered(range: Span) -> bool
     ensures { result ≡ ordered range.lo range.hi }
 {
-    let lo = range.lo;
-    let hi = range.hi;
-    match lo {
-        Bound::Included(a) => hi.admits_start(a),
-        Bound::Excluded(a) => excluded_before(a, hi),
-        Bound::Unbounded => true,
+    match (range.lo, range.hi) {
+        (Bound::Included(a), Bound::Included(b)) => a <= b,
+        (Bound::Included(a), Bound::Excluded(b)) => a < b,
+        (Bound::Excluded(a), Bound::Included(b)) => a < b,
+        (Bound::Excluded(a), Bound::Excluded(b)) => a < b,
+        _ => true,
     }
 }
 
@@ -70,37 +44,29 @@ fn check_ordered(range: Span) -> bool
 fn is_accepted(rule: u64, range: Span) -> bool
     ensures { result ≡ accepts rule range.lo range.hi }
 {
-    let lo = range.lo;
-    let hi = range.hi;
-    if rule == 1 {
-        return check_ordered(range);
+    match rule {
+        1 => check_ordered(range),
+        2 => holds_whole(range.lo, range.hi),
+        _ => false,
     }
-    if rule == 2 {
-        return holds_whole(lo, hi);
-    }
-    false
 }
 
-fn test_query(query: Query) -> Checked
+fn test_query(query: Query) -> Result<(), Refusal>
     ensures { check_number result ≡ query_number query }
 {
     match query {
-        Query::Overlap(range) => Checked::sound_if(check_ordered(range), Refusal::BadRange),
-        Query::Ruled(rule, range) => {
-            Checked::sound_if(is_accepted(rule, range), Refusal::BadRange)
-        }
-        Query::Exact(x) => Checked::sound_if(x.is_proper(), Refusal::BadInterval),
+        Query::Overlap(range) => sound_if(check_ordered(range), Refusal::BadRange),
+        Query::Ruled(rule, range) => sound_if(is_accepted(rule, range), Refusal::BadRange),
+        Query::Exact(x) => sound_if(x.is_proper(), Refusal::BadInterval),
     }
 }
 
-fn test_form(form: Form) -> Checked
+fn test_form(form: Form) -> Result<(), Refusal>
     ensures { check_number result ≡ form_number form }
 {
     match form {
-        Form::Fresh => Checked::Sound,
-        Form::Held => Checked::Sound,
-        Form::Ended => Checked::Sound,
-        Form::Bad => Checked::Refused(Refusal::BadCursor),
+        Form::Fresh | Form::Held | Form::Ended => Ok(()),
+        Form::Bad => Err(Refusal::BadCursor),
     }
 }
 
@@ -112,14 +78,10 @@ fn limit_of(limit: u64, places: u64) -> u64
     if limit == 0 { places } else { limit }
 }
 
-fn test_room(limit: u64, places: u64) -> Checked
+fn test_room(limit: u64, places: u64) -> Result<(), Refusal>
     ensures { check_number result ≡ (if ltb places (limit_of_lem limit places) then 9 else 0) }
 {
-    if places < limit_of(limit, places) {
-        Checked::Refused(Refusal::ShortOutput)
-    } else {
-        Checked::Sound
-    }
+    sound_if(limit_of(limit, places) <= places, Refusal::ShortOutput)
 }
 
 // A step, made as a drain of one hit. So the walk has one caller, and is inlined in the drain's
@@ -131,9 +93,8 @@ fn one_hit(cursor: Cursor, nodes: &[u64], narrow: bool, count: u64, query: Query
 {
     let mut slots = [0; 1];
     let d = cursor.drain(nodes, narrow, count, query, 1, &mut slots);
-    let next = d.next;
     if d.hits == 1 {
-        Step::Hit(next, d.entered)
+        Step::Hit(d.next, d.entered)
     } else {
         Step::End(d.entered)
     }
@@ -147,13 +108,10 @@ impl Map {
         narrow: bool,
         colours: &[u8],
         query: Query,
-    ) -> Checked
+    ) -> Result<(), Refusal>
         ensures { check_number result ≡ open_start_number self (as_eight narrow nodes.now) colours.now query }
     {
-        let checked = self.test_count(nodes, narrow, colours);
-        let Checked::Sound = checked else {
-            return checked;
-        };
+        self.test_count(nodes, narrow, colours)?;
         test_query(query)
     }
 
@@ -163,13 +121,18 @@ impl Map {
         ensures { result ≡ beginning self (as_eight narrow nodes.now) query }
     {
         match query {
-            Query::Overlap(_) => self.root,
-            Query::Ruled(_, _) => self.root,
+            Query::Overlap(_) | Query::Ruled(_, _) => self.root,
             Query::Exact(x) => find_index(nodes, narrow, self.count, x, self.root),
         }
     }
 
-    fn test_place(self, nodes: &[u64], narrow: bool, query: Query, cursor: Cursor) -> Checked
+    fn test_place(
+        self,
+        nodes: &[u64],
+        narrow: bool,
+        query: Query,
+        cursor: Cursor,
+    ) -> Result<(), Refusal>
         requires { HoldsIn narrow nodes.now self.count }
         ensures { check_number result ≡ form_number (form_of (as_eight narrow nodes.now) self.count (beginning self (as_eight narrow nodes.now) query) cursor) }
     {
@@ -184,13 +147,10 @@ impl Map {
         colours: &[u8],
         query: Query,
         cursor: Cursor,
-    ) -> Checked
+    ) -> Result<(), Refusal>
         ensures { check_number result ≡ open_step_number self (as_eight narrow nodes.now) colours.now query cursor }
     {
-        let checked = self.test_start(nodes, narrow, colours, query);
-        let Checked::Sound = checked else {
-            return checked;
-        };
+        self.test_start(nodes, narrow, colours, query)?;
         self.test_place(nodes, narrow, query, cursor)
     }
 
@@ -204,13 +164,10 @@ impl Map {
         cursor: Cursor,
         limit: u64,
         places: u64,
-    ) -> Checked
+    ) -> Result<(), Refusal>
         ensures { check_number result ≡ open_drain_number self (as_eight narrow nodes.now) colours.now query cursor limit places }
     {
-        let checked = self.test_step(nodes, narrow, colours, query, cursor);
-        let Checked::Sound = checked else {
-            return checked;
-        };
+        self.test_step(nodes, narrow, colours, query, cursor)?;
         test_room(limit, places)
     }
 
@@ -228,14 +185,12 @@ impl Map {
         narrow: bool,
         colours: &[u8],
         query: Interval,
-    ) -> Started
+    ) -> Result<Cursor, Refusal>
         ensures { start_answer result ≡ open_start_call self (as_eight narrow nodes.now) colours.now query }
     {
         let exact = Query::Exact(query);
-        let Checked::Refused(why) = self.test_start(nodes, narrow, colours, exact) else {
-            return Started::Done(Cursor::fresh(self.begin(nodes, narrow, exact)));
-        };
-        Started::Refused(why)
+        self.test_start(nodes, narrow, colours, exact)?;
+        Ok(Cursor::fresh(self.begin(nodes, narrow, exact)))
     }
 
     pub fn open_step_in(
@@ -245,13 +200,11 @@ impl Map {
         colours: &[u8],
         query: Query,
         cursor: Cursor,
-    ) -> Stepped
+    ) -> Result<Step, Refusal>
         ensures { step_answer cursor result ≡ open_step_call self (as_eight narrow nodes.now) colours.now query cursor }
     {
-        let Checked::Refused(why) = self.test_step(nodes, narrow, colours, query, cursor) else {
-            return Stepped::Done(one_hit(cursor, nodes, narrow, self.count, query));
-        };
-        Stepped::Refused(why)
+        self.test_step(nodes, narrow, colours, query, cursor)?;
+        Ok(one_hit(cursor, nodes, narrow, self.count, query))
     }
 
     pub fn open_drain_in(
@@ -263,24 +216,20 @@ impl Map {
         cursor: Cursor,
         limit: u64,
         out: &mut [u64],
-    ) -> Drain
+    ) -> Result<Drained, Refusal>
         ensures { output (drain_answer cursor result) out.new
             ≡ open_drain_call self (as_eight narrow nodes.now) colours.now query cursor limit out.old }
     {
         let places = out.len() as u64;
-        let Checked::Refused(why) = self.test_drain(
-            nodes, narrow, colours, query, cursor, limit, places,
-        ) else {
-            return Drain::Done(cursor.drain(
-                nodes,
-                narrow,
-                self.count,
-                query,
-                limit_of(limit, places),
-                out,
-            ));
-        };
-        Drain::Refused(why)
+        self.test_drain(nodes, narrow, colours, query, cursor, limit, places)?;
+        Ok(cursor.drain(
+            nodes,
+            narrow,
+            self.count,
+            query,
+            limit_of(limit, places),
+            out,
+        ))
     }
 
     // Returns the fresh cursor of an exact lookup. It is at the highest entry that is equal to the
@@ -291,13 +240,11 @@ impl Map {
         narrow: bool,
         colours: &[u8],
         query: Interval,
-    ) -> Started
+    ) -> Result<Cursor, Refusal>
         ensures { start_answer result ≡ start_call self (as_eight narrow nodes.now) colours.now query }
     {
-        let Checked::Refused(why) = self.check_in(nodes, narrow, colours) else {
-            return self.open_fresh_exact_in(nodes, narrow, colours, query);
-        };
-        Started::Refused(why)
+        self.check_in(nodes, narrow, colours)?;
+        self.open_fresh_exact_in(nodes, narrow, colours, query)
     }
 
     // Returns the next hit after a cursor, or the end.
@@ -308,13 +255,11 @@ impl Map {
         colours: &[u8],
         query: Query,
         cursor: Cursor,
-    ) -> Stepped
+    ) -> Result<Step, Refusal>
         ensures { step_answer cursor result ≡ step_call self (as_eight narrow nodes.now) colours.now query cursor }
     {
-        let Checked::Refused(why) = self.check_in(nodes, narrow, colours) else {
-            return self.open_step_in(nodes, narrow, colours, query, cursor);
-        };
-        Stepped::Refused(why)
+        self.check_in(nodes, narrow, colours)?;
+        self.open_step_in(nodes, narrow, colours, query, cursor)
     }
 
     // Steps until the end, or until `limit` hits are written to `out`. A limit of 0 means as many
@@ -328,13 +273,11 @@ impl Map {
         cursor: Cursor,
         limit: u64,
         out: &mut [u64],
-    ) -> Drain
+    ) -> Result<Drained, Refusal>
         ensures { output (drain_answer cursor result) out.new
             ≡ drain_call self (as_eight narrow nodes.now) colours.now query cursor limit out.old }
     {
-        let Checked::Refused(why) = self.check_in(nodes, narrow, colours) else {
-            return self.open_drain_in(nodes, narrow, colours, query, cursor, limit, out);
-        };
-        Drain::Refused(why)
+        self.check_in(nodes, narrow, colours)?;
+        self.open_drain_in(nodes, narrow, colours, query, cursor, limit, out)
     }
 }

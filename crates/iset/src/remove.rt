@@ -1,12 +1,14 @@
 // Removes one entry by its slot.
-ghost use Rattle.std.specs.Prelude.{◌≡◌, ◌<◌};
+#![tactic(auto, using(words::proofs::Refusals::number_pos, crate::proofs::Laws::removable), unfolding(crate::specs::Remove::open_remove_number, crate::specs::Remove::remove_number, crate::specs::Remove::open_remove_call, crate::specs::Remove::remove_call))]
+
+ghost use Rattle.std.specs.Prelude.{◌≡◌, Ok, ◌<◌};
 ghost use Rattle.words.specs.Layouts.{as_eight, HoldsIn};
 ghost use Rattle.iset.specs.Effects.{effect};
 ghost use Rattle.iset.specs.Check.{check_number};
 ghost use Rattle.iset.specs.Remove.{slot_after_lem, remove_answer, remove_slot_lem, open_remove_number, open_remove_call, remove_call};
 ghost use Rattle.words.specs.Nodes.{HoldsBits};
 
-use crate::{Checked, Map, next_version};
+use crate::{Map, next_version, sound_if};
 use tree_rm::remove::remove_at;
 use words::ix::U;
 use words::pair::Pairs;
@@ -25,6 +27,7 @@ pub struct Removed {
 impl Removed {
     // Returns the slot of the entry that was in slot `kept` before this removal of slot `removed`,
     // or U if `kept` is `removed`.
+    #[tactic(auto, unfolding(crate::specs::Remove::slot_after_lem))]
     pub fn slot_after(self, removed: u64, kept: u64) -> u64
         ensures { result ≡ slot_after_lem self.pairs removed kept }
     {
@@ -44,43 +47,38 @@ impl Removed {
     }
 }
 
-// What a removal returns. If it is refused, the map is unchanged.
-#[derive(Clone, Copy)]
-pub enum Removal {
-    Done(Removed),
-    Refused(Refusal),
-}
-
 impl Map {
     // The first refusal of a removal from an opened store (see lib.rt).
-    fn test_slot(self, nodes: &[u64], narrow: bool, colours: &[u8], slot: u64) -> Checked
+    fn test_slot(
+        self,
+        nodes: &[u64],
+        narrow: bool,
+        colours: &[u8],
+        slot: u64,
+    ) -> Result<(), Refusal>
         ensures { check_number result ≡ open_remove_number self (as_eight narrow nodes.now) colours.now slot }
     {
-        let checked = self.test_count(nodes, narrow, colours);
-        let Checked::Sound = checked else {
-            return checked;
-        };
-        Checked::sound_if(slot < self.count, Refusal::NoSuch)
+        self.test_count(nodes, narrow, colours)?;
+        sound_if(slot < self.count, Refusal::NoSuch)
     }
 
     // Removes a slot below the count.
-    fn remove_slot(self, nodes: &mut [u64], narrow: bool, colours: &mut [u8], slot: u64) -> Removal
+    fn remove_slot(self, nodes: &mut [u64], narrow: bool, colours: &mut [u8], slot: u64) -> Removed
         requires { HoldsIn narrow nodes.old self.count × HoldsBits colours.old self.count × (slot < self.count) }
-        ensures { effect (remove_answer self result) (as_eight narrow nodes.new) colours.new
+        ensures { effect (remove_answer self (Ok result)) (as_eight narrow nodes.new) colours.new
             ≡ remove_slot_lem self (as_eight narrow nodes.old) colours.old slot }
     {
         let r = remove_at(nodes, narrow, colours, self.count, self.root, slot);
-        let pairs = r.pairs;
-        Removal::Done(Removed {
+        Removed {
             map: Map {
                 count: self.count - 1,
                 root: r.root,
                 version: next_version(self.version),
             },
             value: r.value,
-            pairs,
+            pairs: r.pairs,
             reach: r.reach,
-        })
+        }
     }
 
     // `remove` for an opened store.
@@ -90,14 +88,12 @@ impl Map {
         narrow: bool,
         colours: &mut [u8],
         slot: u64,
-    ) -> Removal
+    ) -> Result<Removed, Refusal>
         ensures { effect (remove_answer self result) (as_eight narrow nodes.new) colours.new
             ≡ open_remove_call self (as_eight narrow nodes.old) colours.old slot }
     {
-        let Checked::Refused(why) = self.test_slot(nodes, narrow, colours, slot) else {
-            return self.remove_slot(nodes, narrow, colours, slot);
-        };
-        Removal::Refused(why)
+        self.test_slot(nodes, narrow, colours, slot)?;
+        Ok(self.remove_slot(nodes, narrow, colours, slot))
     }
 
     // Removes the entry of a slot. Up to three other entries change slot. What it returns lists
@@ -108,13 +104,11 @@ impl Map {
         narrow: bool,
         colours: &mut [u8],
         slot: u64,
-    ) -> Removal
+    ) -> Result<Removed, Refusal>
         ensures { effect (remove_answer self result) (as_eight narrow nodes.new) colours.new
             ≡ remove_call self (as_eight narrow nodes.old) colours.old slot }
     {
-        let Checked::Refused(why) = self.check_in(nodes, narrow, colours) else {
-            return self.open_remove_in(nodes, narrow, colours, slot);
-        };
-        Removal::Refused(why)
+        self.check_in(nodes, narrow, colours)?;
+        self.open_remove_in(nodes, narrow, colours, slot)
     }
 }

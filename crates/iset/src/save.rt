@@ -1,4 +1,6 @@
 // Saves a map as an image, and loads it back. docs/IMAGE.md has the format.
+#![tactic(auto, using(words::proofs::Refusals::number_pos, crate::proofs::Images::writable, crate::proofs::Images::loadable, crate::proofs::Layouts::capacity_same, crate::proofs::Layouts::counted), unfolding(crate::specs::Image::open_write_image_number, crate::specs::Image::write_image_number, crate::specs::Image::open_write_image_call, crate::specs::Image::write_image_call, crate::specs::Image::read_image_number, crate::specs::Image::read_image_call))]
+
 ghost use Rattle.std.specs.Prelude.{◌≡◌, length};
 ghost use Rattle.words.specs.Layouts.{as_eight};
 ghost use Rattle.iset.specs.Effects.{effect, output};
@@ -6,8 +8,7 @@ ghost use Rattle.iset.specs.Check.{check_number};
 ghost use Rattle.iset.specs.Build.{build_answer};
 ghost use Rattle.iset.specs.Image.{open_write_image_number, write_answer, open_write_image_call, write_image_call, read_image_number, read_image_call};
 
-use crate::build::Built;
-use crate::{Checked, Map, next_version};
+use crate::{Map, next_version, sound_if};
 use image::judge::judge;
 use image::layout::{count_in, has_layout, image_length, root_in};
 use image::load::load;
@@ -15,38 +16,33 @@ use image::write::write;
 use words::node::capacity;
 use words::refusal::Refusal;
 
-// What writing an image returns: how many bytes the image has.
-#[derive(Clone, Copy)]
-pub enum Written {
-    Done(u64),
-    Refused(Refusal),
-}
-
 // The first refusal of reading an image into node words and `bytes` colour bytes. Of the words it
 // uses their number alone.
-fn test_image(image: &[u8], nodes: &[u64], narrow: bool, bytes: usize) -> Checked
+fn test_image(image: &[u8], nodes: &[u64], narrow: bool, bytes: usize) -> Result<(), Refusal>
     ensures { check_number result ≡ read_image_number (length (as_eight narrow nodes.now)) bytes image.now }
 {
-    if has_layout(image) {
-        if capacity(nodes.len(), narrow, bytes) < count_in(image) {
-            return Checked::Refused(Refusal::NoRoom);
-        }
-        return Checked::sound_if(judge(image), Refusal::Broken);
-    }
-    Checked::Refused(Refusal::BadImage)
+    sound_if(has_layout(image), Refusal::BadImage)?;
+    sound_if(
+        count_in(image) <= capacity(nodes.len(), narrow, bytes),
+        Refusal::NoRoom,
+    )?;
+    sound_if(judge(image), Refusal::Broken)
 }
 
 impl Map {
     // The first refusal of writing the image of an opened store (see lib.rt) into an output of
     // `places` places.
-    fn test_write(self, nodes: &[u64], narrow: bool, colours: &[u8], places: u64) -> Checked
+    fn test_write(
+        self,
+        nodes: &[u64],
+        narrow: bool,
+        colours: &[u8],
+        places: u64,
+    ) -> Result<(), Refusal>
         ensures { check_number result ≡ open_write_image_number self (as_eight narrow nodes.now) colours.now places }
     {
-        let checked = self.test_count(nodes, narrow, colours);
-        let Checked::Sound = checked else {
-            return checked;
-        };
-        Checked::sound_if(image_length(self.count) <= places, Refusal::ShortOutput)
+        self.test_count(nodes, narrow, colours)?;
+        sound_if(image_length(self.count) <= places, Refusal::ShortOutput)
     }
 
     // `write_image` for an opened store.
@@ -56,15 +52,13 @@ impl Map {
         narrow: bool,
         colours: &[u8],
         out: &mut [u8],
-    ) -> Written
+    ) -> Result<u64, Refusal>
         ensures { output (write_answer result) out.new ≡ open_write_image_call self (as_eight narrow nodes.now) colours.now out.old }
     {
         let places = out.len() as u64;
-        let Checked::Refused(why) = self.test_write(nodes, narrow, colours, places) else {
-            write(nodes, narrow, colours, self.count, self.root, out);
-            return Written::Done(image_length(self.count));
-        };
-        Written::Refused(why)
+        self.test_write(nodes, narrow, colours, places)?;
+        write(nodes, narrow, colours, self.count, self.root, out);
+        Ok(image_length(self.count))
     }
 
     // Writes the map as an image to the front of the output, and returns the image's length. Bytes
@@ -75,13 +69,11 @@ impl Map {
         narrow: bool,
         colours: &[u8],
         out: &mut [u8],
-    ) -> Written
+    ) -> Result<u64, Refusal>
         ensures { output (write_answer result) out.new ≡ write_image_call self (as_eight narrow nodes.now) colours.now out.old }
     {
-        let Checked::Refused(why) = self.check_in(nodes, narrow, colours) else {
-            return self.open_write_image_in(nodes, narrow, colours, out);
-        };
-        Written::Refused(why)
+        self.check_in(nodes, narrow, colours)?;
+        self.open_write_image_in(nodes, narrow, colours, out)
     }
 
     // Returns the map of an image, in the place of this map. Of this map only the version is read:
@@ -95,18 +87,16 @@ impl Map {
         narrow: bool,
         colours: &mut [u8],
         image: &[u8],
-    ) -> Built
+    ) -> Result<Map, Refusal>
         ensures { effect (build_answer self result) (as_eight narrow nodes.new) colours.new
             ≡ read_image_call self (as_eight narrow nodes.old) colours.old image.now }
     {
-        let Checked::Refused(why) = test_image(image, nodes, narrow, colours.len()) else {
-            load(nodes, narrow, colours, image);
-            return Built::Done(Map {
-                count: count_in(image),
-                root: root_in(image),
-                version: next_version(self.version),
-            });
-        };
-        Built::Refused(why)
+        test_image(image, nodes, narrow, colours.len())?;
+        load(nodes, narrow, colours, image);
+        Ok(Map {
+            count: count_in(image),
+            root: root_in(image),
+            version: next_version(self.version),
+        })
     }
 }

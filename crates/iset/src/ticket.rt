@@ -1,11 +1,13 @@
 // Tickets: a slot with the version of the map that it was taken from. Reading through a ticket
 // returns the slot's entry, or refuses if the map has changed since.
+#![tactic(auto, using(words::proofs::Refusals::number_pos, crate::proofs::Readings::readable), unfolding(crate::specs::Ticket::ticket_number, crate::specs::Ticket::open_read_number, crate::specs::Ticket::read_number_lem, crate::specs::Ticket::open_read_call, crate::specs::Ticket::read_call))]
+
 ghost use Rattle.std.specs.Prelude.{◌≡◌};
 ghost use Rattle.words.specs.Layouts.{as_eight};
 ghost use Rattle.iset.specs.Check.{check_number};
 ghost use Rattle.iset.specs.Ticket.{ticket_of, age, ticket_number, open_read_number, read_answer, open_read_call, read_call};
 
-use crate::{Checked, Map};
+use crate::{Map, sound_if};
 use words::node::{Entry, entry_of};
 use words::refusal::Refusal;
 
@@ -16,18 +18,12 @@ pub struct Ticket {
     pub version: u32,
 }
 
-// What reading through a ticket returns.
-#[derive(Clone, Copy)]
-pub enum Reading {
-    Done(Entry),
-    Refused(Refusal),
-}
-
 // Returns how many changes lie between two versions, modulo 2^32.
+#[tactic(auto, unfolding(crate::specs::Ticket::age))]
 fn distance(now: u32, taken: u32) -> u32
     ensures { result ≡ age now taken }
 {
-    std::num::wrapping_sub_u32(now, taken)
+    now.wrapping_sub(taken)
 }
 
 impl Map {
@@ -42,23 +38,24 @@ impl Map {
     }
 
     // The first refusal of a ticket: Stale, then NoSuch.
-    fn test_ticket(self, ticket: Ticket) -> Checked
+    fn test_ticket(self, ticket: Ticket) -> Result<(), Refusal>
         ensures { check_number result ≡ ticket_number self ticket }
     {
-        if distance(self.version, ticket.version) == 0 {
-            return Checked::sound_if(ticket.slot < self.count, Refusal::NoSuch);
-        }
-        Checked::Refused(Refusal::Stale)
+        sound_if(distance(self.version, ticket.version) == 0, Refusal::Stale)?;
+        sound_if(ticket.slot < self.count, Refusal::NoSuch)
     }
 
     // The first refusal of a reading in an opened store (see lib.rt).
-    fn test_read(self, nodes: &[u64], narrow: bool, colours: &[u8], ticket: Ticket) -> Checked
+    fn test_read(
+        self,
+        nodes: &[u64],
+        narrow: bool,
+        colours: &[u8],
+        ticket: Ticket,
+    ) -> Result<(), Refusal>
         ensures { check_number result ≡ open_read_number self (as_eight narrow nodes.now) colours.now ticket }
     {
-        let checked = self.test_count(nodes, narrow, colours);
-        let Checked::Sound = checked else {
-            return checked;
-        };
+        self.test_count(nodes, narrow, colours)?;
         self.test_ticket(ticket)
     }
 
@@ -69,24 +66,26 @@ impl Map {
         narrow: bool,
         colours: &[u8],
         ticket: Ticket,
-    ) -> Reading
+    ) -> Result<Entry, Refusal>
         ensures { read_answer result ≡ open_read_call self (as_eight narrow nodes.now) colours.now ticket }
     {
-        let Checked::Refused(why) = self.test_read(nodes, narrow, colours, ticket) else {
-            return Reading::Done(entry_of(nodes, narrow, ticket.slot));
-        };
-        Reading::Refused(why)
+        self.test_read(nodes, narrow, colours, ticket)?;
+        Ok(entry_of(nodes, narrow, ticket.slot))
     }
 
     // Returns the entry of a ticket's slot. The ticket is refused as Stale if the map has changed
     // at least once, and fewer than 2^32 times, since it was taken. After exactly 2^32 changes it
     // can pass.
-    pub fn read_in(self, nodes: &[u64], narrow: bool, colours: &[u8], ticket: Ticket) -> Reading
+    pub fn read_in(
+        self,
+        nodes: &[u64],
+        narrow: bool,
+        colours: &[u8],
+        ticket: Ticket,
+    ) -> Result<Entry, Refusal>
         ensures { read_answer result ≡ read_call self (as_eight narrow nodes.now) colours.now ticket }
     {
-        let Checked::Refused(why) = self.check_in(nodes, narrow, colours) else {
-            return self.open_read_in(nodes, narrow, colours, ticket);
-        };
-        Reading::Refused(why)
+        self.check_in(nodes, narrow, colours)?;
+        self.open_read_in(nodes, narrow, colours, ticket)
     }
 }

@@ -5,7 +5,7 @@
 use Rattle.std.specs.Prelude.{◌≡◌, true, false, cond, List, [], ◌∷◌, ℕ, zero, suc, eqb, replicate, take, drop}
 use Rattle.words.specs.Layouts.{as_eight}
 use Rattle.words.specs.Nodes.{kid, words_of}
-use Rattle.words.specs.declared.interval.Bound.{Bound}
+use Rattle.std.specs.declared.ops.Bound.{Bound}
 use Rattle.words.specs.declared.interval.Interval.{Interval}
 use Rattle.words.specs.declared.interval.Span.{Span}
 use Rattle.words.specs.declared.node.Entry.{Entry}
@@ -78,16 +78,16 @@ pub data Call : Type 0 where
   build : (words bytes : ℕ) (triples : List ℕ) → Call
   remove : (store : State) (slot : ℕ) → Call
   insert : (store : State) (entry : Entry) → Call
-  unload : (store : State) (rule : ℕ) (lo hi : Bound) → Call
+  unload : (store : State) (rule : ℕ) (lo hi : Bound ℕ) → Call
   propose : (store : State) (out : List ℕ) → Call
   renumber : (store : State) (plan : List ℕ) → Call
   root_right : (store : State) → Call
   slot : (store : State) (slot : ℕ) → Call
   sixes : (words : List ℕ) → Call
-  overlap : (store : State) (lo hi : Bound) → Call
-  ruled : (store : State) (rule : ℕ) (lo hi : Bound) → Call
-  step : (store : State) (lo hi : Bound) → Call
-  drain : (store : State) (lo hi : Bound) (cursor : Cursor) (limit : ℕ) (out : List ℕ) → Call
+  overlap : (store : State) (lo hi : Bound ℕ) → Call
+  ruled : (store : State) (rule : ℕ) (lo hi : Bound ℕ) → Call
+  step : (store : State) (lo hi : Bound ℕ) → Call
+  drain : (store : State) (lo hi : Bound ℕ) (cursor : Cursor) (limit : ℕ) (out : List ℕ) → Call
   exact : (store : State) (interval : Interval) → Call
   plain : (store : State) (query : Query) (out : List ℕ) → Call
   find_all_lem : (store : State) (query : Query) (out : List ℕ) → Call
@@ -167,14 +167,14 @@ found_from t q c =
     let d : Output DrainAnswer = drain_call t.map t.words t.colours q c 0 (replicate 64 0) in
     record { steps = steps_from t q (suc t.map.count) c; hits = take d.answer.hits d.output; entered = d.answer.entered }
 
-abbrev pub span : (lo hi : Bound) → Span
+abbrev pub span : (lo hi : Bound ℕ) → Span
 span lo hi = record { lo = lo; hi = hi }
 
 unfoldable pub left_in_lem : (store : State) → Left
 left_in_lem t = record { tree = tree_of t; bytes = t.colours; h = height (tree_of t); words = t.words }
 
 -- what a lookup for a range tells
-abbrev pub found_in : (store : State) (lo hi : Bound) (query : Query) → Told
+abbrev pub found_in : (store : State) (lo hi : Bound ℕ) (query : Query) → Told
 found_in t lo hi q =
     found (found_from t q (fresh t.map.root)) (record { t = touched t (span lo hi); bound = bound_of t (span lo hi) })
 

@@ -6,7 +6,7 @@ use Rattle.std.specs.Prelude.{true, false, List, [], ◌∷◌, ◌++◌, ℕ, z
 use Rattle.words.specs.Ix.{U}
 use Rattle.words.specs.Layouts.{as_eight}
 use Rattle.words.specs.Refusals.{refusal_number}
-use Rattle.words.specs.declared.interval.Bound.TheVariants.{Included, Excluded, Unbounded}
+use Rattle.std.specs.declared.ops.Bound.TheVariants.{Included, Excluded, Unbounded}
 use Rattle.words.specs.declared.interval.Interval.{Interval}
 use Rattle.words.specs.declared.node.Entry.{Entry}
 use Rattle.words.specs.declared.refusal.Refusal.TheVariants.{NoSuch, BadRange, BadInterval, ShortOutput, Stale, Overlap as Overlapping, NotDisjoint, BadPlan}

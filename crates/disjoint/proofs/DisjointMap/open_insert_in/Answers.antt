@@ -1,9 +1,10 @@
-use Rattle.disjoint.proofs.Laws.{placed_through, placed_away}
-use borrow.Author.Rules.{rules}
+use Rattle.std.proofs.lemmas.Result.{err_from_is_err_and}
+use Rattle.disjoint.proofs.Laws.{placed_back}
 use Rattle.disjoint.proofs.DisjointMap.open_insert_in.Goals as goal
 
-pub returns-in_default : goal.returns-in_default
-returns-in_default c = search placed_through
-
-pub returns : goal.returns
-returns c = search placed_away
+pub returns-in_err-open_insert_in : goal.returns-in_err-open_insert_in
+returns-in_err-open_insert_in c =
+    let w = c.in_ok-test_place.ensures in
+    let v = c.in_err-open_insert_in.ensures in
+    let p = err_from_is_err_and c.from_residual-in_err-open_insert_in.result c.from_residual-in_err-open_insert_in.ensures.1 in
+    rw p.1 (search placed_back)

@@ -1,5 +1,4 @@
 use Rattle.iset.proofs.Ones.{one_hit_is, one_hit_live, one_end_is, no_slot}
-use Rattle.std.proofs.Common.{rules}
 use Rattle.iset.proofs.lookup.one_hit.Goals as goal
 
 pub returns-then-d-eq1 : goal.returns-then-d-eq1

@@ -1,7 +1,0 @@
-use Rattle.words.specs.Layouts.{as_eight}
-use Rattle.std.proofs.Common.{rules}
-use Rattle.iset.proofs.Map.write_image.Goals as goal
-
-pub returns : goal.returns
-unfolding as_eight
-returns c = search rules
