@@ -1,4 +1,3 @@
-pub mod Puts
 pub mod Laws
 pub mod Exits
 pub mod Kept

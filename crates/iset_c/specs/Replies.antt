@@ -3,8 +3,11 @@
 -- lent slice.
 -- Letters: m map, W words, C colours, A places of the answer, a answer of the call, R reply,
 --   s step, p pairs, n number, b known (whether each bound has a kind), k effect or output,
---   l slices, S triples, e entry, x interval, q query, c cursor, v length, t ticket, I image
-use Rattle.std.specs.Prelude.{Bool, true, cond, List, [], ◌∷◌, ℕ, length, get_or, eqb, ltb}
+--   l slices, S triples, e entry, x interval, q query, c cursor, v length, t ticket, y refusal,
+--   I image
+use Rattle.std.specs.Prelude.{Bool, true, cond, List, [], ◌∷◌, ℕ, length, get_or, eqb, ltb, Result, Ok, Err}
+use Rattle.words.specs.Refusals.{refusal_number}
+use Rattle.words.specs.declared.refusal.Refusal.{Refusal}
 use Rattle.words.specs.declared.interval.Interval.{Interval}
 use Rattle.words.specs.declared.interval.Span.{Span}
 use Rattle.words.specs.declared.node.Entry.{Entry}
@@ -80,6 +83,16 @@ effect_exit reply A W C k = ranged_effect_exit reply true A W C k
 abbrev pub output_exit : {K : Type 0} → (reply : K → Reply) (known : Bool) (places out : List ℕ)
     (output : Output K) → Exit
 output_exit reply b A out k = exit_of b A (reply k.answer) (out ∷ []) (k.output ∷ [])
+
+-- of the result of a call that is made: the number that an export returns, and the answer at exit
+abbrev pub refusal_of : {T : Type 0} → (returned : Result T Refusal) → ℕ
+refusal_of (Ok x) = 0
+refusal_of (Err y) = refusal_number y
+
+abbrev pub written : {T : Type 0} → (numbers : T → List ℕ) (returned : Result T Refusal) (places : List ℕ)
+    → List ℕ
+written numbers (Ok x) A = filled (numbers x) A
+written numbers (Err y) A = A
 
 abbrev pub cursor_of : (slot levels bits : ℕ) → Cursor
 cursor_of slot levels bits = record { slot = slot; levels = levels; bits = bits }

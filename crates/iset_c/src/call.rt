@@ -4,9 +4,7 @@ ghost use Rattle.std.specs.Prelude.{◌≡◌, true, [], ◌∷◌, ◌≤◌, l
 ghost use Rattle.words.specs.Layouts.{as_eight};
 ghost use Rattle.iset_c.specs.Replies.{exit, step_exit, drain_exit, unload_exit};
 
-use crate::answer::{put_drained, put_step, put_unloaded};
-use iset::lookup::{Drain, Stepped};
-use iset::unload::Unloading;
+use crate::answer::answered;
 use iset::{Cursor, Map, Query, Span};
 
 // A step of either kind of lookup.
@@ -23,13 +21,7 @@ pub fn step(
     ensures { exit result answer.new []
         ≡ step_exit true answer.old map (as_eight narrow nodes.now) colours.now query cursor }
 {
-    match map.step_in(nodes, narrow, colours, query, cursor) {
-        Stepped::Refused(why) => why.number(),
-        Stepped::Done(s) => {
-            put_step(s, answer);
-            0
-        }
-    }
+    answered(map.step_in(nodes, narrow, colours, query, cursor), answer)
 }
 
 // A drain of either kind of lookup.
@@ -48,13 +40,10 @@ pub fn drain(
     ensures { exit result answer.new (out.new ∷ [])
         ≡ drain_exit true answer.old map (as_eight narrow nodes.now) colours.now query cursor limit out.old }
 {
-    match map.drain_in(nodes, narrow, colours, query, cursor, limit, out) {
-        Drain::Refused(why) => why.number(),
-        Drain::Done(d) => {
-            put_drained(d, answer);
-            0
-        }
-    }
+    answered(
+        map.drain_in(nodes, narrow, colours, query, cursor, limit, out),
+        answer,
+    )
 }
 
 // Unloads a range by the rule of a number.
@@ -71,11 +60,5 @@ pub fn unload(
     ensures { exit result answer.new (as_eight narrow nodes.new ∷ colours.new ∷ [])
         ≡ unload_exit true answer.old map (as_eight narrow nodes.old) colours.old rule range }
 {
-    match map.unload_in(nodes, narrow, colours, rule, range) {
-        Unloading::Refused(why) => why.number(),
-        Unloading::Done(g) => {
-            put_unloaded(g, answer);
-            0
-        }
-    }
+    answered(map.unload_in(nodes, narrow, colours, rule, range), answer)
 }

@@ -1,5 +1,7 @@
 // The exports that are lent nodes of eight words. Each is the call of either layout, whose name
 // ends in `_in`, with `narrow` false.
+#![tactic(auto, unfolding(words::specs::Layouts::as_eight))]
+
 ghost use Rattle.std.specs.Prelude.{◌≡◌, true, [], ◌∷◌};
 ghost use Rattle.words.specs.Ix.{U};
 ghost use Rattle.iset.specs.Check.{check_rule};

@@ -6,8 +6,8 @@ ghost use Rattle.iset.specs.Maps.{map_of};
 ghost use Rattle.iset_c.specs.Replies.{exit, find_all_exit};
 ghost use Rattle.iset_c.specs.Ranges.{range_of, exact_of, kinds};
 
-use crate::answer::put_looked;
-use crate::range::{are_kinds, range};
+use crate::answer::answered;
+use crate::range::known_range;
 use crate::{BAD_BOUND, SHORT_ANSWER};
 use iset::{Interval, Map, Query};
 
@@ -32,17 +32,15 @@ pub fn find_all_in(
     if answer.len() < 2 {
         return SHORT_ANSWER;
     }
-    if are_kinds(lo_kind, hi_kind) {
-        let map = Map {
-            count,
-            root,
-            version: 0,
-        };
-        let query = range(lo_kind, lo, hi_kind, hi);
-        put_looked(map.find_all_in(nodes, narrow, colours, query, out), answer)
-    } else {
-        BAD_BOUND
-    }
+    let Some(query) = known_range(lo_kind, lo, hi_kind, hi) else {
+        return BAD_BOUND;
+    };
+    let map = Map {
+        count,
+        root,
+        version: 0,
+    };
+    answered(map.find_all_in(nodes, narrow, colours, query, out), answer)
 }
 
 // Writes the slots of the entries that are equal to an interval, in the same way. Answer: as for
@@ -69,6 +67,6 @@ pub fn find_all_exact_in(
         root,
         version: 0,
     };
-    let query = Query::Exact(Interval { start, end });
-    put_looked(map.find_all_in(nodes, narrow, colours, query, out), answer)
+    let exact = Query::Exact(Interval { start, end });
+    answered(map.find_all_in(nodes, narrow, colours, exact, out), answer)
 }

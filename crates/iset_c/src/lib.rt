@@ -12,7 +12,7 @@
 // A function whose name ends in `_in` does the work of an export for nodes of either layout:
 // `narrow` says that a node has six words and not eight. Crate iset_c_narrow has the exports for
 // six words.
-#![tactic(auto)]
+#![tactic(auto, using(crate::proofs::Laws::short_exit, crate::proofs::Laws::unbounded_exit))]
 
 pub mod answer;
 pub mod call;
@@ -35,11 +35,9 @@ ghost use Rattle.iset.specs.Maps.{map_at, map_of};
 ghost use Rattle.words.specs.Ix.{U};
 ghost use Rattle.iset_c.specs.Replies.{exit, pairs_of, build_exit, remove_exit, insert_exit};
 
-use crate::answer::{put_inserted, put_map, put_removed};
-use iset::build::Built;
-use iset::insert::Insertion;
-use iset::remove::{Removal, Removed};
-use iset::{Map, Pair, Pairs};
+use crate::answer::answered;
+use iset::remove::Removed;
+use iset::{Map, Pair, Pairs, number_of};
 use words::ix::U;
 
 // The exports' own refusals. Their numbers leave room for refusals that the map may get after
@@ -57,7 +55,7 @@ pub fn check_in(count: u64, root: u64, nodes: &[u64], narrow: bool, colours: &[u
         root,
         version: 0,
     };
-    map.check_in(nodes, narrow, colours).number()
+    number_of(map.check_in(nodes, narrow, colours))
 }
 
 // Builds the map of a list of triples start, end, value, in the place of a map of the given
@@ -81,13 +79,7 @@ pub fn build_in(
         root: U,
         version,
     };
-    match old.build_in(nodes, narrow, colours, list) {
-        Built::Refused(why) => why.number(),
-        Built::Done(m) => {
-            put_map(m, answer);
-            0
-        }
-    }
+    answered(old.build_in(nodes, narrow, colours, list), answer)
 }
 
 // Removes the entry of a slot. Answer: value, count, root; the entries that moved, as three pairs
@@ -114,13 +106,7 @@ pub fn remove_in(
         root,
         version,
     };
-    match map.remove_in(nodes, narrow, colours, slot) {
-        Removal::Refused(why) => why.number(),
-        Removal::Done(g) => {
-            put_removed(g, answer);
-            0
-        }
-    }
+    answered(map.remove_in(nodes, narrow, colours, slot), answer)
 }
 
 // Takes the answer of a removal of slot `removed`. Returns the slot of the entry that was in slot
@@ -179,11 +165,8 @@ pub fn insert_in(
         root,
         version,
     };
-    match map.insert_in(nodes, narrow, colours, start, end, value) {
-        Insertion::Refused(why) => why.number(),
-        Insertion::Done(a) => {
-            put_inserted(a, answer);
-            0
-        }
-    }
+    answered(
+        map.insert_in(nodes, narrow, colours, start, end, value),
+        answer,
+    )
 }

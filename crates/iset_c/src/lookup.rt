@@ -7,11 +7,10 @@ ghost use Rattle.iset.specs.Maps.{map_of};
 ghost use Rattle.iset_c.specs.Replies.{cursor_of, exit, fresh_reply, answer_exit, start_exit, step_exit, drain_exit};
 ghost use Rattle.iset_c.specs.Ranges.{range_of, interval_of_lem, exact_of, kinds};
 
-use crate::answer::put_cursor;
+use crate::answer::{Returned, answered};
 use crate::call::{drain, step};
-use crate::range::{are_kinds, range};
+use crate::range::known_range;
 use crate::{BAD_BOUND, SHORT_ANSWER};
-use iset::lookup::Started;
 use iset::{Cursor, Interval, Map, Query};
 
 // The fresh cursor of an overlap lookup. Answer: slot, levels, bits. The calls that take the cursor
@@ -23,15 +22,12 @@ pub fn iset_fresh(count: u64, root: u64, answer: &mut [u64]) -> u64
     if answer.len() < 3 {
         return SHORT_ANSWER;
     }
-    put_cursor(
-        (Map {
-            count,
-            root,
-            version: 0,
-        })
-        .fresh(),
-        answer,
-    );
+    let map = Map {
+        count,
+        root,
+        version: 0,
+    };
+    map.fresh().put(answer);
     0
 }
 
@@ -52,19 +48,13 @@ pub fn fresh_exact_in(
     if answer.len() < 3 {
         return SHORT_ANSWER;
     }
-    match (Map {
+    let map = Map {
         count,
         root,
         version: 0,
-    })
-    .fresh_exact_in(nodes, narrow, colours, Interval { start, end })
-    {
-        Started::Refused(why) => why.number(),
-        Started::Done(c) => {
-            put_cursor(c, answer);
-            0
-        }
-    }
+    };
+    let exact = Interval { start, end };
+    answered(map.fresh_exact_in(nodes, narrow, colours, exact), answer)
 }
 
 // Finds the next entry that intersects a range. Answer: its slot, or U at the end; the next
@@ -90,23 +80,22 @@ pub fn step_in(
     if answer.len() < 5 {
         return SHORT_ANSWER;
     }
-    if are_kinds(lo_kind, hi_kind) {
-        step(
-            Map {
-                count,
-                root,
-                version: 0,
-            },
-            nodes,
-            narrow,
-            colours,
-            range(lo_kind, lo, hi_kind, hi),
-            Cursor { slot, levels, bits },
-            answer,
-        )
-    } else {
-        BAD_BOUND
-    }
+    let Some(query) = known_range(lo_kind, lo, hi_kind, hi) else {
+        return BAD_BOUND;
+    };
+    step(
+        Map {
+            count,
+            root,
+            version: 0,
+        },
+        nodes,
+        narrow,
+        colours,
+        query,
+        Cursor { slot, levels, bits },
+        answer,
+    )
 }
 
 // Finds the next entry that is equal to an interval. Answer: as for iset_step.
@@ -170,18 +159,16 @@ pub fn drain_in(
     if answer.len() < 5 {
         return SHORT_ANSWER;
     }
-    if are_kinds(lo_kind, hi_kind) {
-        let map = Map {
-            count,
-            root,
-            version: 0,
-        };
-        let query = range(lo_kind, lo, hi_kind, hi);
-        let from = Cursor { slot, levels, bits };
-        drain(map, nodes, narrow, colours, query, from, limit, out, answer)
-    } else {
-        BAD_BOUND
-    }
+    let Some(query) = known_range(lo_kind, lo, hi_kind, hi) else {
+        return BAD_BOUND;
+    };
+    let map = Map {
+        count,
+        root,
+        version: 0,
+    };
+    let from = Cursor { slot, levels, bits };
+    drain(map, nodes, narrow, colours, query, from, limit, out, answer)
 }
 
 // The drain of an exact lookup. Answer: as for iset_drain.

@@ -6,10 +6,8 @@ ghost use Rattle.words.specs.Ix.{U};
 ghost use Rattle.iset_c.specs.Replies.{exit, write_image_exit, read_image_exit};
 
 use crate::SHORT_ANSWER;
-use crate::answer::{put_length, put_map};
+use crate::answer::answered;
 use iset::Map;
-use iset::build::Built;
-use iset::save::Written;
 use words::ix::U;
 
 // Writes a map as an image to the front of the output. Answer: how many bytes the image has.
@@ -33,13 +31,7 @@ pub fn write_image_in(
         root,
         version: 0,
     };
-    match map.write_image_in(nodes, narrow, colours, out) {
-        Written::Refused(why) => why.number(),
-        Written::Done(length) => {
-            put_length(length, answer);
-            0
-        }
-    }
+    answered(map.write_image_in(nodes, narrow, colours, out), answer)
 }
 
 // Reads the map of an image, in the place of a map of the given version. Answer: count, root,
@@ -63,11 +55,5 @@ pub fn read_image_in(
         root: U,
         version,
     };
-    match old.read_image_in(nodes, narrow, colours, image) {
-        Built::Refused(why) => why.number(),
-        Built::Done(m) => {
-            put_map(m, answer);
-            0
-        }
-    }
+    answered(old.read_image_in(nodes, narrow, colours, image), answer)
 }

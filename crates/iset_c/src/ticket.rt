@@ -5,9 +5,9 @@ ghost use Rattle.iset.specs.Maps.{map_at};
 ghost use Rattle.iset_c.specs.Replies.{exit, ticket_at_lem, read_exit};
 
 use crate::SHORT_ANSWER;
-use crate::answer::put_entry;
+use crate::answer::answered;
 use iset::Map;
-use iset::ticket::{Reading, Ticket};
+use iset::ticket::Ticket;
 
 // Reads the entry of a slot, if the map has not changed since version `taken`. Answer: start, end,
 // value.
@@ -37,11 +37,5 @@ pub fn read_in(
         slot,
         version: taken,
     };
-    match map.read_in(nodes, narrow, colours, ticket) {
-        Reading::Refused(why) => why.number(),
-        Reading::Done(e) => {
-            put_entry(e, answer);
-            0
-        }
-    }
+    answered(map.read_in(nodes, narrow, colours, ticket), answer)
 }

@@ -7,9 +7,8 @@ ghost use Rattle.iset.specs.Tidy.{propose_call};
 ghost use Rattle.iset_c.specs.Replies.{exit, renumber_exit};
 
 use crate::SHORT_ANSWER;
-use crate::answer::put_map;
-use iset::Map;
-use iset::tidy::Renumbering;
+use crate::answer::answered;
+use iset::{Map, number_of};
 
 // Proposes a plan that numbers the slots in tree order: writes the place of each slot. It returns
 // its number and writes no answer.
@@ -28,7 +27,7 @@ pub fn propose_in(
         root,
         version: 0,
     };
-    map.propose_in(nodes, narrow, colours, out).number()
+    number_of(map.propose_in(nodes, narrow, colours, out))
 }
 
 // Moves each node to the slot that a plan gives it. Answer: count, root, version. The test of the
@@ -54,11 +53,5 @@ pub fn renumber_in(
         root,
         version,
     };
-    match map.renumber_in(nodes, narrow, colours, plan) {
-        Renumbering::Refused(why) => why.number(),
-        Renumbering::Done(m) => {
-            put_map(m, answer);
-            0
-        }
-    }
+    answered(map.renumber_in(nodes, narrow, colours, plan), answer)
 }

@@ -6,7 +6,7 @@ ghost use Rattle.iset_c.specs.Replies.{exit, unload_exit};
 ghost use Rattle.iset_c.specs.Ranges.{kinds, span_of};
 
 use crate::call::unload;
-use crate::range::{are_kinds, span};
+use crate::range::known_span;
 use crate::{BAD_BOUND, SHORT_ANSWER};
 use iset::Map;
 
@@ -31,15 +31,13 @@ pub fn unload_in(
     if answer.len() < 4 {
         return SHORT_ANSWER;
     }
-    if are_kinds(lo_kind, hi_kind) {
-        let map = Map {
-            count,
-            root,
-            version,
-        };
-        let range = span(lo_kind, lo, hi_kind, hi);
-        unload(map, nodes, narrow, colours, 1, range, answer)
-    } else {
-        BAD_BOUND
-    }
+    let Some(range) = known_span(lo_kind, lo, hi_kind, hi) else {
+        return BAD_BOUND;
+    };
+    let map = Map {
+        count,
+        root,
+        version,
+    };
+    unload(map, nodes, narrow, colours, 1, range, answer)
 }

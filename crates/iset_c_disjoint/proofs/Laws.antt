@@ -1,31 +1,25 @@
 -- What an export hands out, in the form that `search` takes.
-use mathlib.Core.Path.{◌≡◌, refl, ◌∙◌}
+use mathlib.Core.Path.{◌≡◌, refl, sym, ap, ◌∙◌}
 use mathlib.Core.Bool.{true}
 use mathlib.Core.List.{List, [], ◌∷◌}
 use Prim.Native.Nat.{ℕ, ◌<◌, ◌≤◌}
 use native.Mathlib.Omega.{arith}
-use lib.ListN.{length, set}
+use lib.ListN.{length}
 use borrow.Author.Tests.{lt-ltb, le-ltb, ne_eqb}
 use Rattle.words.specs.Refusals.{refusal_number}
 use Rattle.words.specs.declared.refusal.Refusal.{Refusal}
-use Rattle.words.proofs.Refusals.{number_pos}
+use Rattle.words.specs.declared.refusal.Refusal.TheVariants.{Overlap}
+use Rattle.words.proofs.Refusals.{refusal_at, at_number, number_pos}
+use Rattle.std.specs.Prelude.{Result, Ok, Err}
 use Rattle.iter.specs.Drains.{filled}
 use Rattle.iset.specs.Effects.{Effect, effect}
 use Rattle.iset.specs.Insert.{InsertAnswer}
 use Rattle.iset.specs.declared.Map.{Map}
 use Rattle.iset.specs.declared.insert.Inserted.{Inserted}
 use Rattle.disjoint.specs.Place.{refused_placement, place_answer}
-use Rattle.disjoint.specs.declared.insert.Placement.{Placement}
-use Rattle.disjoint.specs.declared.insert.Placement.TheVariants.{Done, Refused}
+use Rattle.disjoint.specs.declared.insert.Blocked.{Blocked}
 use Rattle.iset_c.specs.Replies.{Reply, exit, number, left, inserted_numbers, insert_reply}
-use Rattle.iset_c_disjoint.specs.Replies.{spot_numbers, handed_met, placed_exit}
-
--- two numbers written one after the other
-pub spot_put : (A : List ℕ) (s e : ℕ) → 2 ≤ length A → set (set A 0 s) 1 e ≡ filled (spot_numbers s e) A
-unfolding filled
-spot_put [] s e h = absurd (omega arith)
-spot_put (a ∷ []) s e h = absurd (omega arith)
-spot_put (a ∷ b ∷ A) s e h = refl
+use Rattle.iset_c_disjoint.specs.Replies.{handed_met, placed_exit}
 
 -- an answer with room: the number, and what is handed out by it
 module _ (A : List ℕ) (R : Reply) (h : length R.numbers ≤ length A) where
@@ -45,39 +39,39 @@ module _ (A : List ℕ) (R : Reply) (h : length R.numbers ≤ length A) where
   unfolding handed_met
   kept_handed d f = rw (number_is, ne_eqb R.no 0 d, ne_eqb R.no 13 f)
 
+only_overlap : (y : Refusal) → refusal_number y ≡ 13 → y ≡ Overlap
+only_overlap y e = sym (at_number y) ∙ ap refusal_at e
+
 -- a refused insertion
 module _ (m : Map) (y : Refusal) (s k : ℕ) (A : List ℕ) (h : 5 ≤ length A) (p : k ≡ refusal_number y) where
   abbrev R : Reply
   R = insert_reply (refused_placement m (refusal_number y) s)
 
-  pub met_number : k ≡ 13 → 13 ≡ number true A (insert_reply (refused_placement m (refusal_number y) s))
-  met_number z = rw (number_is A R h, ← p, z)
-
-  pub met_answer : k ≡ 13 → (X : List ℕ) → X ≡ filled (inserted_numbers m s 0) A → X ≡ handed_met A (insert_reply (refused_placement m (refusal_number y) s))
-  met_answer z X q = q ∙ met_handed A R h (rw (← p) z)
-
   pub refused_number : k ≡ number true A (insert_reply (refused_placement m (refusal_number y) s))
   refused_number = rw (number_is A R h) p
 
-  pub refused_answer : (k ≡ 13 → ⊥) → A ≡ handed_met A (insert_reply (refused_placement m (refusal_number y) s))
-  refused_answer d = kept_handed A R h (λ f. omega (arith, number_pos y)) (λ f. d (p ∙ f))
+  pub met_answer : y ≡ Overlap → (X : List ℕ) → X ≡ filled (inserted_numbers m s 0) A → X ≡ handed_met A (insert_reply (refused_placement m (refusal_number y) s))
+  met_answer z X q = q ∙ met_handed A R h (ap refusal_number z)
 
--- an insertion, by its answer t
-module _ (m : Map) (t : Placement) (A : List ℕ) where
-  pub placed_refused : (y : Refusal) (s : ℕ) → t ≡ Refused y s → (r : ℕ) → r ≡ number true A (insert_reply (refused_placement m (refusal_number y) s))
+  pub refused_answer : (y ≡ Overlap → ⊥) → A ≡ handed_met A (insert_reply (refused_placement m (refusal_number y) s))
+  refused_answer d = kept_handed A R h (λ f. omega (arith, number_pos y)) (λ f. d (only_overlap y f))
+
+-- an insertion, by its result t
+module _ (m : Map) (t : Result Inserted Blocked) (A : List ℕ) where
+  pub placed_refused : (y : Blocked) → t ≡ Err y → (r : ℕ) → r ≡ number true A (insert_reply (refused_placement m (refusal_number y.why) y.slot))
       → r ≡ number true A (insert_reply (place_answer m t))
-  placed_refused y s q r p = rw q p
+  placed_refused y q r p = rw q p
 
-  pub placed_kept : (y : Refusal) (s : ℕ) → t ≡ Refused y s → (X : List ℕ) → X ≡ handed_met A (insert_reply (refused_placement m (refusal_number y) s))
+  pub placed_kept : (y : Blocked) → t ≡ Err y → (X : List ℕ) → X ≡ handed_met A (insert_reply (refused_placement m (refusal_number y.why) y.slot))
       → X ≡ handed_met A (insert_reply (place_answer m t))
-  placed_kept y s q X p = rw q p
+  placed_kept y q X p = rw q p
 
-  pub placed_done : (g : Inserted) → t ≡ Done g → 5 ≤ length A → 0 ≡ number true A (insert_reply (place_answer m t))
-  placed_done g q h = rw (q, number_is A (insert_reply (place_answer m (Done g))) h) refl
+  pub placed_done : (g : Inserted) → t ≡ Ok g → 5 ≤ length A → 0 ≡ number true A (insert_reply (place_answer m t))
+  placed_done g q h = rw (q, number_is A (insert_reply (place_answer m (Ok g))) h) refl
 
-  pub placed_answer : (g : Inserted) → t ≡ Done g → 5 ≤ length A → (X : List ℕ) → X ≡ filled (inserted_numbers g.map g.slot g.reach) A
+  pub placed_answer : (g : Inserted) → t ≡ Ok g → 5 ≤ length A → (X : List ℕ) → X ≡ filled (inserted_numbers g.map g.slot g.reach) A
       → X ≡ handed_met A (insert_reply (place_answer m t))
-  placed_answer g q h X p = rw q (p ∙ done_handed A (insert_reply (place_answer m (Done g))) h refl)
+  placed_answer g q h X p = rw q (p ∙ done_handed A (insert_reply (place_answer m (Ok g))) h refl)
 
 -- the export of an insertion
 module _ (A W C : List ℕ) where
@@ -85,7 +79,7 @@ module _ (A W C : List ℕ) where
   unfolding number handed_met left
   short_placed k h = rw (lt-ltb (length A) 5 h)
 
-  pub placed_exit_lem : 5 ≤ length A → (m : Map) (t : Placement) (k : Effect InsertAnswer) (Y Z : List ℕ) → effect (place_answer m t) Y Z ≡ k → (r : ℕ) (X : List ℕ)
+  pub placed_exit_lem : 5 ≤ length A → (m : Map) (t : Result Inserted Blocked) (k : Effect InsertAnswer) (Y Z : List ℕ) → effect (place_answer m t) Y Z ≡ k → (r : ℕ) (X : List ℕ)
       → r ≡ number true A (insert_reply (place_answer m t)) → X ≡ handed_met A (insert_reply (place_answer m t))
       → exit r X (Y ∷ Z ∷ []) ≡ placed_exit A W C k
   unfolding left

@@ -1,5 +1,7 @@
 // The exports that are lent nodes of eight words. Each is the call of either layout, whose name
 // ends in `_in`, with `narrow` false.
+#![tactic(auto, unfolding(words::specs::Layouts::as_eight))]
+
 ghost use Rattle.std.specs.Prelude.{◌≡◌, [], ◌∷◌};
 ghost use Rattle.iset.specs.Insert.{entry_of};
 ghost use Rattle.iset.specs.Maps.{map_at, map_of};

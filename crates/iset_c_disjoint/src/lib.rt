@@ -5,7 +5,7 @@
 //
 // The exports are in exports.rt. A function whose name ends in `_in` does the work of an export for
 // nodes of either layout: `narrow` says that a node has six words and not eight.
-#![tactic(auto)]
+#![tactic(auto, using(iset_c::proofs::Laws::short_exit, crate::proofs::Laws::short_placed))]
 
 pub mod answer;
 pub mod exports;
@@ -19,13 +19,11 @@ ghost use Rattle.disjoint.specs.Check.{disjoint_rule_lem};
 ghost use Rattle.iset_c.specs.Replies.{exit};
 ghost use Rattle.iset_c_disjoint.specs.Replies.{point_exit, place_exit, take_exit};
 
-use crate::answer::{put_placed, put_spot};
+use crate::answer::{put_placed, put_pointed};
 use disjoint::DisjointMap;
-use disjoint::point::Pointed;
-use iset::Map;
-use iset::remove::Removal;
+use iset::{Map, number_of};
 use iset_c::SHORT_ANSWER;
-use iset_c::answer::put_removed;
+use iset_c::answer::answered;
 
 // The check of the store, and that no two entries intersect. It returns its number and writes no
 // answer.
@@ -38,7 +36,7 @@ pub fn disjoint_check_in(count: u64, root: u64, nodes: &[u64], narrow: bool, col
         version: 0,
     };
     let disjoint = DisjointMap { map };
-    disjoint.check_in(nodes, narrow, colours).number()
+    number_of(disjoint.check_in(nodes, narrow, colours))
 }
 
 // Finds the entry that holds an address. Answer: its slot, or U if there is none; how many nodes
@@ -64,13 +62,7 @@ pub fn disjoint_point_in(
         version: 0,
     };
     let disjoint = DisjointMap { map };
-    match disjoint.point_in(nodes, narrow, colours, address) {
-        Pointed::Refused(why) => why.number(),
-        Pointed::Done(spot) => {
-            put_spot(spot, answer);
-            0
-        }
-    }
+    put_pointed(disjoint.point_in(nodes, narrow, colours, address), answer)
 }
 
 // Adds an entry in slot `count`, if no stored entry intersects it. Answer: count, root, the entry's
@@ -130,11 +122,5 @@ pub fn disjoint_remove_in(
         version,
     };
     let disjoint = DisjointMap { map };
-    match disjoint.remove_in(nodes, narrow, colours, slot) {
-        Removal::Refused(why) => why.number(),
-        Removal::Done(g) => {
-            put_removed(g, answer);
-            0
-        }
-    }
+    answered(disjoint.remove_in(nodes, narrow, colours, slot), answer)
 }

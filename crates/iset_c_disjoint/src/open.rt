@@ -8,13 +8,11 @@ ghost use Rattle.iset.specs.Maps.{map_at, map_of};
 ghost use Rattle.iset_c.specs.Replies.{exit};
 ghost use Rattle.iset_c_disjoint.specs.Replies.{open_point_exit, open_place_exit, open_take_exit};
 
-use crate::answer::{put_placed, put_spot};
+use crate::answer::{put_placed, put_pointed};
 use disjoint::DisjointMap;
-use disjoint::point::Pointed;
 use iset::Map;
-use iset::remove::Removal;
 use iset_c::SHORT_ANSWER;
-use iset_c::answer::put_removed;
+use iset_c::answer::answered;
 
 // iset_disjoint_point for an opened store.
 pub fn open_disjoint_point_in(
@@ -38,13 +36,10 @@ pub fn open_disjoint_point_in(
         version: 0,
     };
     let disjoint = DisjointMap { map };
-    match disjoint.open_point_in(nodes, narrow, colours, address) {
-        Pointed::Refused(why) => why.number(),
-        Pointed::Done(spot) => {
-            put_spot(spot, answer);
-            0
-        }
-    }
+    put_pointed(
+        disjoint.open_point_in(nodes, narrow, colours, address),
+        answer,
+    )
 }
 
 // iset_disjoint_insert for an opened store.
@@ -102,11 +97,8 @@ pub fn open_disjoint_remove_in(
         version,
     };
     let disjoint = DisjointMap { map };
-    match disjoint.open_remove_in(nodes, narrow, colours, slot) {
-        Removal::Refused(why) => why.number(),
-        Removal::Done(g) => {
-            put_removed(g, answer);
-            0
-        }
-    }
+    answered(
+        disjoint.open_remove_in(nodes, narrow, colours, slot),
+        answer,
+    )
 }

@@ -1,5 +1,7 @@
 // The calls of crate iset_c_disjoint, for nodes of six words: maps in which no two ranges overlap.
 // Each is the call of either layout, whose name ends in `_in`, with `narrow` true.
+#![tactic(auto, unfolding(words::specs::Layouts::as_eight))]
+
 ghost use Rattle.std.specs.Prelude.{◌≡◌, [], ◌∷◌};
 ghost use Rattle.words.specs.Layouts.{unpack};
 ghost use Rattle.iset.specs.Insert.{entry_of};

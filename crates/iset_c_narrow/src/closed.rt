@@ -1,5 +1,7 @@
 // The calls of crate iset_c, for nodes of six words. Each is the call of either layout, whose name
 // ends in `_in`, with `narrow` true.
+#![tactic(auto, unfolding(words::specs::Layouts::as_eight))]
+
 ghost use Rattle.std.specs.Prelude.{◌≡◌, true, [], ◌∷◌};
 ghost use Rattle.words.specs.Ix.{U};
 ghost use Rattle.words.specs.Layouts.{unpack};

@@ -1,5 +1,7 @@
 // The calls of crate iset_c_open, for nodes of six words: those without the store check. Each is
 // the call of either layout, whose name ends in `_in`, with `narrow` true.
+#![tactic(auto, unfolding(words::specs::Layouts::as_eight))]
+
 ghost use Rattle.std.specs.Prelude.{◌≡◌, true, [], ◌∷◌};
 ghost use Rattle.words.specs.Layouts.{unpack};
 ghost use Rattle.iset.specs.Effects.{output};

@@ -5,10 +5,8 @@ ghost use Rattle.words.specs.Layouts.{as_eight};
 ghost use Rattle.iset_c.specs.Replies.{exit};
 ghost use Rattle.iset_c_open.specs.Replies.{open_step_exit, open_drain_exit, open_unload_exit};
 
-use iset::lookup::{Drain, Stepped};
-use iset::unload::Unloading;
 use iset::{Cursor, Map, Query, Span};
-use iset_c::answer::{put_drained, put_step, put_unloaded};
+use iset_c::answer::answered;
 
 // A step of either kind of lookup.
 pub fn step(
@@ -24,13 +22,10 @@ pub fn step(
     ensures { exit result answer.new []
         ≡ open_step_exit true answer.old map (as_eight narrow nodes.now) colours.now query cursor }
 {
-    match map.open_step_in(nodes, narrow, colours, query, cursor) {
-        Stepped::Refused(why) => why.number(),
-        Stepped::Done(s) => {
-            put_step(s, answer);
-            0
-        }
-    }
+    answered(
+        map.open_step_in(nodes, narrow, colours, query, cursor),
+        answer,
+    )
 }
 
 // A drain of either kind of lookup.
@@ -49,13 +44,10 @@ pub fn drain(
     ensures { exit result answer.new (out.new ∷ [])
         ≡ open_drain_exit true answer.old map (as_eight narrow nodes.now) colours.now query cursor limit out.old }
 {
-    match map.open_drain_in(nodes, narrow, colours, query, cursor, limit, out) {
-        Drain::Refused(why) => why.number(),
-        Drain::Done(d) => {
-            put_drained(d, answer);
-            0
-        }
-    }
+    answered(
+        map.open_drain_in(nodes, narrow, colours, query, cursor, limit, out),
+        answer,
+    )
 }
 
 // Unloads a range by the rule of a number.
@@ -72,11 +64,8 @@ pub fn unload(
     ensures { exit result answer.new (as_eight narrow nodes.new ∷ colours.new ∷ [])
         ≡ open_unload_exit true answer.old map (as_eight narrow nodes.old) colours.old rule range }
 {
-    match map.open_unload_in(nodes, narrow, colours, rule, range) {
-        Unloading::Refused(why) => why.number(),
-        Unloading::Done(g) => {
-            put_unloaded(g, answer);
-            0
-        }
-    }
+    answered(
+        map.open_unload_in(nodes, narrow, colours, rule, range),
+        answer,
+    )
 }

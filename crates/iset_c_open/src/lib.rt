@@ -4,7 +4,7 @@
 //
 // The exports are in exports.rt. A function whose name ends in `_in` does the work of an export for
 // nodes of either layout: `narrow` says that a node has six words and not eight.
-#![tactic(auto)]
+#![tactic(auto, using(iset_c::proofs::Laws::short_exit, iset_c::proofs::Laws::unbounded_exit))]
 
 pub mod call;
 pub mod exports;
@@ -24,10 +24,8 @@ ghost use Rattle.iset_c.specs.Replies.{exit};
 ghost use Rattle.iset_c_open.specs.Replies.{open_remove_exit, open_insert_exit};
 
 use iset::Map;
-use iset::insert::Insertion;
-use iset::remove::Removal;
 use iset_c::SHORT_ANSWER;
-use iset_c::answer::{put_inserted, put_removed};
+use iset_c::answer::answered;
 
 // Removes the entry of a slot. Answer: value, count, root; the entries that moved, as three pairs
 // of an old slot and a new slot; how many hulls changed; version. A slot's hull is the least range
@@ -53,13 +51,7 @@ pub fn open_remove_in(
         root,
         version,
     };
-    match map.open_remove_in(nodes, narrow, colours, slot) {
-        Removal::Refused(why) => why.number(),
-        Removal::Done(g) => {
-            put_removed(g, answer);
-            0
-        }
-    }
+    answered(map.open_remove_in(nodes, narrow, colours, slot), answer)
 }
 
 // Adds an entry in slot `count`. No other entry changes slot. Answer: count, root, the entry's
@@ -87,11 +79,8 @@ pub fn open_insert_in(
         root,
         version,
     };
-    match map.open_insert_in(nodes, narrow, colours, start, end, value) {
-        Insertion::Refused(why) => why.number(),
-        Insertion::Done(a) => {
-            put_inserted(a, answer);
-            0
-        }
-    }
+    answered(
+        map.open_insert_in(nodes, narrow, colours, start, end, value),
+        answer,
+    )
 }

@@ -9,10 +9,9 @@ ghost use Rattle.iset_c.specs.Ranges.{range_of, interval_of_lem, exact_of, kinds
 ghost use Rattle.iset_c_open.specs.Replies.{open_start_exit, open_step_exit, open_drain_exit};
 
 use crate::call::{drain, step};
-use iset::lookup::Started;
 use iset::{Cursor, Interval, Map, Query};
-use iset_c::answer::put_cursor;
-use iset_c::range::{are_kinds, range};
+use iset_c::answer::answered;
+use iset_c::range::known_range;
 use iset_c::{BAD_BOUND, SHORT_ANSWER};
 
 // The fresh cursor of an exact lookup. Answer: slot, levels, bits.
@@ -32,19 +31,16 @@ pub fn open_fresh_exact_in(
     if answer.len() < 3 {
         return SHORT_ANSWER;
     }
-    match (Map {
+    let map = Map {
         count,
         root,
         version: 0,
-    })
-    .open_fresh_exact_in(nodes, narrow, colours, Interval { start, end })
-    {
-        Started::Refused(why) => why.number(),
-        Started::Done(c) => {
-            put_cursor(c, answer);
-            0
-        }
-    }
+    };
+    let exact = Interval { start, end };
+    answered(
+        map.open_fresh_exact_in(nodes, narrow, colours, exact),
+        answer,
+    )
 }
 
 // Finds the next entry that intersects a range. Answer: its slot, or U at the end; the next
@@ -70,23 +66,22 @@ pub fn open_step_in(
     if answer.len() < 5 {
         return SHORT_ANSWER;
     }
-    if are_kinds(lo_kind, hi_kind) {
-        step(
-            Map {
-                count,
-                root,
-                version: 0,
-            },
-            nodes,
-            narrow,
-            colours,
-            range(lo_kind, lo, hi_kind, hi),
-            Cursor { slot, levels, bits },
-            answer,
-        )
-    } else {
-        BAD_BOUND
-    }
+    let Some(query) = known_range(lo_kind, lo, hi_kind, hi) else {
+        return BAD_BOUND;
+    };
+    step(
+        Map {
+            count,
+            root,
+            version: 0,
+        },
+        nodes,
+        narrow,
+        colours,
+        query,
+        Cursor { slot, levels, bits },
+        answer,
+    )
 }
 
 // Finds the next entry that is equal to an interval. Answer: as for iset_open_step.
@@ -150,18 +145,16 @@ pub fn open_drain_in(
     if answer.len() < 5 {
         return SHORT_ANSWER;
     }
-    if are_kinds(lo_kind, hi_kind) {
-        let map = Map {
-            count,
-            root,
-            version: 0,
-        };
-        let query = range(lo_kind, lo, hi_kind, hi);
-        let from = Cursor { slot, levels, bits };
-        drain(map, nodes, narrow, colours, query, from, limit, out, answer)
-    } else {
-        BAD_BOUND
-    }
+    let Some(query) = known_range(lo_kind, lo, hi_kind, hi) else {
+        return BAD_BOUND;
+    };
+    let map = Map {
+        count,
+        root,
+        version: 0,
+    };
+    let from = Cursor { slot, levels, bits };
+    drain(map, nodes, narrow, colours, query, from, limit, out, answer)
 }
 
 // The drain of an exact lookup. Answer: as for iset_open_drain.

@@ -6,9 +6,8 @@ ghost use Rattle.iset_c.specs.Replies.{exit};
 ghost use Rattle.iset_c_open.specs.Replies.{open_write_image_exit};
 
 use iset::Map;
-use iset::save::Written;
 use iset_c::SHORT_ANSWER;
-use iset_c::answer::put_length;
+use iset_c::answer::answered;
 
 // Writes a map as an image to the front of the output. Answer: how many bytes the image has.
 pub fn open_write_image_in(
@@ -31,11 +30,5 @@ pub fn open_write_image_in(
         root,
         version: 0,
     };
-    match map.open_write_image_in(nodes, narrow, colours, out) {
-        Written::Refused(why) => why.number(),
-        Written::Done(length) => {
-            put_length(length, answer);
-            0
-        }
-    }
+    answered(map.open_write_image_in(nodes, narrow, colours, out), answer)
 }

@@ -8,8 +8,8 @@ ghost use Rattle.iset_c.specs.Ranges.{range_of, exact_of, kinds};
 ghost use Rattle.iset_c_open.specs.Replies.{open_plain_exit};
 
 use iset::{Interval, Map, Query};
-use iset_c::answer::put_looked;
-use iset_c::range::{are_kinds, range};
+use iset_c::answer::answered;
+use iset_c::range::known_range;
 use iset_c::{BAD_BOUND, SHORT_ANSWER};
 
 // Writes the slots of all entries that intersect a range. Answer: how many slots were written, how
@@ -33,20 +33,18 @@ pub fn open_plain_in(
     if answer.len() < 2 {
         return SHORT_ANSWER;
     }
-    if are_kinds(lo_kind, hi_kind) {
-        let map = Map {
-            count,
-            root,
-            version: 0,
-        };
-        let query = range(lo_kind, lo, hi_kind, hi);
-        put_looked(
-            map.open_plain_in(nodes, narrow, colours, query, out),
-            answer,
-        )
-    } else {
-        BAD_BOUND
-    }
+    let Some(query) = known_range(lo_kind, lo, hi_kind, hi) else {
+        return BAD_BOUND;
+    };
+    let map = Map {
+        count,
+        root,
+        version: 0,
+    };
+    answered(
+        map.open_plain_in(nodes, narrow, colours, query, out),
+        answer,
+    )
 }
 
 // Writes the slots of all entries that are equal to an interval. Answer: as for iset_open_plain.
@@ -72,9 +70,9 @@ pub fn open_plain_exact_in(
         root,
         version: 0,
     };
-    let query = Query::Exact(Interval { start, end });
-    put_looked(
-        map.open_plain_in(nodes, narrow, colours, query, out),
+    let exact = Query::Exact(Interval { start, end });
+    answered(
+        map.open_plain_in(nodes, narrow, colours, exact, out),
         answer,
     )
 }

@@ -6,9 +6,9 @@ ghost use Rattle.iset_c.specs.Replies.{exit, ticket_at_lem};
 ghost use Rattle.iset_c_open.specs.Replies.{open_read_exit};
 
 use iset::Map;
-use iset::ticket::{Reading, Ticket};
+use iset::ticket::Ticket;
 use iset_c::SHORT_ANSWER;
-use iset_c::answer::put_entry;
+use iset_c::answer::answered;
 
 // Reads the entry of a slot, if the map has not changed since version `taken`. Answer: start, end,
 // value.
@@ -38,11 +38,5 @@ pub fn open_read_in(
         slot,
         version: taken,
     };
-    match map.open_read_in(nodes, narrow, colours, ticket) {
-        Reading::Refused(why) => why.number(),
-        Reading::Done(e) => {
-            put_entry(e, answer);
-            0
-        }
-    }
+    answered(map.open_read_in(nodes, narrow, colours, ticket), answer)
 }

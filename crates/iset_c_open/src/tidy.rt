@@ -7,10 +7,9 @@ ghost use Rattle.iset.specs.Tidy.{open_propose_call};
 ghost use Rattle.iset_c.specs.Replies.{exit};
 ghost use Rattle.iset_c_open.specs.Replies.{open_renumber_exit};
 
-use iset::Map;
-use iset::tidy::Renumbering;
+use iset::{Map, number_of};
 use iset_c::SHORT_ANSWER;
-use iset_c::answer::put_map;
+use iset_c::answer::answered;
 
 // Proposes a plan that numbers the slots in tree order: writes the place of each slot. It returns
 // its number and writes no answer.
@@ -29,7 +28,7 @@ pub fn open_propose_in(
         root,
         version: 0,
     };
-    map.open_propose_in(nodes, narrow, colours, out).number()
+    number_of(map.open_propose_in(nodes, narrow, colours, out))
 }
 
 // Moves each node to the slot that a plan gives it. Answer: count, root, version. The test of the
@@ -55,11 +54,5 @@ pub fn open_renumber_in(
         root,
         version,
     };
-    match map.open_renumber_in(nodes, narrow, colours, plan) {
-        Renumbering::Refused(why) => why.number(),
-        Renumbering::Done(m) => {
-            put_map(m, answer);
-            0
-        }
-    }
+    answered(map.open_renumber_in(nodes, narrow, colours, plan), answer)
 }

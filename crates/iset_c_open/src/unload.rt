@@ -8,7 +8,7 @@ ghost use Rattle.iset_c_open.specs.Replies.{open_unload_exit};
 
 use crate::call::unload;
 use iset::Map;
-use iset_c::range::{are_kinds, span};
+use iset_c::range::known_span;
 use iset_c::{BAD_BOUND, SHORT_ANSWER};
 
 // Removes every entry that intersects a range, always the first one in tree order. Answer: count,
@@ -32,15 +32,13 @@ pub fn open_unload_in(
     if answer.len() < 4 {
         return SHORT_ANSWER;
     }
-    if are_kinds(lo_kind, hi_kind) {
-        let map = Map {
-            count,
-            root,
-            version,
-        };
-        let range = span(lo_kind, lo, hi_kind, hi);
-        unload(map, nodes, narrow, colours, 1, range, answer)
-    } else {
-        BAD_BOUND
-    }
+    let Some(range) = known_span(lo_kind, lo, hi_kind, hi) else {
+        return BAD_BOUND;
+    };
+    let map = Map {
+        count,
+        root,
+        version,
+    };
+    unload(map, nodes, narrow, colours, 1, range, answer)
 }

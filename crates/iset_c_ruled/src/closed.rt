@@ -8,9 +8,9 @@ ghost use Rattle.iset_c_ruled.specs.Ranges.{ruled_of};
 
 use crate::ruled;
 use iset::{Cursor, Map};
-use iset_c::answer::put_looked;
+use iset_c::answer::answered;
 use iset_c::call::{drain, step, unload};
-use iset_c::range::{are_kinds, span};
+use iset_c::range::known_span;
 use iset_c::{BAD_BOUND, SHORT_ANSWER};
 
 // Finds the next entry that intersects a range by a rule. Answer: as for iset_step.
@@ -36,18 +36,16 @@ pub fn step_ruled_in(
     if answer.len() < 5 {
         return SHORT_ANSWER;
     }
-    if are_kinds(lo_kind, hi_kind) {
-        let map = Map {
-            count,
-            root,
-            version: 0,
-        };
-        let query = ruled(rule, lo_kind, lo, hi_kind, hi);
-        let cursor = Cursor { slot, levels, bits };
-        step(map, nodes, narrow, colours, query, cursor, answer)
-    } else {
-        BAD_BOUND
-    }
+    let Some(query) = ruled(rule, lo_kind, lo, hi_kind, hi) else {
+        return BAD_BOUND;
+    };
+    let map = Map {
+        count,
+        root,
+        version: 0,
+    };
+    let cursor = Cursor { slot, levels, bits };
+    step(map, nodes, narrow, colours, query, cursor, answer)
 }
 
 // Steps from a cursor until the end or the limit, by a rule. Answer: as for iset_drain.
@@ -75,18 +73,16 @@ pub fn drain_ruled_in(
     if answer.len() < 5 {
         return SHORT_ANSWER;
     }
-    if are_kinds(lo_kind, hi_kind) {
-        let map = Map {
-            count,
-            root,
-            version: 0,
-        };
-        let query = ruled(rule, lo_kind, lo, hi_kind, hi);
-        let from = Cursor { slot, levels, bits };
-        drain(map, nodes, narrow, colours, query, from, limit, out, answer)
-    } else {
-        BAD_BOUND
-    }
+    let Some(query) = ruled(rule, lo_kind, lo, hi_kind, hi) else {
+        return BAD_BOUND;
+    };
+    let map = Map {
+        count,
+        root,
+        version: 0,
+    };
+    let from = Cursor { slot, levels, bits };
+    drain(map, nodes, narrow, colours, query, from, limit, out, answer)
 }
 
 // Writes the slots of all entries that intersect a range by a rule. Answer: as for iset_plain.
@@ -110,17 +106,15 @@ pub fn plain_ruled_in(
     if answer.len() < 2 {
         return SHORT_ANSWER;
     }
-    if are_kinds(lo_kind, hi_kind) {
-        let map = Map {
-            count,
-            root,
-            version: 0,
-        };
-        let query = ruled(rule, lo_kind, lo, hi_kind, hi);
-        put_looked(map.plain_in(nodes, narrow, colours, query, out), answer)
-    } else {
-        BAD_BOUND
-    }
+    let Some(query) = ruled(rule, lo_kind, lo, hi_kind, hi) else {
+        return BAD_BOUND;
+    };
+    let map = Map {
+        count,
+        root,
+        version: 0,
+    };
+    answered(map.plain_in(nodes, narrow, colours, query, out), answer)
 }
 
 // The fast lookup by a rule. Answer: as for iset_find_all.
@@ -144,17 +138,15 @@ pub fn find_all_ruled_in(
     if answer.len() < 2 {
         return SHORT_ANSWER;
     }
-    if are_kinds(lo_kind, hi_kind) {
-        let map = Map {
-            count,
-            root,
-            version: 0,
-        };
-        let query = ruled(rule, lo_kind, lo, hi_kind, hi);
-        put_looked(map.find_all_in(nodes, narrow, colours, query, out), answer)
-    } else {
-        BAD_BOUND
-    }
+    let Some(query) = ruled(rule, lo_kind, lo, hi_kind, hi) else {
+        return BAD_BOUND;
+    };
+    let map = Map {
+        count,
+        root,
+        version: 0,
+    };
+    answered(map.find_all_in(nodes, narrow, colours, query, out), answer)
 }
 
 // Removes every entry that intersects a range by a rule. Answer: as for iset_unload.
@@ -178,15 +170,13 @@ pub fn unload_ruled_in(
     if answer.len() < 4 {
         return SHORT_ANSWER;
     }
-    if are_kinds(lo_kind, hi_kind) {
-        let map = Map {
-            count,
-            root,
-            version,
-        };
-        let range = span(lo_kind, lo, hi_kind, hi);
-        unload(map, nodes, narrow, colours, rule, range, answer)
-    } else {
-        BAD_BOUND
-    }
+    let Some(range) = known_span(lo_kind, lo, hi_kind, hi) else {
+        return BAD_BOUND;
+    };
+    let map = Map {
+        count,
+        root,
+        version,
+    };
+    unload(map, nodes, narrow, colours, rule, range, answer)
 }

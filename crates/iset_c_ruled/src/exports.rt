@@ -1,5 +1,7 @@
 // The exports that are lent nodes of eight words. Each is the call of either layout, whose name
 // ends in `_in`, with `narrow` false.
+#![tactic(auto, unfolding(words::specs::Layouts::as_eight))]
+
 ghost use Rattle.std.specs.Prelude.{◌≡◌, [], ◌∷◌};
 ghost use Rattle.iset.specs.Maps.{map_at, map_of};
 ghost use Rattle.iset_c.specs.Replies.{cursor_of, drain_exit, exit, find_all_exit, plain_exit, step_exit, unload_exit};

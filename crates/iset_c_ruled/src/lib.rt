@@ -6,21 +6,23 @@
 //
 // The exports are in exports.rt. A function whose name ends in `_in` does the work of an export for
 // nodes of either layout: `narrow` says that a node has six words and not eight.
-#![tactic(auto)]
+#![tactic(auto, using(iset_c::proofs::Laws::short_exit, iset_c::proofs::Laws::unbounded_exit))]
 
 pub mod closed;
 pub mod exports;
 pub mod opened;
 
-ghost use Rattle.std.specs.Prelude.{◌≡◌};
+ghost use Rattle.std.specs.Prelude.{◌≡◌, cond, Some, None};
+ghost use Rattle.iset_c.specs.Ranges.{kinds};
 ghost use Rattle.iset_c_ruled.specs.Ranges.{ruled_of};
 
 use iset::Query;
-use iset_c::range::span;
+use iset_c::range::known_span;
 
-// A range from the kinds and the values of its two bounds, with the number of a rule.
-fn ruled(rule: u64, lo_kind: u64, lo: u64, hi_kind: u64, hi: u64) -> Query
-    ensures { result ≡ ruled_of rule lo_kind lo hi_kind hi }
+// A range from the kinds and the values of its two bounds, with the number of a rule. There is none
+// if one of the two is no kind.
+fn ruled(rule: u64, lo_kind: u64, lo: u64, hi_kind: u64, hi: u64) -> Option<Query>
+    ensures { result ≡ cond (kinds lo_kind hi_kind) (Some (ruled_of rule lo_kind lo hi_kind hi)) None }
 {
-    Query::Ruled(rule, span(lo_kind, lo, hi_kind, hi))
+    Some(Query::Ruled(rule, known_span(lo_kind, lo, hi_kind, hi)?))
 }

@@ -10,8 +10,8 @@ ghost use Rattle.iset_c_ruled.specs.Ranges.{ruled_of};
 
 use crate::ruled;
 use iset::{Cursor, Map};
-use iset_c::answer::put_looked;
-use iset_c::range::{are_kinds, span};
+use iset_c::answer::answered;
+use iset_c::range::known_span;
 use iset_c::{BAD_BOUND, SHORT_ANSWER};
 use iset_c_open::call::{drain, step, unload};
 
@@ -38,18 +38,16 @@ pub fn open_step_ruled_in(
     if answer.len() < 5 {
         return SHORT_ANSWER;
     }
-    if are_kinds(lo_kind, hi_kind) {
-        let map = Map {
-            count,
-            root,
-            version: 0,
-        };
-        let query = ruled(rule, lo_kind, lo, hi_kind, hi);
-        let cursor = Cursor { slot, levels, bits };
-        step(map, nodes, narrow, colours, query, cursor, answer)
-    } else {
-        BAD_BOUND
-    }
+    let Some(query) = ruled(rule, lo_kind, lo, hi_kind, hi) else {
+        return BAD_BOUND;
+    };
+    let map = Map {
+        count,
+        root,
+        version: 0,
+    };
+    let cursor = Cursor { slot, levels, bits };
+    step(map, nodes, narrow, colours, query, cursor, answer)
 }
 
 // Steps from a cursor until the end or the limit, by a rule. Answer: as for iset_open_drain.
@@ -77,18 +75,16 @@ pub fn open_drain_ruled_in(
     if answer.len() < 5 {
         return SHORT_ANSWER;
     }
-    if are_kinds(lo_kind, hi_kind) {
-        let map = Map {
-            count,
-            root,
-            version: 0,
-        };
-        let query = ruled(rule, lo_kind, lo, hi_kind, hi);
-        let from = Cursor { slot, levels, bits };
-        drain(map, nodes, narrow, colours, query, from, limit, out, answer)
-    } else {
-        BAD_BOUND
-    }
+    let Some(query) = ruled(rule, lo_kind, lo, hi_kind, hi) else {
+        return BAD_BOUND;
+    };
+    let map = Map {
+        count,
+        root,
+        version: 0,
+    };
+    let from = Cursor { slot, levels, bits };
+    drain(map, nodes, narrow, colours, query, from, limit, out, answer)
 }
 
 // Writes the slots of all entries that intersect a range by a rule. Answer: as for iset_open_plain.
@@ -112,20 +108,18 @@ pub fn open_plain_ruled_in(
     if answer.len() < 2 {
         return SHORT_ANSWER;
     }
-    if are_kinds(lo_kind, hi_kind) {
-        let map = Map {
-            count,
-            root,
-            version: 0,
-        };
-        let query = ruled(rule, lo_kind, lo, hi_kind, hi);
-        put_looked(
-            map.open_plain_in(nodes, narrow, colours, query, out),
-            answer,
-        )
-    } else {
-        BAD_BOUND
-    }
+    let Some(query) = ruled(rule, lo_kind, lo, hi_kind, hi) else {
+        return BAD_BOUND;
+    };
+    let map = Map {
+        count,
+        root,
+        version: 0,
+    };
+    answered(
+        map.open_plain_in(nodes, narrow, colours, query, out),
+        answer,
+    )
 }
 
 // The fast lookup by a rule. Answer: as for iset_open_find_all.
@@ -149,20 +143,18 @@ pub fn open_find_all_ruled_in(
     if answer.len() < 2 {
         return SHORT_ANSWER;
     }
-    if are_kinds(lo_kind, hi_kind) {
-        let map = Map {
-            count,
-            root,
-            version: 0,
-        };
-        let query = ruled(rule, lo_kind, lo, hi_kind, hi);
-        put_looked(
-            map.open_find_all_in(nodes, narrow, colours, query, out),
-            answer,
-        )
-    } else {
-        BAD_BOUND
-    }
+    let Some(query) = ruled(rule, lo_kind, lo, hi_kind, hi) else {
+        return BAD_BOUND;
+    };
+    let map = Map {
+        count,
+        root,
+        version: 0,
+    };
+    answered(
+        map.open_find_all_in(nodes, narrow, colours, query, out),
+        answer,
+    )
 }
 
 // Removes every entry that intersects a range by a rule. Answer: as for iset_open_unload.
@@ -186,15 +178,13 @@ pub fn open_unload_ruled_in(
     if answer.len() < 4 {
         return SHORT_ANSWER;
     }
-    if are_kinds(lo_kind, hi_kind) {
-        let map = Map {
-            count,
-            root,
-            version,
-        };
-        let range = span(lo_kind, lo, hi_kind, hi);
-        unload(map, nodes, narrow, colours, rule, range, answer)
-    } else {
-        BAD_BOUND
-    }
+    let Some(range) = known_span(lo_kind, lo, hi_kind, hi) else {
+        return BAD_BOUND;
+    };
+    let map = Map {
+        count,
+        root,
+        version,
+    };
+    unload(map, nodes, narrow, colours, rule, range, answer)
 }

@@ -1,4 +1,3 @@
-use borrow.Author.Rules.{rules}
 use Rattle.iset_c.proofs.check_in.Goals as goal
 
 pub returns : goal.returns

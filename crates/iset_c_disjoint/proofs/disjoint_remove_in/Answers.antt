@@ -1,15 +1,9 @@
-use Rattle.words.proofs.Refusals.{number_pos}
+use mathlib.Core.Path.{refl}
 use Rattle.iset.specs.Remove.{remove_answer}
-use Rattle.iset_c.specs.Replies.{remove_reply}
-use Rattle.iset_c.proofs.Laws.{short_exit, refused_effect, done_effect}
-use borrow.Author.Rules.{rules}
+use Rattle.iset.specs.declared.remove.Removed.{Removed}
+use Rattle.iset_c.specs.Replies.{remove_reply, removed_numbers}
+use Rattle.iset_c.proofs.Laws.{told_effect}
 use Rattle.iset_c_disjoint.proofs.disjoint_remove_in.Goals as goal
 
-pub returns-then-answer-lt11 : goal.returns-then-answer-lt11
-returns-then-answer-lt11 c = search short_exit
-
-pub returns-in-Refused : goal.returns-in-Refused
-returns-in-Refused c = search (refused_effect remove_answer remove_reply, number_pos)
-
-pub returns-in-Done : goal.returns-in-Done
-returns-in-Done c = search (done_effect remove_answer remove_reply)
+pub returns : goal.returns
+returns c = search (told_effect remove_answer remove_reply (λ (g : Removed). removed_numbers g.value g.map g.pairs g.reach) (λ g x. refl) (λ g y. refl))

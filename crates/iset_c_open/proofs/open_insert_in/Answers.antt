@@ -1,15 +1,9 @@
-use Rattle.words.proofs.Refusals.{number_pos}
+use mathlib.Core.Path.{refl}
 use Rattle.iset.specs.Insert.{insert_answer}
-use Rattle.iset_c.specs.Replies.{insert_reply}
-use Rattle.iset_c.proofs.Laws.{short_exit, refused_effect, done_effect}
-use borrow.Author.Rules.{rules}
+use Rattle.iset.specs.declared.insert.Inserted.{Inserted}
+use Rattle.iset_c.specs.Replies.{insert_reply, inserted_numbers}
+use Rattle.iset_c.proofs.Laws.{told_effect}
 use Rattle.iset_c_open.proofs.open_insert_in.Goals as goal
 
-pub returns-then-answer-lt5 : goal.returns-then-answer-lt5
-returns-then-answer-lt5 c = search short_exit
-
-pub returns-in-Refused : goal.returns-in-Refused
-returns-in-Refused c = search (refused_effect insert_answer insert_reply, number_pos)
-
-pub returns-in-Done : goal.returns-in-Done
-returns-in-Done c = search (done_effect insert_answer insert_reply)
+pub returns : goal.returns
+returns c = search (told_effect insert_answer insert_reply (λ (a : Inserted). inserted_numbers a.map a.slot a.reach) (λ g x. refl) (λ g y. refl))

@@ -1,12 +1,8 @@
-use Rattle.words.proofs.Refusals.{number_pos}
+use mathlib.Core.Path.{refl}
 use Rattle.iset.specs.Lookup.{step_answer}
-use Rattle.iset_c.specs.Replies.{step_reply}
-use Rattle.iset_c.proofs.Laws.{refused_answer, done_answer}
-use borrow.Author.Rules.{rules}
+use Rattle.iset_c.specs.Replies.{step_reply, found_numbers}
+use Rattle.iset_c.proofs.Laws.{told_answer}
 use Rattle.iset_c.proofs.call.step.Goals as goal
 
-pub returns-in-Refused : goal.returns-in-Refused
-returns-in-Refused c = search (refused_answer step_answer step_reply, number_pos)
-
-pub returns-in-Done : goal.returns-in-Done
-returns-in-Done c = search (done_answer step_answer step_reply)
+pub returns : goal.returns
+returns c = search (told_answer step_answer step_reply found_numbers (λ g x. refl) (λ g y. refl))

@@ -1,15 +1,8 @@
-use Rattle.words.proofs.Refusals.{number_pos}
+use mathlib.Core.Path.{refl}
 use Rattle.iset.specs.Build.{build_answer}
-use Rattle.iset_c.specs.Replies.{build_reply}
-use Rattle.iset_c.proofs.Laws.{short_exit, refused_effect, done_effect}
-use borrow.Author.Rules.{rules}
+use Rattle.iset_c.specs.Replies.{build_reply, map_numbers}
+use Rattle.iset_c.proofs.Laws.{told_effect}
 use Rattle.iset_c.proofs.save.read_image_in.Goals as goal
 
-pub returns-then-answer-lt3 : goal.returns-then-answer-lt3
-returns-then-answer-lt3 c = search short_exit
-
-pub returns-in-Refused : goal.returns-in-Refused
-returns-in-Refused c = search (refused_effect build_answer build_reply, number_pos)
-
-pub returns-in-Done : goal.returns-in-Done
-returns-in-Done c = search (done_effect build_answer build_reply)
+pub returns : goal.returns
+returns c = search (told_effect build_answer build_reply map_numbers (λ g x. refl) (λ g y. refl))

@@ -1,12 +1,9 @@
-use Rattle.words.proofs.Refusals.{number_pos}
+use mathlib.Core.Path.{refl}
 use Rattle.iset.specs.Lookup.{drain_answer}
-use Rattle.iset_c.specs.Replies.{drain_reply}
-use Rattle.iset_c.proofs.Laws.{refused_output, done_output}
-use borrow.Author.Rules.{rules}
+use Rattle.iter.specs.declared.drain.Drained.{Drained}
+use Rattle.iset_c.specs.Replies.{drain_reply, drain_numbers}
+use Rattle.iset_c.proofs.Laws.{told_output}
 use Rattle.iset_c_open.proofs.call.drain.Goals as goal
 
-pub returns-in-Refused : goal.returns-in-Refused
-returns-in-Refused c = search (refused_output drain_answer drain_reply, number_pos)
-
-pub returns-in-Done : goal.returns-in-Done
-returns-in-Done c = search (done_output drain_answer drain_reply)
+pub returns : goal.returns
+returns c = search (told_output drain_answer drain_reply (λ (d : Drained). drain_numbers d.hits d.entered d.next) (λ g x. refl) (λ g y. refl))

@@ -1,5 +1,4 @@
 use Rattle.iset_c.proofs.Laws.{number_told}
-use borrow.Author.Rules.{rules}
 use Rattle.iset_c_open.proofs.tidy.open_propose_in.Goals as goal
 
 pub returns : goal.returns

@@ -1,6 +1,5 @@
 use Rattle.iset_c.proofs.Laws.{hit_put, end_put}
-use borrow.Author.Rules.{rules}
-use Rattle.iset_c.proofs.answer.put_step.Goals as goal
+use Rattle.iset_c.proofs.answer.StepReturned.put.Goals as goal
 
 pub returns-in-Hit : goal.returns-in-Hit
 returns-in-Hit c = search hit_put

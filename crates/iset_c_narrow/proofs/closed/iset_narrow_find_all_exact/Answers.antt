@@ -1,7 +1,0 @@
-use Rattle.words.specs.Layouts.{as_eight}
-use borrow.Author.Rules.{rules}
-use Rattle.iset_c_narrow.proofs.closed.iset_narrow_find_all_exact.Goals as goal
-
-pub returns : goal.returns
-unfolding as_eight
-returns c = search rules
