@@ -1,138 +1,99 @@
-// The answers: their numbers, what a request changed, and the answer to an invalid line.
-ghost use Rattle.std.specs.Prelude.{◌≤◌};
-
-use crate::arena;
-use crate::state::State;
+// The output, and what the answers have in common: their numbers, and what a request changed.
 use lines::output;
 use lines::streams::Streams;
 
-// The answer to an invalid line. Nothing changes.
-pub(crate) fn what(streams: &Streams, s: State, out: &mut [u8]) -> State {
-    let to = output::put_text(streams, out, s.to, b"what\n");
-    let left = s.left;
-    s.after(left, to)
+// The output's buffer, and the place of the next byte in it.
+#[derive(Drop)]
+pub struct Output<'a> {
+    streams: &'a Streams,
+    buffer: [u8; 65536],
+    at: usize,
 }
 
-// How a bool is printed.
-pub(crate) fn bit_number(v: bool) -> u64 {
-    if v { 1 } else { 0 }
-}
-
-// Prints n numbers of a list, from `base` on.
-pub(crate) fn put_part(
-    streams: &Streams,
-    list: &[u64],
-    base: usize,
-    n: usize,
-    out: &mut [u8],
-    to: usize,
-) -> usize {
-    let mut at = to;
-    let mut i = 0;
-    while i < n {
-        at = output::put_next(streams, out, at, arena::word(list, base, i));
-        i += 1;
-    }
-    at
-}
-
-// Prints a LIST: how many numbers there are, then each of them.
-pub(crate) fn put_list(
-    streams: &Streams,
-    list: &[u64],
-    base: usize,
-    n: usize,
-    out: &mut [u8],
-    to: usize,
-) -> usize {
-    let first = output::put_next(streams, out, to, n as u64);
-    put_part(streams, list, base, n, out, first)
-}
-
-// The numbers that an answer begins with: the refusal's, 0 if there is none, and the first n of the
-// others.
-pub(crate) fn put_numbers(
-    streams: &Streams,
-    no: u64,
-    others: &[u64],
-    n: usize,
-    out: &mut [u8],
-    to: usize,
-) -> usize {
-    let first = output::put_number(streams, out, to, no);
-    put_part(streams, others, 0, n, out, first)
-}
-
-// An answer that has only its numbers. Such a request leaves nothing for `commit`, which takes what
-// an earlier request left.
-pub(crate) fn line(
-    streams: &Streams,
-    s: State,
-    no: u64,
-    others: &[u64],
-    n: usize,
-    out: &mut [u8],
-) -> State {
-    let to = put_numbers(streams, no, others, n, out, s.to);
-    let left = s.left;
-    s.after(left, output::put_byte(streams, out, to, b'\n'))
-}
-
-// The sign that is printed before what a request changed.
-pub(crate) fn put_sign(streams: &Streams, out: &mut [u8], to: usize) -> usize {
-    output::put_text(streams, out, to, b" @")
-}
-
-// 1 if the two differ, else 0.
-fn differ(a: u64, b: u64) -> u64
-    ensures { result ≤ 1 }
-{
-    if a == b { 0 } else { 1 }
-}
-
-// Prints place i and its new content, if that differs from the old one.
-fn put_change(streams: &Streams, out: &mut [u8], to: usize, i: usize, old: u64, new: u64) -> usize {
-    if old == new {
-        to
-    } else {
-        let next = output::put_next(streams, out, to, i as u64);
-        output::put_next(streams, out, next, new)
-    }
-}
-
-// How many of n words differ between two parts.
-fn count_words(words: &[u64], old: usize, new: usize, n: usize) -> u64 {
-    let mut k: u64 = 0;
-    let mut i = 0;
-    while i < n {
-        k += differ(arena::word(words, old, i), arena::word(words, new, i));
-        i += 1;
-    }
-    k
-}
-
-// Prints what differs in n words of two parts: how many places differ, then each of them.
-pub(crate) fn put_words(
-    streams: &Streams,
-    words: &[u64],
-    old: usize,
-    new: usize,
-    n: usize,
-    out: &mut [u8],
-    to: usize,
-) -> usize {
-    let mut at = output::put_next(streams, out, to, count_words(words, old, new, n));
-    let mut i = 0;
-    while i < n {
-        at = put_change(
+impl<'a> Output<'a> {
+    pub(crate) fn new(streams: &'a Streams) -> Output<'a> {
+        Output {
             streams,
-            out,
-            at,
-            i,
-            arena::word(words, old, i),
-            arena::word(words, new, i),
-        );
-        i += 1;
+            buffer: io::large_buffer(),
+            at: 0,
+        }
     }
-    at
+}
+
+impl Output<'_> {
+    // Writes out what is in the buffer, and returns whether that succeeded.
+    pub(crate) fn send(&mut self) -> bool {
+        let streams = self.streams;
+        let end = self.at.min(self.buffer.len());
+        self.at = 0;
+        let text = &self.buffer[..];
+        streams.write(&text[..end])
+    }
+
+    fn text(&mut self, text: &[u8]) {
+        let at = self.at;
+        self.at = output::put_text(self.streams, &mut self.buffer, at, text);
+    }
+
+    // The answer to an invalid line. Nothing changes.
+    pub(crate) fn what(&mut self) {
+        self.text(b"what\n");
+    }
+
+    // Prints a number after a space.
+    fn next(&mut self, x: u64) {
+        let at = self.at;
+        self.at = output::put_next(self.streams, &mut self.buffer, at, x);
+    }
+
+    // The numbers that an answer begins with. The first is the refusal's, 0 if there is none.
+    pub(crate) fn numbers(&mut self, no: u64, others: &[u64]) {
+        let at = self.at;
+        self.at = output::put_number(self.streams, &mut self.buffer, at, no);
+        for x in others {
+            self.next(*x);
+        }
+    }
+
+    // Prints a LIST: how many numbers there are, then each of them.
+    pub(crate) fn list<T: Copy + Into<u64>>(&mut self, list: &[T]) {
+        self.next(list.len() as u64);
+        for x in list {
+            self.next((*x).into());
+        }
+    }
+
+    // An answer that has only its numbers.
+    pub(crate) fn line(&mut self, no: u64, others: &[u64]) {
+        self.numbers(no, others);
+        self.end();
+    }
+
+    pub(crate) fn end(&mut self) {
+        self.text(b"\n");
+    }
+
+    // The sign that is printed before what a request changed.
+    pub(crate) fn sign(&mut self) {
+        self.text(b" @");
+    }
+
+    // Prints what differs in the first n places of two lists: how many places differ, then each of
+    // them and its new content.
+    pub(crate) fn changes<T: Copy + PartialEq + Into<u64>>(
+        &mut self,
+        old: &[T],
+        new: &[T],
+        n: usize,
+    ) {
+        let pairs = old.iter().zip(new).take(n);
+        let count = pairs.filter(|(x, y)| x != y).count();
+        self.next(count as u64);
+        for (i, (x, y)) in old.iter().zip(new).take(n).enumerate() {
+            if x != y {
+                self.next(i as u64);
+                self.next((*y).into());
+            }
+        }
+    }
 }

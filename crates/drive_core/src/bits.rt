@@ -1,154 +1,88 @@
 // The bit calls, on the bytes that `bytes` gave.
-use crate::arena::{BYTES, NEW_BYTES};
-use crate::state::{Left, State};
-use crate::{answer, arena, given};
-use bitvec::{Answer, BitVec};
-use lines::output;
-use lines::streams::Streams;
-use words::numbers::least;
+use crate::room::{copy_front, front};
+use crate::session::{Left, Session};
+use bitvec::BitVec;
+use iset::Refusal;
 
 #[derive(Clone, Copy)]
-pub enum Call {
-    Get,
-    Set,
-    Push,
+pub enum Verb {
+    Get(usize),
+    Set(usize, bool),
+    Push(bool),
     Pop,
-    SwapRemove,
-    FromElem,
+    SwapRemove(usize),
+    FromElem(bool),
 }
 
-// The calls in the order of their names (crate::call).
-pub(crate) fn call_at(place: usize) -> Call {
-    match place {
-        0 => Call::Get,
-        1 => Call::Set,
-        2 => Call::Push,
-        3 => Call::Pop,
-        4 => Call::SwapRemove,
-        _ => Call::FromElem,
-    }
-}
-
-// A call's length, and its place and its bit if it has them.
+// A call, and the length that it is made with.
 #[derive(Clone, Copy)]
-struct Given {
-    len: usize,
-    at: usize,
-    bit: bool,
-}
-
-// What is printed of an answer: the refusal's number, the bit and the length.
-#[derive(Clone, Copy)]
-struct Shown {
-    no: u64,
-    bit: bool,
+pub struct Call {
+    verb: Verb,
     len: usize,
 }
 
-// How many numbers the call has.
-fn count_of(call: Call) -> usize {
-    match call {
-        Call::Get => 2,
-        Call::Set => 3,
-        Call::Push => 2,
-        Call::Pop => 1,
-        Call::SwapRemove => 2,
-        Call::FromElem => 2,
+// The bit that a number is.
+fn bit_of(x: u64) -> Option<bool> {
+    match x {
+        0 => Some(false),
+        1 => Some(true),
+        _ => None,
     }
 }
 
-// Which number is the bit that the call writes, or 3 if it writes no bit: no call has a number 3.
-fn bit_place(call: Call) -> usize {
-    match call {
-        Call::Set => 2,
-        Call::Push => 1,
-        Call::FromElem => 1,
-        _ => 3,
-    }
+// The call with the name and the numbers. The first of them is the length, then come the place and
+// the bit if the call has them.
+pub(crate) fn named(name: &[u8], numbers: &[u64]) -> Option<Call> {
+    let [len, rest @ ..] = numbers else {
+        return None;
+    };
+    let verb = match (name, rest) {
+        (b"bget ", [i]) => Verb::Get(*i as usize),
+        (b"bset ", [i, v]) => Verb::Set(*i as usize, bit_of(*v)?),
+        (b"bpush ", [v]) => Verb::Push(bit_of(*v)?),
+        (b"bpop ", []) => Verb::Pop,
+        (b"bswap ", [i]) => Verb::SwapRemove(*i as usize),
+        (b"bfrom ", [v]) => Verb::FromElem(bit_of(*v)?),
+        _ => return None,
+    };
+    Some(Call {
+        verb,
+        len: *len as usize,
+    })
 }
 
-// Whether the numbers are those of the call.
-pub(crate) fn fits(call: Call, numbers: &[u64]) -> bool {
-    (numbers.len() == count_of(call)) & (given::number(numbers, bit_place(call)) < 2)
-}
-
-fn given_of(call: Call, numbers: &[u64]) -> Given {
-    Given {
-        len: given::place(numbers, 0),
-        at: given::place(numbers, 1),
-        bit: given::number(numbers, bit_place(call)) == 1,
-    }
-}
-
-// A refused call shows bit 0 and the length as given.
-fn shown_of(a: Answer, given: usize) -> Shown {
-    match a {
-        Answer::Done(bit, v) => Shown {
-            no: 0,
-            bit,
-            len: v.len,
-        },
-        Answer::Refused(why) => Shown {
-            no: why.number(),
-            bit: false,
-            len: given,
-        },
+fn done(call: Call, bytes: &mut [u8]) -> Result<(bool, BitVec), Refusal> {
+    let v = BitVec { len: call.len };
+    match call.verb {
+        Verb::Get(i) => v.get(bytes, i),
+        Verb::Set(i, bit) => v.set(bytes, i, bit),
+        Verb::Push(bit) => v.push(bytes, bit),
+        Verb::Pop => v.pop(bytes),
+        Verb::SwapRemove(i) => v.swap_remove(bytes, i),
+        Verb::FromElem(bit) => BitVec::from_elem(bytes, call.len, bit),
     }
 }
 
 // The length that a refused call shows: the given one, or 0 for `bfrom`.
-fn given_length(call: Call, len: usize) -> usize {
-    if let Call::FromElem = call { 0 } else { len }
-}
-
-fn done(call: Call, g: Given, bytes: &mut [u8]) -> Answer {
-    let v = BitVec { len: g.len };
-    match call {
-        Call::Get => v.get(bytes, g.at),
-        Call::Set => v.set(bytes, g.at, g.bit),
-        Call::Push => v.push(bytes, g.bit),
-        Call::Pop => v.pop(bytes),
-        Call::SwapRemove => v.swap_remove(bytes, g.at),
-        Call::FromElem => BitVec::from_elem(bytes, g.len, g.bit),
+fn refused_len(call: Call) -> usize {
+    match call.verb {
+        Verb::FromElem(_) => 0,
+        _ => call.len,
     }
 }
 
-// Makes the call on a copy. `bytes` has the room for it.
-fn on_copy(call: Call, g: Given, words: &mut [u64], bytes: &mut [u8]) -> Answer {
-    arena::load(words, BYTES, bytes);
-    let a = done(call, g, bytes);
-    arena::save(words, NEW_BYTES, bytes);
-    a
-}
-
-fn answered(call: Call, g: Given, words: &mut [u64], n: usize) -> Shown {
-    let mut bytes = arena::byte_space();
-    let there = least(n, 16384);
-    let a = on_copy(call, g, words, &mut bytes[..there]);
-    shown_of(a, given_length(call, g.len))
-}
-
-// Prints the line: the answer's numbers, then what differs in the bytes.
-fn line(streams: &Streams, s: State, a: Shown, words: &[u64], out: &mut [u8]) -> State {
-    let n = s.bytes;
-    let others = [answer::bit_number(a.bit), a.len as u64];
-    let numbers = answer::put_numbers(streams, a.no, &others, 2, out, s.to);
-    let sign = answer::put_sign(streams, out, numbers);
-    let changed = answer::put_words(streams, words, BYTES, NEW_BYTES, n, out, sign);
-    s.after(
-        Left::Bytes(n),
-        output::put_byte(streams, out, changed, b'\n'),
-    )
-}
-
-pub(crate) fn request(
-    streams: &Streams,
-    s: State,
-    call: Call,
-    numbers: &[u64],
-    words: &mut [u64],
-    out: &mut [u8],
-) -> State {
-    let a = answered(call, given_of(call, numbers), words, s.bytes);
-    line(streams, s, a, words, out)
+// Makes the call on a copy. Prints the bit and the length, then what differs in the bytes. A
+// refused call shows bit 0.
+pub(crate) fn request(s: &mut Session, call: Call) {
+    let n = s.count;
+    copy_front(&mut s.new_bytes, &s.bytes, n);
+    let (no, bit, len) = match done(call, front(&mut s.new_bytes, n)) {
+        Ok((bit, v)) => (0, bit, v.len),
+        Err(why) => (why.number(), false, refused_len(call)),
+    };
+    s.out.numbers(no, &[u64::from(bit), len as u64]);
+    s.out.sign();
+    s.out.changes(&s.bytes, &s.new_bytes, n);
+    s.out.end();
+    s.left = Some(Left::Bytes(n));
 }

@@ -1,82 +1,30 @@
-// The numbers of a line, and whether a line fits a request.
-ghost use Rattle.std.specs.Prelude.{◌≤◌};
+// The lists among the numbers of a line. A LIST is its length, then that many numbers.
 
-// Number k of the line, or 0 if the line has none.
-pub(crate) fn number(numbers: &[u64], k: usize) -> u64 {
-    if k < numbers.len() { numbers[k] } else { 0 }
-}
-
-pub(crate) fn place(numbers: &[u64], k: usize) -> usize {
-    number(numbers, k) as usize
-}
-
-// Number k as the length of a list. A line has fewer than 65,536 numbers, so a larger length can
-// never match.
-pub(crate) fn size(numbers: &[u64], k: usize) -> usize
-    ensures { result ≤ 65536 }
-{
-    let n = number(numbers, k);
-    if n < 65536 { n as usize } else { 65536 }
-}
-
-// Whether number k is a version, which has 32 bits.
-pub(crate) fn is_version(numbers: &[u64], k: usize) -> bool {
-    number(numbers, k) < 4294967296
-}
-
-// Number k as a version.
-pub(crate) fn version(numbers: &[u64], k: usize) -> u32 {
-    let n = number(numbers, k);
-    if n < 4294967296 { n as u32 } else { 0 }
-}
-
-// Whether the numbers from place k on are all bytes.
-fn are_bytes(numbers: &[u64], k: usize) -> bool {
-    let mut i = k;
-    while i < numbers.len() {
-        if numbers[i] < 256 {
-            i += 1;
-        } else {
-            return false;
-        }
+// The LIST at the front of the numbers, and the numbers after it.
+pub(crate) fn split_list(numbers: &[u64]) -> Option<(&[u64], &[u64])> {
+    let (n, rest) = numbers.split_first()?;
+    let n = usize::try_from(*n).ok()?;
+    if n <= rest.len() {
+        Some(rest.split_at(n))
+    } else {
+        None
     }
-    true
 }
 
-// Whether the line has `end` numbers, and those from place k on are all bytes.
-pub(crate) fn ends_in_bytes(numbers: &[u64], k: usize, end: usize) -> bool {
-    (numbers.len() == end) & are_bytes(numbers, k)
-}
-
-// Compares one more byte of a name in the list of names. Returns how many bytes of `name` are
-// matched then, or usize::MAX if they differ.
-fn matched(name: &[u8], k: usize, b: u8) -> usize {
-    if k < name.len() {
-        if name[k] == b {
-            return k + 1;
-        }
+// The LIST that the numbers are, if it has at most so many.
+pub(crate) fn whole_list(numbers: &[u64], most: usize) -> Option<&[u64]> {
+    match split_list(numbers)? {
+        (list, []) if list.len() <= most => Some(list),
+        _ => None,
     }
-    usize::MAX
 }
 
-// Returns which of the names it is, or how many names there are if it is not one of them. Each of
-// `names` ends in a semicolon.
-pub(crate) fn which(name: &[u8], names: &[u8]) -> usize {
-    let mut n = 0;
-    let mut k = 0;
-    let mut i = 0;
-    while i < names.len() {
-        let b = names[i];
-        i += 1;
-        if b == b';' {
-            if k == name.len() {
-                return n;
-            }
-            n += 1;
-            k = 0;
-        } else {
-            k = matched(name, k, b);
-        }
-    }
-    n
+// The same if each of them is a byte.
+pub(crate) fn whole_bytes(numbers: &[u64], most: usize) -> Option<&[u64]> {
+    whole_list(numbers, most).filter(|list| list.iter().all(|x| *x < 256))
+}
+
+// The version that a number is: it has 32 bits.
+pub(crate) fn version(x: u64) -> Option<u32> {
+    u32::try_from(x).ok()
 }

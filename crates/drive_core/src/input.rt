@@ -1,147 +1,88 @@
 // Standard input, line by line.
-ghost use Rattle.std.specs.Prelude.{◌≡◌, length};
-
 use crate::call;
 use crate::call::Call;
+use io::large_buffer;
 use lines::input::Line;
 use lines::streams::Streams;
-use words::numbers::least;
+use std::io::Result;
 
 const LINE_END: u8 = 10;
 
-// What is in the buffer: the place of the next byte, and where the bytes end.
-#[derive(Clone, Copy)]
-pub struct Place {
-    pub at: usize,
-    pub end: usize,
-}
+// The longest name. A longer one makes the line invalid.
+const MOST_LETTERS: usize = 32;
 
-// A byte of the input, and where the next one is. At the end of the input, and if a read fails, the
-// byte is a line's end, and `last` is true.
-#[derive(Clone, Copy)]
-struct Byte {
-    byte: u8,
+// What was read: the place of the next byte in the buffer, where the bytes end, and whether the
+// input has ended.
+#[derive(Drop)]
+pub struct Input<'a> {
+    streams: &'a Streams,
+    buffer: [u8; 65536],
     at: usize,
     end: usize,
-    last: bool,
-    failed: bool,
+    is_ended: bool,
 }
 
-// A line that was read: what it asks for, where the next one begins, whether it is the last, and
-// whether it is the last because a read failed.
-#[derive(Clone, Copy)]
-pub struct Asked {
-    pub call: Call,
-    pub at: usize,
-    pub end: usize,
-    pub last: bool,
-    pub failed: bool,
-}
-
-// Room for the longest name. A longer one makes the line invalid.
-fn name_space() -> [u8; 32]
-    ensures { 32 ≡ length result }
-{
-    [0; 32]
-}
-
-// Reads again, and returns the first byte. A file fills the buffer; a pipe or a terminal gives what
-// it has by now.
-fn refilled(streams: &Streams, input: &mut [u8]) -> Byte {
-    let got = streams.read(input);
-    let n = got.len;
-    if 0 < n {
-        Byte {
-            byte: input[0],
-            at: 1,
-            end: n,
-            last: false,
-            failed: false,
-        }
-    } else {
-        Byte {
-            byte: LINE_END,
+impl<'a> Input<'a> {
+    pub(crate) fn new(streams: &'a Streams) -> Input<'a> {
+        Input {
+            streams,
+            buffer: large_buffer(),
             at: 0,
             end: 0,
-            last: true,
-            failed: got.failed,
+            is_ended: false,
         }
     }
 }
 
-// Whether the rest of the buffer has a line's end.
-pub(crate) fn has_line(input: &[u8], p: Place) -> bool {
-    let end = least(p.end, input.len());
-    let mut i = p.at;
-    while i < end {
-        if input[i] == LINE_END {
-            return true;
+impl Input<'_> {
+    // Reads again, and returns the first byte, or None at the end of the input. A file fills the
+    // buffer; a pipe or a terminal gives what it has by now.
+    fn refilled(&mut self) -> Result<Option<u8>> {
+        self.at = 0;
+        self.end = 0;
+        let n = self.streams.read(&mut self.buffer)?;
+        if n == 0 {
+            self.is_ended = true;
+            return Ok(None);
         }
-        i += 1;
+        self.at = 1;
+        self.end = n;
+        Ok(self.buffer.first().copied())
     }
-    false
-}
 
-fn next(streams: &Streams, input: &mut [u8], at: usize, end: usize) -> Byte {
-    if at < least(end, input.len()) {
-        Byte {
-            byte: input[at],
-            at: at + 1,
-            end,
-            last: false,
-            failed: false,
+    // Whether the rest of the buffer has a line's end.
+    pub(crate) fn has_line(&self) -> bool {
+        let text = &self.buffer[..];
+        let end = self.end.min(text.len());
+        text[self.at.min(end)..end].contains(&LINE_END)
+    }
+
+    pub(crate) fn is_ended(&self) -> bool {
+        self.is_ended
+    }
+
+    fn next(&mut self) -> Result<Option<u8>> {
+        if self.at < self.end.min(self.buffer.len()) {
+            let b = self.buffer[self.at];
+            self.at += 1;
+            return Ok(Some(b));
         }
-    } else {
-        refilled(streams, input)
+        self.refilled()
     }
-}
 
-// What a line asks for. A line that a failed read cut off asks for nothing.
-fn call_in(line: Line, failed: bool, name: &[u8], numbers: &[u64]) -> Call {
-    if failed {
-        Call::Nothing
-    } else {
-        call::call_of(line, name, numbers)
-    }
-}
-
-// The line that ends here.
-fn complete(line: Line, b: Byte, name: &[u8], numbers: &mut [u64]) -> Asked {
-    let whole = line.end(numbers);
-    Asked {
-        call: call_in(whole, b.failed, name, numbers),
-        at: b.at,
-        end: b.end,
-        last: b.last,
-        failed: b.failed,
-    }
-}
-
-// Reads a line, and leaves its numbers in `numbers`. The last line may lack its end. If nothing is
-// left, the line is empty and asks for nothing, so there is always one. The loop is bounded by 2^64
-// rounds, so that the proof can show that it ends.
-fn line(
-    streams: &Streams,
-    input: &mut [u8],
-    p: Place,
-    name: &mut [u8],
-    numbers: &mut [u64],
-) -> Asked {
-    let mut line = Line::new();
-    let mut b = next(streams, input, p.at, p.end);
-    let mut turns = u64::MAX;
-    while 0 < turns {
-        turns -= 1;
-        if b.byte == LINE_END {
-            return complete(line, b, name, numbers);
+    // Reads a line, and leaves its numbers in `numbers`. The last line may lack its end. If nothing
+    // is left, the line is empty and asks for nothing, so there is always one. The loop is bounded
+    // by 2^64 rounds, so that the proof can show that it ends.
+    pub(crate) fn line<'b>(&mut self, numbers: &'b mut [u64]) -> Result<Call<'b>> {
+        let mut name = [0; MOST_LETTERS];
+        let mut line = Line::new();
+        for _ in 0..u64::MAX {
+            match self.next()? {
+                None | Some(LINE_END) => break,
+                Some(b) => line = line.byte(b, &mut name, numbers),
+            }
         }
-        line = line.byte(b.byte, name, numbers);
-        b = next(streams, input, b.at, b.end);
+        let line = line.end(numbers);
+        Ok(call::call_of(line, &name, numbers))
     }
-    complete(line, b, name, numbers)
-}
-
-pub(crate) fn read(streams: &Streams, input: &mut [u8], p: Place, numbers: &mut [u64]) -> Asked {
-    let mut name = name_space();
-    line(streams, input, p, &mut name, numbers)
 }

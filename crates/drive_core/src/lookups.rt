@@ -4,217 +4,114 @@ mod drain;
 mod fresh;
 mod propose;
 pub mod query;
-mod reply;
 mod scan;
 mod step;
 
-ghost use Rattle.std.specs.Prelude.{◌≡◌, ◌≤◌, length};
+use crate::room::front;
+use crate::session::Session;
+use iter::Cursor;
+use iter::rules::Query;
 
-use crate::arena::{COLOURS, WORDS};
-use crate::lookups::query::Kind;
-use crate::lookups::reply::Reply;
-use crate::state::State;
-use crate::{answer, arena, copy};
-use iset::Map;
-use lines::streams::Streams;
-use words::numbers::least;
+// The most places of an output.
+const MOST_HITS: usize = 4096;
 
+// `room` is how many places the output has.
 #[derive(Clone, Copy)]
 pub enum Call {
-    Fresh,
-    Step,
-    Drain,
-    Plain,
-    FindAll,
-    Propose,
+    Fresh(Query),
+    Step(Query, Cursor),
+    Drain {
+        query: Query,
+        cursor: Cursor,
+        limit: u64,
+        room: usize,
+    },
+    Plain(Query, usize),
+    FindAll(Query, usize),
+    Propose(usize),
 }
 
-// The calls that have a query, in the order of their names (crate::call).
-pub(crate) fn call_at(place: usize) -> Call {
-    match place {
-        0 => Call::Fresh,
-        1 => Call::Step,
-        2 => Call::Drain,
-        3 => Call::Plain,
-        _ => Call::FindAll,
+// The places of an output that a number is.
+fn room_of(x: u64) -> Option<usize> {
+    usize::try_from(x).ok().filter(|n| *n <= MOST_HITS)
+}
+
+fn cursor_of(slot: u64, levels: u64, bits: u64) -> Cursor {
+    Cursor { slot, levels, bits }
+}
+
+// The call that has a query. The end of the name says which kind of query.
+fn asked(name: &[u8], numbers: &[u64]) -> Option<Call> {
+    let (verb, kind) = name.split_at(name.len().saturating_sub(2));
+    let (query, rest) = query::split(kind, numbers)?;
+    match (verb, rest) {
+        (b"fresh ", []) => Some(Call::Fresh(query)),
+        (b"step ", [slot, levels, bits]) => {
+            Some(Call::Step(query, cursor_of(*slot, *levels, *bits)))
+        }
+        (b"drain ", [slot, levels, bits, limit, places]) => Some(Call::Drain {
+            query,
+            cursor: cursor_of(*slot, *levels, *bits),
+            limit: *limit,
+            room: room_of(*places)?,
+        }),
+        (b"plain ", [places]) => Some(Call::Plain(query, room_of(*places)?)),
+        (b"find ", [places]) => Some(Call::FindAll(query, room_of(*places)?)),
+        _ => None,
     }
 }
 
-// How many numbers the call has after its query.
-fn count_of(call: Call) -> usize
-    ensures { result ≤ 5 }
-{
+// The call with the name and the numbers.
+pub(crate) fn named(name: &[u8], numbers: &[u64]) -> Option<Call> {
+    match (name, numbers) {
+        (b"propose ", [places]) => room_of(*places).map(Call::Propose),
+        _ => asked(name, numbers),
+    }
+}
+
+// How many places the output has, if the call has one.
+fn output_of(call: Call) -> Option<usize> {
     match call {
-        Call::Fresh => 0,
-        Call::Step => 3,
-        Call::Drain => 5,
-        _ => 1,
+        Call::Fresh(_) | Call::Step(_, _) => None,
+        Call::Drain { room, .. } => Some(room),
+        Call::Plain(_, room) | Call::FindAll(_, room) | Call::Propose(room) => Some(room),
     }
 }
 
-// How many numbers its answer has after the refusal's.
-fn answer_size(call: Call) -> usize {
+// Makes the call on the store, and prints the numbers of its answer.
+fn answer(s: &mut Session, call: Call, hits: &mut [u64]) {
+    let stored = s.stored;
+    let store = s.store.lent(stored);
     match call {
-        Call::Fresh => 3,
-        Call::Step => 5,
-        Call::Drain => 5,
-        Call::Plain => 2,
-        Call::FindAll => 2,
-        Call::Propose => 0,
+        Call::Fresh(query) => fresh::fresh(&store, query, &mut s.out),
+        Call::Step(query, cursor) => step::step(&store, query, cursor, &mut s.out),
+        Call::Drain {
+            query,
+            cursor,
+            limit,
+            ..
+        } => drain::drain(&store, query, cursor, limit, hits, &mut s.out),
+        Call::Plain(query, _) => scan::plain(&store, query, hits, &mut s.out),
+        Call::FindAll(query, _) => scan::find_all(&store, query, hits, &mut s.out),
+        Call::Propose(_) => propose::propose(&store, hits, &mut s.out),
     }
 }
 
-// Whether it writes to an output.
-fn has_output(call: Call) -> bool {
-    match call {
-        Call::Fresh => false,
-        Call::Step => false,
-        _ => true,
+// If a call has an output, the whole output is printed after the numbers. At first each of its
+// places holds a number that shows whether the call left it unchanged. `fresh` leaves nothing for
+// `commit`. The others leave the store, which is unchanged.
+pub(crate) fn request(s: &mut Session, call: Call) {
+    let mut space = [777777; MOST_HITS];
+    let places = output_of(call);
+    let hits = front(&mut space, places.unwrap_or(0));
+    answer(s, call, hits);
+    if let Call::Fresh(_) = call {
+        s.out.end();
+        return;
     }
-}
-
-// The places of the output, at most 4,096: the last number.
-fn places(call: Call, kind: Kind, numbers: &[u64]) -> u64 {
-    match call {
-        Call::Fresh => 0,
-        Call::Step => 0,
-        Call::Drain => query::after(kind, numbers, 4),
-        _ => query::after(kind, numbers, 0),
+    if places.is_some() {
+        s.out.list(hits);
     }
-}
-
-// Whether the numbers are those of the call.
-pub(crate) fn fits(call: Call, kind: Kind, numbers: &[u64]) -> bool {
-    (numbers.len() == query::size(kind) + count_of(call))
-        & query::fits(kind, numbers)
-        & (places(call, kind, numbers) <= 4096)
-}
-
-fn done(
-    m: Map,
-    call: Call,
-    kind: Kind,
-    numbers: &[u64],
-    nodes: &[u64],
-    narrow: bool,
-    colours: &[u8],
-    hits: &mut [u64],
-) -> Reply {
-    match call {
-        Call::Fresh => fresh::fresh(m, kind, numbers, nodes, narrow, colours),
-        Call::Step => step::step(m, kind, numbers, nodes, narrow, colours),
-        Call::Drain => drain::drain(m, kind, numbers, nodes, narrow, colours, hits),
-        Call::Plain => scan::plain(m, kind, numbers, nodes, narrow, colours, hits),
-        Call::FindAll => scan::find_all(m, kind, numbers, nodes, narrow, colours, hits),
-        Call::Propose => propose::propose(m, nodes, narrow, colours, hits),
-    }
-}
-
-// Makes the call on the store.
-fn in_store(
-    s: State,
-    call: Call,
-    kind: Kind,
-    numbers: &[u64],
-    words: &[u64],
-    hits: &mut [u64],
-) -> Reply {
-    let mut colours = arena::colour_space();
-    arena::load(words, COLOURS, &mut colours);
-    let b = least(s.colours, 512);
-    let w = least(WORDS, words.len());
-    let n = least(s.words, words.len() - w);
-    let m = s.map;
-    done(
-        m,
-        call,
-        kind,
-        numbers,
-        &words[w..w + n],
-        s.narrow,
-        &colours[..b],
-        hits,
-    )
-}
-
-// If a call has an output, the whole output is printed after the numbers.
-fn put_hits(streams: &Streams, call: Call, hits: &[u64], out: &mut [u8], to: usize) -> usize {
-    if has_output(call) {
-        answer::put_list(streams, hits, 0, hits.len(), out, to)
-    } else {
-        to
-    }
-}
-
-// Prints the line of a lookup other than `fresh`. The store is unchanged.
-fn line(
-    streams: &Streams,
-    s: State,
-    call: Call,
-    a: Reply,
-    words: &mut [u64],
-    hits: &[u64],
-    out: &mut [u8],
-) -> State {
-    let numbers = a.numbers;
-    copy::begin(s, words);
-    let first = answer::put_numbers(streams, a.no, &numbers, answer_size(call), out, s.to);
-    let to = put_hits(streams, call, hits, out, first);
-    let map = s.map;
-    copy::end(streams, s, map, 0, words, out, to)
-}
-
-// Prints the line of `fresh`.
-fn fresh_line(streams: &Streams, s: State, a: Reply, out: &mut [u8]) -> State {
-    let numbers = a.numbers;
-    answer::line(streams, s, a.no, &numbers, 3, out)
-}
-
-// Makes the request with this output.
-fn into(
-    streams: &Streams,
-    s: State,
-    call: Call,
-    kind: Kind,
-    numbers: &[u64],
-    words: &mut [u64],
-    hits: &mut [u64],
-    out: &mut [u8],
-) -> State {
-    let a = in_store(s, call, kind, numbers, words, hits);
-    if let Call::Fresh = call {
-        fresh_line(streams, s, a, out)
-    } else {
-        line(streams, s, call, a, words, hits, out)
-    }
-}
-
-// The output. Each place holds a number that shows whether the call left it unchanged.
-fn hits_space() -> [u64; 4096]
-    ensures { 4096 ≡ length result }
-{
-    [777777; 4096]
-}
-
-pub(crate) fn request(
-    streams: &Streams,
-    s: State,
-    call: Call,
-    kind: Kind,
-    numbers: &[u64],
-    words: &mut [u64],
-    out: &mut [u8],
-) -> State {
-    let mut hits = hits_space();
-    let there = least(places(call, kind, numbers) as usize, 4096);
-    into(
-        streams,
-        s,
-        call,
-        kind,
-        numbers,
-        words,
-        &mut hits[..there],
-        out,
-    )
+    s.begin();
+    s.end(s.stored.map, 0);
 }

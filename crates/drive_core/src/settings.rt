@@ -1,129 +1,118 @@
 // The settings: the store, its version and its layout, the bytes of the bit calls and of images,
 // and `commit`, which takes over what the last request left.
-use crate::arena::{
-    BYTES, COLOURS, MOST_BYTES, MOST_COLOURS, MOST_WORDS, NEW_BYTES, NEW_COLOURS, WORDS,
-};
-use crate::state::{Left, State};
-use crate::{arena, given};
+use crate::given;
+use crate::room::{MOST_COLOURS, MOST_WORDS, Stored, copy_front};
+use crate::session::{Left, MOST_BYTES, Session};
 use iset::Map;
 
 #[derive(Clone, Copy)]
-pub enum Call {
-    Store,
-    Bytes,
+pub enum Call<'a> {
+    Store {
+        count: u64,
+        root: u64,
+        words: &'a [u64],
+        colours: &'a [u64],
+    },
+    Bytes(&'a [u64]),
     Commit,
-    Version,
-    Layout,
-}
-
-// The calls in the order of their names (crate::call).
-pub(crate) fn call_at(place: usize) -> Call {
-    match place {
-        0 => Call::Store,
-        1 => Call::Bytes,
-        2 => Call::Commit,
-        3 => Call::Version,
-        _ => Call::Layout,
-    }
+    Version(u32),
+    Layout {
+        narrow: bool,
+    },
 }
 
 // `COUNT ROOT LIST LIST`
-fn is_store(numbers: &[u64]) -> bool {
-    let w = given::size(numbers, 2);
-    let b = given::size(numbers, 3 + w);
-    (w <= MOST_WORDS) & (b <= MOST_COLOURS) & given::ends_in_bytes(numbers, 4 + w, 4 + w + b)
+fn store_of(numbers: &[u64]) -> Option<Call<'_>> {
+    let [count, root, lists @ ..] = numbers else {
+        return None;
+    };
+    let (words, rest) = given::split_list(lists)?;
+    let colours = given::whole_bytes(rest, MOST_COLOURS)?;
+    if MOST_WORDS < words.len() {
+        return None;
+    }
+    Some(Call::Store {
+        count: *count,
+        root: *root,
+        words,
+        colours,
+    })
 }
 
-// `LIST`
-fn is_bytes(numbers: &[u64]) -> bool {
-    let n = given::size(numbers, 0);
-    (n <= MOST_BYTES) & given::ends_in_bytes(numbers, 1, 1 + n)
-}
-
-// `6` or `8`: how many words a node has.
-fn is_layout(numbers: &[u64]) -> bool {
-    let n = given::number(numbers, 0);
-    (numbers.len() == 1) & ((n == 6) | (n == 8))
-}
-
-// Whether the numbers are those of the setting.
-pub(crate) fn fits(call: Call, numbers: &[u64]) -> bool {
-    match call {
-        Call::Store => is_store(numbers),
-        Call::Bytes => is_bytes(numbers),
-        Call::Commit => numbers.len() == 0,
-        Call::Version => (numbers.len() == 1) & given::is_version(numbers, 0),
-        Call::Layout => is_layout(numbers),
+// The setting with the name and the numbers. That of a layout says how many words a node has.
+pub(crate) fn named<'a>(name: &[u8], numbers: &'a [u64]) -> Option<Call<'a>> {
+    match (name, numbers) {
+        (b"store ", _) => store_of(numbers),
+        (b"bytes ", _) => given::whole_bytes(numbers, MOST_BYTES).map(Call::Bytes),
+        (b"commit", []) => Some(Call::Commit),
+        (b"version ", [v]) => Some(Call::Version(given::version(*v)?)),
+        (b"layout ", [6]) => Some(Call::Layout { narrow: true }),
+        (b"layout ", [8]) => Some(Call::Layout { narrow: false }),
+        _ => None,
     }
 }
 
-fn store(s: State, numbers: &[u64], words: &mut [u64]) -> State {
-    let w = given::size(numbers, 2);
-    let b = given::size(numbers, 3 + w);
-    arena::take_words(words, WORDS, numbers, 3, w);
-    arena::take_words(words, COLOURS, numbers, 4 + w, b);
-    let map = Map {
-        count: given::number(numbers, 0),
-        root: given::number(numbers, 1),
-        version: 0,
-    };
-    s.with_store(map, w, b)
+// Puts numbers at the front of the bytes. Each of them is below 256.
+fn put_bytes(bytes: &mut [u8], numbers: &[u64]) {
+    for (b, x) in bytes.iter_mut().zip(numbers) {
+        *b = u8::try_from(*x).unwrap_or(0);
+    }
 }
 
-fn bytes(s: State, numbers: &[u64], words: &mut [u64]) -> State {
-    let n = given::size(numbers, 0);
-    arena::take_words(words, BYTES, numbers, 1, n);
-    s.with_bytes(n)
+fn commit(s: &mut Session) {
+    match s.left {
+        None => {}
+        Some(Left::Store { stored, .. }) => {
+            s.store.copy_store(&s.copy, stored);
+            s.stored = stored;
+        }
+        Some(Left::Bytes(n)) => {
+            copy_front(&mut s.bytes, &s.new_bytes, n);
+            s.count = n;
+        }
+    }
 }
 
-fn commit(s: State, words: &mut [u64]) -> State {
-    let left = s.left;
-    match left {
-        Left::Nothing => s,
-        Left::Store {
-            map,
-            reach: _,
-            words: w,
-            colours: b,
+// A setting of the layout that is there changes nothing. After another one there are no words and
+// no store that a request left, so that none is read in the wrong layout. Bytes have no layout, so
+// those that were given or left stay.
+fn set_layout(s: &mut Session, narrow: bool) {
+    if narrow == s.stored.narrow {
+        return;
+    }
+    s.stored = Stored::empty(narrow);
+    if let Some(Left::Store { .. }) = s.left {
+        s.left = None;
+    }
+}
+
+pub(crate) fn set(s: &mut Session, call: Call) {
+    match call {
+        Call::Store {
+            count,
+            root,
+            words,
+            colours,
         } => {
-            arena::copy_words(words, 0, WORDS, w);
-            arena::copy_words(words, NEW_COLOURS, COLOURS, b);
-            s.with_store(map, w, b)
+            copy_front(&mut s.store.words, words, words.len());
+            put_bytes(&mut s.store.colours, colours);
+            s.stored = Stored {
+                map: Map {
+                    count,
+                    root,
+                    version: 0,
+                },
+                words: words.len(),
+                colours: colours.len(),
+                ..s.stored
+            };
         }
-        Left::Bytes(n) => {
-            arena::copy_words(words, NEW_BYTES, BYTES, n);
-            s.with_bytes(n)
+        Call::Bytes(list) => {
+            put_bytes(&mut s.bytes, list);
+            s.count = list.len();
         }
-    }
-}
-
-// The store's map with another version.
-fn version(s: State, numbers: &[u64]) -> State {
-    let old = s.map;
-    let map = Map {
-        count: old.count,
-        root: old.root,
-        version: given::version(numbers, 0),
-    };
-    s.with_store(map, s.words, s.colours)
-}
-
-// A setting of the layout that is there changes nothing.
-fn layout(s: State, numbers: &[u64]) -> State {
-    let narrow = given::number(numbers, 0) == 6;
-    if narrow == s.narrow {
-        s
-    } else {
-        s.with_layout(narrow)
-    }
-}
-
-pub(crate) fn set(s: State, call: Call, numbers: &[u64], words: &mut [u64]) -> State {
-    match call {
-        Call::Store => store(s, numbers, words),
-        Call::Bytes => bytes(s, numbers, words),
-        Call::Commit => commit(s, words),
-        Call::Version => version(s, numbers),
-        Call::Layout => layout(s, numbers),
+        Call::Commit => commit(s),
+        Call::Version(version) => s.stored.map.version = version,
+        Call::Layout { narrow } => set_layout(s, narrow),
     }
 }

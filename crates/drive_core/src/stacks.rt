@@ -1,11 +1,9 @@
 // The stack calls. They use no memory and leave nothing for `commit`, which takes what an earlier
 // request left.
-use crate::state::State;
-use crate::{answer, given};
-use lines::streams::Streams;
+use crate::answer::Output;
+use iset::Refusal;
 use stack::lending::After;
-use stack::lent::Outcome;
-use stack::{ActionStack, Answer, lending};
+use stack::{ActionStack, lending};
 
 #[derive(Clone, Copy)]
 pub enum Call {
@@ -20,94 +18,70 @@ pub enum Call {
     IsEmpty,
 }
 
-// The calls in the order of their names (crate::call).
-pub(crate) fn call_at(place: usize) -> Call {
-    match place {
-        0 => Call::Push,
-        1 => Call::Pop,
-        2 => Call::GoLeft,
-        3 => Call::MakeMatch,
-        4 => Call::GoRight,
-        5 => Call::CanGoLeft,
-        6 => Call::CanMatch,
-        7 => Call::CanGoRight,
-        _ => Call::IsEmpty,
-    }
-}
-
-// What is printed of an answer: the refusal's number, the result of a test, and the stack.
-#[derive(Clone, Copy)]
-struct Shown {
-    no: u64,
-    test: bool,
-    stack: ActionStack,
-}
-
-pub(crate) fn fits(numbers: &[u64]) -> bool {
-    numbers.len() == 2
-}
-
-// A refused test shows the stack as given.
-fn tested(a: Answer, given: ActionStack) -> Shown {
-    match a {
-        Answer::Done(test, stack) => Shown { no: 0, test, stack },
-        Answer::Refused(why) => Shown {
-            no: why.number(),
-            test: false,
-            stack: given,
-        },
-    }
-}
-
-// A call that changes the stack tests nothing. Refused or not, it shows the stack as the call left
-// it.
-fn changed(a: After) -> Shown {
-    let outcome = a.outcome;
-    let stack = a.stack;
-    match outcome {
-        Outcome::Done => Shown {
-            no: 0,
-            test: false,
-            stack,
-        },
-        Outcome::Refused(why) => Shown {
-            no: why.number(),
-            test: false,
-            stack,
-        },
-    }
-}
-
-fn done(call: Call, stack: ActionStack) -> Shown {
-    match call {
-        Call::Push => changed(lending::push(stack)),
-        Call::Pop => changed(lending::pop(stack)),
-        Call::GoLeft => changed(lending::go_left(stack)),
-        Call::MakeMatch => changed(lending::make_match(stack)),
-        Call::GoRight => changed(lending::go_right(stack)),
-        Call::CanGoLeft => tested(stack.can_go_left(), stack),
-        Call::CanMatch => tested(stack.can_match(), stack),
-        Call::CanGoRight => tested(stack.can_go_right(), stack),
-        Call::IsEmpty => tested(stack.is_empty(), stack),
-    }
-}
-
-fn line(streams: &Streams, s: State, a: Shown, out: &mut [u8]) -> State {
-    let after = a.stack;
-    let others = [answer::bit_number(a.test), after.levels, after.bits];
-    answer::line(streams, s, a.no, &others, 3, out)
-}
-
-pub(crate) fn request(
-    streams: &Streams,
-    s: State,
-    call: Call,
-    numbers: &[u64],
-    out: &mut [u8],
-) -> State {
-    let stack = ActionStack {
-        levels: given::number(numbers, 0),
-        bits: given::number(numbers, 1),
+// Each call has a stack: its LEVELS and its BITS.
+pub(crate) fn named(name: &[u8], numbers: &[u64]) -> Option<(Call, ActionStack)> {
+    let call = match name {
+        b"spush " => Call::Push,
+        b"spop " => Call::Pop,
+        b"sleft " => Call::GoLeft,
+        b"smatch " => Call::MakeMatch,
+        b"sright " => Call::GoRight,
+        b"scanleft " => Call::CanGoLeft,
+        b"scanmatch " => Call::CanMatch,
+        b"scanright " => Call::CanGoRight,
+        b"sempty " => Call::IsEmpty,
+        _ => return None,
     };
-    line(streams, s, done(call, stack), out)
+    match numbers {
+        [levels, bits] => Some((
+            call,
+            ActionStack {
+                levels: *levels,
+                bits: *bits,
+            },
+        )),
+        _ => None,
+    }
+}
+
+// A call that tests returns the stack too, unless it is refused.
+fn tested(
+    a: Result<(bool, ActionStack), Refusal>,
+    stack: &mut ActionStack,
+) -> Result<bool, Refusal> {
+    let (test, after) = a?;
+    *stack = after;
+    Ok(test)
+}
+
+// A call that changes the stack tests nothing. Refused or not, it leaves a stack.
+fn changed(a: After, stack: &mut ActionStack) -> Result<bool, Refusal> {
+    *stack = a.stack;
+    a.outcome?;
+    Ok(false)
+}
+
+fn done(call: Call, stack: &mut ActionStack) -> Result<bool, Refusal> {
+    let given = *stack;
+    match call {
+        Call::Push => changed(lending::push(given), stack),
+        Call::Pop => changed(lending::pop(given), stack),
+        Call::GoLeft => changed(lending::go_left(given), stack),
+        Call::MakeMatch => changed(lending::make_match(given), stack),
+        Call::GoRight => changed(lending::go_right(given), stack),
+        Call::CanGoLeft => tested(given.can_go_left(), stack),
+        Call::CanMatch => tested(given.can_match(), stack),
+        Call::CanGoRight => tested(given.can_go_right(), stack),
+        Call::IsEmpty => tested(given.is_empty(), stack),
+    }
+}
+
+// Prints the result of the test, and the stack after the call.
+pub(crate) fn request(call: Call, given: ActionStack, out: &mut Output) {
+    let mut stack = given;
+    let (no, test) = match done(call, &mut stack) {
+        Ok(test) => (0, test),
+        Err(why) => (why.number(), false),
+    };
+    out.line(no, &[u64::from(test), stack.levels, stack.bits]);
 }

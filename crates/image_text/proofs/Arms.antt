@@ -1,10 +1,14 @@
 -- What the code's cases say of a rule, in the form that `search` takes.
+use Rattle.std.specs.Prelude.{Option, None, Some, Result, Ok, Err, is_ok}
+use Rattle.words.specs.declared.refusal.Refusal.{Refusal}
+use Rattle.words.specs.declared.refusal.Refusal.TheVariants.{BadList}
+use Rattle.std.specs.Option.{option_eq}
 use mathlib.Core.Path.{◌≡◌, refl, sym, ap, ◌∙◌}
 use mathlib.Core.Bool.{Bool, true, false, cond, ◌&&◌, ◌||◌}
 use mathlib.Core.List.{List}
 use Prim.Native.Nat.{ℕ, ◌+◌, ◌-◌, ◌*◌, ◌/◌, ◌<◌, ◌≤◌}
 use native.Mathlib.Omega.{arith}
-use lib.ListN.{length, set, take, length-set}
+use lib.ListN.{length, set, take}
 use lib.Seq.{sets, length-take-le}
 use lib.Dec.{eqb, ltb, leb}
 use borrow.Author.Tests.{eq-eqb, ne_eqb, lt-ltb, le-ltb, ltb-false, leb-true}
@@ -14,30 +18,16 @@ use Rattle.image_rule.specs.Layout.{colours_at_lem, image_length_lem}
 use Rattle.image_rule.specs.Written.{header}
 use Rattle.words.specs.Ix.{U}
 use Rattle.bitvec.specs.Calls.{bytes_for}
-use Rattle.image_text.specs.Judging.{image_number}
-use Rattle.image_text.specs.Words.{word_digit, word_letter, word_byte, longer_name_lem, is_name_lem, is_number, value_in, small_in, link_said, red_name, black_name, is_new_lem}
-use Rattle.image_text.specs.Reading.{Stage, stage, next_of, refused_of, end_of, room_for, framed, framed_in, counted, rooted}
+use Rattle.lines.specs.Input.{on_some}
+use Rattle.image_text.specs.Judging.{image_checked}
+use Rattle.image_text.specs.Words.{longer_name_lem, is_name_lem, number_in, small_in, link_said, red_name, black_name, is_new_lem}
+use Rattle.image_text.specs.Reading.{stage, next_of, refused_of, end_of, room_for, framed, framed_in, counted, rooted}
 use Rattle.image_text.specs.Reading.{numbered, entry_field_lem, link_field_lem, colour_field_lem, item, longer, stepped, is_complete, last_of, outcome_of, judged_as}
 use Rattle.image_text.specs.declared.word.Word.{Word}
-use Rattle.image_text.specs.declared.word.Word.TheVariants.{Empty, Name, Wrong}
+use Rattle.image_text.specs.declared.word.Word.TheVariants.{Name, Wrong}
 use Rattle.image_text.specs.declared.reading.State.{State}
-use Rattle.image_text.specs.declared.reading.Outcome.{Outcome}
-use Rattle.image_text.specs.declared.reading.Outcome.TheVariants.{Done, Refused}
 
--- a digit and a letter, by what the word was
-module _ (w z : Word) (e : w ≡ z) where
-  pub digit_of_law : (d : ℕ) (r : Word) → r ≡ word_digit z d → r ≡ word_digit w d
-  digit_of_law d r h = rw e h
-
-  pub letter_of : (b : ℕ) (r : Word) → r ≡ word_letter z b → r ≡ word_letter w b
-  letter_of b r h = rw e h
-
-  pub name_of : (o : ℕ) (r : Bool) → r ≡ is_name_lem z o → r ≡ is_name_lem w o
-  name_of o r h = rw e h
-
-pub letter_new : (w : Word) (n b : ℕ) → w ≡ Empty → n ≡ b → Name (256 + n) ≡ word_letter w b
-letter_new w n b e f = rw (e, f) refl
-
+-- one more letter of a name
 module _ (v b : ℕ) where
   pub name_on : (n : ℕ) → v < 72057594037927936 → n ≡ b → Name (v * 256 + n) ≡ longer_name_lem v b
   unfolding longer_name_lem
@@ -48,18 +38,18 @@ module _ (v b : ℕ) where
   name_off h = rw (le-ltb v 72057594037927936 h) refl
 
 -- a small number
-module _ (w : Word) (r : ℕ) (b : Bool) (e : b ≡ is_number w) where
-  pub small_in_lem : (v : ℕ) → b ≡ true → v ≡ value_in w → v < U → r ≡ value_in w → r ≡ small_in w
+module _ (w : Word) (r o : Option ℕ) (e : o ≡ number_in w) where
+  pub small_under : (v : ℕ) → o ≡ Some v → v < U → r ≡ Some v → r ≡ small_in w
   unfolding small_in
-  small_in_lem v t f h q = rw (← e, t, lt-ltb (value_in w) U (rw f at h)) q
+  small_under v f h q = rw (← e, f, lt-ltb v U h) q
 
-  pub small_over : (v : ℕ) → b ≡ true → v ≡ value_in w → U ≤ v → r ≡ 4294967296 → r ≡ small_in w
+  pub small_over : (v : ℕ) → o ≡ Some v → U ≤ v → r ≡ None → r ≡ small_in w
   unfolding small_in
-  small_over v t f h q = rw (← e, t, le-ltb (value_in w) U (rw f at h)) q
+  small_over v f h q = rw (← e, f, le-ltb v U h) q
 
-  pub small_none : b ≡ false → r ≡ 4294967296 → r ≡ small_in w
+  pub small_none : o ≡ None → r ≡ None → r ≡ small_in w
   unfolding small_in
-  small_none t q = rw (← e, t) q
+  small_none f q = rw (← e, f) q
 
 -- a state and an image
 pub staged : (r a : State) (X Y : List ℕ) → r ≡ a → X ≡ Y → stage r X ≡ stage a Y
@@ -96,65 +86,63 @@ pub room_is : (n k len : ℕ) → n ≤ 65535 → k ≡ image_length_lem n → l
 unfolding room_for
 room_is n k len h e = rw (le-ltb 65535 n h, e) refl
 
-pub same_set : (I X : List ℕ) (i v : ℕ) → length X ≡ length (set I i v) → length X ≡ length I
-same_set I X i v e = e ∙ length-set I i v
-
 pub bit_room : (n k len : ℕ) → k < n → image_length_lem n ≤ len → (colours_at_lem n * 8 + k) / 8 < len
 unfolding bytes_for
 bit_room n k len h r = omega arith
 
 -- the first line
-module _ (s r : State) (n : ℕ) (e : n ≡ small_in s.word) where
-  pub counted_on : n < 4294967296 → r ≡ next_of s n → r ≡ counted s
-  unfolding counted
-  counted_on h q = rw (← e, lt-ltb n 4294967296 h) q
-
-  pub counted_off : 4294967296 ≤ n → r ≡ refused_of s 8 → r ≡ counted s
-  unfolding counted
-  counted_off h q = rw (← e, le-ltb n 4294967296 h) q
-
 pub framed_is : (I X : List ℕ) (n r k : ℕ) → k ≡ image_length_lem n → X ≡ sets (set I (k - 1) 0) 0 (header n r) → X ≡ framed I n r
 unfolding framed
 framed_is I X n r k e h = rw (← e) h
 
-module _ (s r : State) (k : ℕ) (I : List ℕ) (e : k ≡ link_said s.word) where
-  pub rooted_on : (X : List ℕ) → k < 4294967296 → stage r X ≡ framed_in s k I → stage r X ≡ rooted s I
-  unfolding rooted
-  rooted_on X h q = rw (← e, lt-ltb k 4294967296 h) q
+module _ (s r : State) (I : List ℕ) (o : Option ℕ) (e : o ≡ link_said s.word) where
+  pub rooted_on : (v : ℕ) (X : List ℕ) → o ≡ Some v → stage r X ≡ framed_in s v I → stage r X ≡ rooted s I
+  unfolding rooted on_some
+  rooted_on v X h q = rw (← e, h) q
 
-  pub rooted_off : 4294967296 ≤ k → r ≡ refused_of s 8 → stage r I ≡ rooted s I
-  unfolding rooted
-  rooted_off h q = rw (← e, le-ltb k 4294967296 h) (ap (λ (z : State). stage z I) q)
+  pub rooted_off : o ≡ None → r ≡ refused_of s BadList → stage r I ≡ rooted s I
+  unfolding rooted on_some
+  rooted_off h q = rw (← e, h) (ap (λ (z : State). stage z I) q)
 
 -- the words of a slot
-module _ (s r : State) (k n : ℕ) (e : n ≡ small_in s.word) where
-  pub numbered_on : n ≡ k → r ≡ next_of s s.count → r ≡ numbered s k
-  unfolding numbered
-  numbered_on h q = rw (← e, eq-eqb n k h) q
+module _ (s r : State) (k : ℕ) (o : Option ℕ) (e : o ≡ small_in s.word) where
+  pub counted_on : (n : ℕ) → o ≡ Some n → r ≡ next_of s n → r ≡ counted s
+  unfolding counted on_some
+  counted_on n h q = rw (← e, h) q
 
-  pub numbered_off : (n ≡ k → ⊥) → r ≡ refused_of s 8 → r ≡ numbered s k
-  unfolding numbered
-  numbered_off h q = rw (← e, ne_eqb n k h) q
+  pub counted_off : o ≡ None → r ≡ refused_of s BadList → r ≡ counted s
+  unfolding counted on_some
+  counted_off h q = rw (← e, h) q
 
-module _ (s r : State) (k j : ℕ) (I : List ℕ) (b : Bool) (e : b ≡ is_number s.word) where
-  pub entry_on : (v : ℕ) (X : List ℕ) → b ≡ true → v ≡ value_in s.word → X ≡ sets I (44 + k * 24 + (j - 1) * 8) (digits 8 v)
-      → r ≡ next_of s s.count → stage r X ≡ entry_field_lem s k j I
-  unfolding entry_field_lem
-  entry_on v X t f h q = rw (← e, t, ← f) (staged r (next_of s s.count) X _ q h)
+  module _ (b : Bool) (f : b ≡ option_eq eqb o (Some k)) where
+    pub numbered_on : b ≡ true → r ≡ next_of s s.count → r ≡ numbered s k
+    unfolding numbered
+    numbered_on t q = rw (← e, ← f, t) q
 
-  pub entry_off : b ≡ false → r ≡ refused_of s 8 → stage r I ≡ entry_field_lem s k j I
-  unfolding entry_field_lem
-  entry_off t q = rw (← e, t) (ap (λ (z : State). stage z I) q)
+    pub numbered_off : b ≡ false → r ≡ refused_of s BadList → r ≡ numbered s k
+    unfolding numbered
+    numbered_off t q = rw (← e, ← f, t) q
 
-module _ (s r : State) (k j v : ℕ) (I : List ℕ) (e : v ≡ link_said s.word) where
-  pub link_on : (X : List ℕ) → v < 4294967296 → X ≡ sets I (44 + s.count * 24 + k * 12 + (j - 4) * 4) (digits 4 v)
-      → r ≡ next_of s s.count → stage r X ≡ link_field_lem s k j I
-  unfolding link_field_lem
-  link_on X t h q = rw (← e, lt-ltb v 4294967296 t) (staged r (next_of s s.count) X _ q h)
+module _ (s r : State) (k j : ℕ) (I : List ℕ) (o : Option ℕ) where
+  module _ (e : o ≡ number_in s.word) where
+    pub entry_on : (v : ℕ) (X : List ℕ) → o ≡ Some v → X ≡ sets I (44 + k * 24 + (j - 1) * 8) (digits 8 v)
+        → r ≡ next_of s s.count → stage r X ≡ entry_field_lem s k j I
+    unfolding entry_field_lem on_some
+    entry_on v X t h q = rw (← e, t) (staged r (next_of s s.count) X _ q h)
 
-  pub link_off : 4294967296 ≤ v → r ≡ refused_of s 8 → stage r I ≡ link_field_lem s k j I
-  unfolding link_field_lem
-  link_off t q = rw (← e, le-ltb v 4294967296 t) (ap (λ (z : State). stage z I) q)
+    pub entry_off : o ≡ None → r ≡ refused_of s BadList → stage r I ≡ entry_field_lem s k j I
+    unfolding entry_field_lem on_some
+    entry_off t q = rw (← e, t) (ap (λ (z : State). stage z I) q)
+
+  module _ (e : o ≡ link_said s.word) where
+    pub link_on : (v : ℕ) (X : List ℕ) → o ≡ Some v → X ≡ sets I (44 + s.count * 24 + k * 12 + (j - 4) * 4) (digits 4 v)
+        → r ≡ next_of s s.count → stage r X ≡ link_field_lem s k j I
+    unfolding link_field_lem on_some
+    link_on v X t h q = rw (← e, t) (staged r (next_of s s.count) X _ q h)
+
+    pub link_off : o ≡ None → r ≡ refused_of s BadList → stage r I ≡ link_field_lem s k j I
+    unfolding link_field_lem on_some
+    link_off t q = rw (← e, t) (ap (λ (z : State). stage z I) q)
 
 module _ (s r : State) (k : ℕ) (I : List ℕ) (a b : Bool) (e : a ≡ is_name_lem s.word red_name) (f : b ≡ is_name_lem s.word black_name) where
   pub colour_on : (X : List ℕ) → (a || b) ≡ true → X ≡ set_bit I ((44 + s.count * 36) * 8 + k) a → r ≡ next_of s s.count
@@ -162,28 +150,24 @@ module _ (s r : State) (k : ℕ) (I : List ℕ) (a b : Bool) (e : a ≡ is_name_
   unfolding colour_field_lem
   colour_on X t h q = rw (← e, ← f, t) (staged r (next_of s s.count) X _ q h)
 
-  pub colour_off : (a || b) ≡ false → r ≡ refused_of s 8 → stage r I ≡ colour_field_lem s k I
+  pub colour_off : (a || b) ≡ false → r ≡ refused_of s BadList → stage r I ≡ colour_field_lem s k I
   unfolding colour_field_lem
   colour_off t q = rw (← e, ← f, t) (ap (λ (z : State). stage z I) q)
 
-pub more_is : (s : State) (b : ℕ) (w : Word) → w ≡ word_byte s.word b
-    → (record { word = w; place = s.place; count = s.count; refused = s.refused }) ≡ longer s b
-more_is s b w e = λ i. record { word = e i; place = s.place; count = s.count; refused = s.refused }
-
 -- one byte
-module _ (s r : State) (I : List ℕ) (b : ℕ) where
-  pub byte_refused : (s.refused ≡ 0 → ⊥) → stage s I ≡ stepped (stage s I) b
+module _ (s r : State) (I : List ℕ) (b : ℕ) (t : Bool) (e : t ≡ is_ok s.checked) where
+  pub byte_refused : t ≡ false → stage s I ≡ stepped (stage s I) b
   unfolding stepped
-  byte_refused h = rw (ne_eqb s.refused 0 h) refl
+  byte_refused z = rw (← e, z) refl
 
-  module _ (k : ℕ) (z : s.refused ≡ 0) (e : k ≡ end_of s.place) where
+  module _ (k : ℕ) (z : t ≡ true) (f : k ≡ end_of s.place) where
     pub byte_item : (X : List ℕ) → b ≡ k → stage r X ≡ item s I → stage r X ≡ stepped (stage s I) b
     unfolding stepped
-    byte_item X h q = rw (eq-eqb s.refused 0 z, ← e, eq-eqb b k h) q
+    byte_item X h q = rw (← e, z, ← f, eq-eqb b k h) q
 
     pub byte_more : (b ≡ k → ⊥) → r ≡ longer s b → stage r I ≡ stepped (stage s I) b
     unfolding stepped
-    byte_more h q = rw (eq-eqb s.refused 0 z, ← e, ne_eqb b k h) (ap (λ (y : State). stage y I) q)
+    byte_more h q = rw (← e, z, ← f, ne_eqb b k h) (ap (λ (y : State). stage y I) q)
 
 -- the end of the text
 module _ (s r : State) (I : List ℕ) (b : Bool) (e : b ≡ is_new_lem s.word) where
@@ -195,19 +179,19 @@ module _ (s r : State) (I : List ℕ) (b : Bool) (e : b ≡ is_new_lem s.word) w
   unfolding last_of
   last_word X t q = rw (← e, t) q
 
-module _ (s : State) (I : List ℕ) (r : Outcome) where
-  pub judged_refused : (s.refused ≡ 0 → ⊥) → r ≡ Refused s.refused → r ≡ outcome_of (stage s I)
+module _ (s : State) (I : List ℕ) (r : Result ℕ Refusal) where
+  pub judged_refused : (y : Refusal) → s.checked ≡ Err y → r ≡ Err y → r ≡ outcome_of (stage s I)
   unfolding outcome_of
-  judged_refused h q = rw (ne_eqb s.refused 0 h) q
+  judged_refused y h q = rw h q
 
-  module _ (b : Bool) (z : s.refused ≡ 0) (e : b ≡ is_complete s (length I)) where
+  module _ (b : Bool) (x : Unit) (z : s.checked ≡ Ok x) (e : b ≡ is_complete s (length I)) where
     pub judged_done : (n : ℕ) → b ≡ true → n ≡ image_length_lem s.count → r ≡ judged_as (take n I) → r ≡ outcome_of (stage s I)
-    unfolding outcome_of
-    judged_done n t f q = rw (eq-eqb s.refused 0 z, ← e, t, ← f) q
+    unfolding outcome_of is_complete
+    judged_done n t f q = rw (z, ← e, t, ← f) q
 
-    pub judged_short : b ≡ false → r ≡ Refused 8 → r ≡ outcome_of (stage s I)
-    unfolding outcome_of
-    judged_short t q = rw (eq-eqb s.refused 0 z, ← e, t) q
+    pub judged_short : b ≡ false → r ≡ Err BadList → r ≡ outcome_of (stage s I)
+    unfolding outcome_of is_complete
+    judged_short t q = rw (z, ← e, t) q
 
 -- all slots are read
 module _ (s : State) (len : ℕ) (b : Bool) where
@@ -239,17 +223,11 @@ pub complete_taken : (s : State) (I : List ℕ) (b : Bool) (k : ℕ) → b ≡ i
     → k ≡ length (take k I)
 complete_taken s I b k e t f = sym (length-take-le k I (complete_fits s (length I) b e t k f))
 
-pub finish_is : (s q : State) (I X : List ℕ) (r : Outcome) → stage q X ≡ last_of (stage s I) → r ≡ outcome_of (stage q X) → r ≡ outcome_of (last_of (stage s I))
-finish_is s q I X r e f = f ∙ ap outcome_of e
-
-pub finish_image : (q : State) (X : List ℕ) (t : Stage) → stage q X ≡ t → X ≡ t.image
-finish_image q X t e = ap (λ (y : Stage). y.image) e
-
-module _ (I : List ℕ) (no : ℕ) (r : Outcome) (e : no ≡ image_number I) where
-  pub judge_done : no ≡ 0 → r ≡ Done (length I) → r ≡ judged_as I
+module _ (I : List ℕ) (c : Result Unit Refusal) (r : Result ℕ Refusal) (e : c ≡ image_checked I) where
+  pub judge_done : (x : Unit) → c ≡ Ok x → r ≡ Ok (length I) → r ≡ judged_as I
   unfolding judged_as
-  judge_done z q = rw (← e, eq-eqb no 0 z) q
+  judge_done x z q = rw (← e, z) q
 
-  pub judge_refused : (no ≡ 0 → ⊥) → r ≡ Refused no → r ≡ judged_as I
+  pub judge_refused : (y : Refusal) → c ≡ Err y → r ≡ Err y → r ≡ judged_as I
   unfolding judged_as
-  judge_refused z q = rw (← e, ne_eqb no 0 z) q
+  judge_refused y z q = rw (← e, z) q

@@ -1,4 +1,5 @@
 -- A number and a link that are printed read back as they were.
+use Rattle.std.specs.Prelude.{Some}
 use mathlib.Core.Path.{◌≡◌, refl, sym, ap, ◌∙◌}
 use mathlib.Core.Bool.{Bool, true, false, cond}
 use mathlib.Core.List.{List, [], ◌∷◌, ◌++◌, foldl, foldl-append}
@@ -9,7 +10,7 @@ use lib.ListN.{drop}
 use lib.Dec.{eqb, ltb}
 use borrow.Author.Tests.{lt-ltb, le-ltb, eqb-true, eqb-false, ltb-true}
 use Rattle.words.specs.Ix.{U}
-use Rattle.lines.specs.Input.{digit_of_lem, on_digit, appended, on_value}
+use Rattle.lines.specs.Input.{digit_of_lem, on_some, appended}
 use Rattle.lines.specs.Output.{decimal, number}
 use Rattle.image_text.specs.Words.{word_byte, word_digit, small_in, link_said}
 use Rattle.image_text.specs.Text.{link_text}
@@ -22,13 +23,13 @@ spelled w s = foldl word_byte w s
 
 -- one more digit
 byte_digit : (w : Word) (d : ℕ) → d < 10 → word_byte w (48 + d) ≡ word_digit w d
-unfolding word_byte digit_of_lem on_digit
+unfolding word_byte digit_of_lem on_some
 byte_digit w d h =
     let e : 48 + d - 48 ≡ d = omega arith in
     rw (le-ltb (48 + d) 48 (omega arith), le-ltb 57 (48 + d) (omega arith), e) refl
 
 digit_after : (v d : ℕ) → v * 10 + d < 18446744073709551616 → word_digit (Number v) d ≡ Number (v * 10 + d)
-unfolding appended on_value
+unfolding appended on_some
 digit_after v d h = rw (lt-ltb (v * 10 + d) 18446744073709551616 h) refl
 
 decimal_back : (f n : ℕ) → n < 10 ^ suc f → n < 18446744073709551616 → spelled Empty (decimal (suc f) n) ≡ Number n
@@ -53,12 +54,12 @@ pub number_back : (n : ℕ) → n < 18446744073709551616 → spelled Empty (numb
 number_back n h = decimal_back 19 n (omega arith) h
 
 -- a link, after its space
-pub link_back : (k : ℕ) → k < 4294967296 → link_said (spelled Empty (drop 1 (link_text k))) ≡ k
-unfolding link_text link_said small_in word_byte digit_of_lem on_digit
+pub link_back : (k : ℕ) → k < 4294967296 → link_said (spelled Empty (drop 1 (link_text k))) ≡ Some k
+unfolding link_text link_said small_in word_byte digit_of_lem on_some
 link_back k h = go (eqb k U) refl
   where
-    go : (t : Bool) → eqb k U ≡ t → link_said (spelled Empty (drop 1 (cond t (32 ∷ 45 ∷ []) (32 ∷ number k)))) ≡ k
-    go true e = sym (eqb-true k U e)
+    go : (t : Bool) → eqb k U ≡ t → link_said (spelled Empty (drop 1 (cond t (32 ∷ 45 ∷ []) (32 ∷ number k)))) ≡ Some k
+    go true e = ap (λ (v : ℕ). Some v) (sym (eqb-true k U e))
     go false e =
         ap link_said (number_back k (omega arith))
         ∙ rw (lt-ltb k U (let n : (k ≡ U → ⊥) = eqb-false k U e in omega (arith, n))) refl

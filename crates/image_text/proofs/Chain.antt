@@ -1,4 +1,5 @@
 -- The text of an image, read word by word.
+use Rattle.std.specs.Prelude.{Some, Ok, is_ok}
 use mathlib.Core.Path.{◌≡◌, refl, ap, ◌∙◌}
 use mathlib.Core.Bool.{Bool, true, false, cond}
 use mathlib.Core.List.{List, [], ◌∷◌, ◌++◌, foldl}
@@ -12,6 +13,7 @@ use Rattle.words.specs.Ix.{U}
 use Rattle.words.specs.declared.node.Entry.{Entry}
 use Rattle.bitvec.specs.Bits.{set_bit}
 use Rattle.little.specs.Numbers.{digits}
+use Rattle.lines.specs.Input.{on_some}
 use Rattle.lines.specs.Output.{decimal, next}
 use Rattle.image_rule.specs.Layout.{links_at_lem, colours_at_lem}
 use Rattle.image_text.specs.Text.{link_text}
@@ -62,28 +64,28 @@ link_space k = go (eqb k U)
 
 -- one more byte of a word, and all of a word
 abbrev pub with : State → Word → State
-with s w = record { word = w; place = s.place; count = s.count; refused = s.refused }
+with s w = record { word = w; place = s.place; count = s.count; checked = s.checked }
 
-step_plain : (s : State) (X : List ℕ) (b : ℕ) → s.refused ≡ 0 → 32 < b → stepped (stage s X) b ≡ stage (longer s b) X
+step_plain : (s : State) (X : List ℕ) (b : ℕ) → is_ok s.checked ≡ true → 32 < b → stepped (stage s X) b ≡ stage (longer s b) X
 unfolding stepped end_of
-step_plain s X b z h = rw (eq-eqb s.refused 0 z) (go (eqb (s.place % 8) 3))
+step_plain s X b z h = rw (z) (go (eqb (s.place % 8) 3))
   where
     go : (t : Bool) → cond (eqb b (cond t 10 32)) (item s X) (stage (longer s b) X) ≡ stage (longer s b) X
     go true = rw (ne_eqb b 10 (λ e. omega arith)) refl
     go false = rw (ne_eqb b 32 (λ e. omega arith)) refl
 
-pub fed_plain : (l : List ℕ) (s : State) (X : List ℕ) → s.refused ≡ 0 → Plain l → fed (stage s X) l ≡ stage (with s (spelled s.word l)) X
+pub fed_plain : (l : List ℕ) (s : State) (X : List ℕ) → is_ok s.checked ≡ true → Plain l → fed (stage s X) l ≡ stage (with s (spelled s.word l)) X
 unfolding fed
 fed_plain [] s X z p = refl
 fed_plain (b ∷ l) s X z p = ap (λ (t : Stage). foldl stepped t l) (step_plain s X b z p.0) ∙ fed_plain l (longer s b) X z p.1
 
 -- the end of a word
-pub step_end : (s : State) (X : List ℕ) (b : ℕ) → s.refused ≡ 0 → b ≡ end_of s.place → stepped (stage s X) b ≡ item s X
+pub step_end : (s : State) (X : List ℕ) (b : ℕ) → is_ok s.checked ≡ true → b ≡ end_of s.place → stepped (stage s X) b ≡ item s X
 unfolding stepped
-step_end s X b z e = rw (eq-eqb s.refused 0 z, eq-eqb b (end_of s.place) e) refl
+step_end s X b z e = rw (z, eq-eqb b (end_of s.place) e) refl
 
 -- the end of a word, and then all of the next one
-pub turn : (s t : State) (X Y : List ℕ) (l : List ℕ) → s.refused ≡ 0 → 32 ≡ end_of s.place → item s X ≡ stage t Y → t.refused ≡ 0 → Plain l
+pub turn : (s t : State) (X Y : List ℕ) (l : List ℕ) → is_ok s.checked ≡ true → 32 ≡ end_of s.place → item s X ≡ stage t Y → is_ok t.checked ≡ true → Plain l
     → fed (stage s X) (32 ∷ l) ≡ stage (with t (spelled t.word l)) Y
 unfolding fed
 turn s t X Y l z e q y p = ap (λ (T : Stage). foldl stepped T l) (step_end s X 32 z e ∙ q) ∙ fed_plain l t Y y p
@@ -91,7 +93,7 @@ turn s t X Y l z e q y p = ap (λ (T : Stage). foldl stepped T l) (step_end s X 
 -- the words of slot k of n
 module _ (n k : ℕ) (few : n ≤ 65535) (h : k < n) where
   abbrev pub at : ℕ → Word → State
-  at j w = record { word = w; place = 4 + k * 8 + j; count = n; refused = 0 }
+  at j w = record { word = w; place = 4 + k * 8 + j; count = n; checked = Ok tt }
 
   pub space_after : (j : ℕ) (w : Word) → j < 7 → 32 ≡ end_of (at j w).place
   unfolding end_of
@@ -102,7 +104,7 @@ module _ (n k : ℕ) (few : n ≤ 65535) (h : k < n) where
   line_after w = rw (eq-eqb ((4 + k * 8 + 7) % 8) 3 (omega arith)) refl
 
   on : (j : ℕ) (w : Word) → next_of (at j w) n ≡ at (suc j) Empty
-  on j w = let e : 4 + k * 8 + j + 1 ≡ 4 + k * 8 + suc j = omega arith in λ i. record { word = Empty; place = e i; count = n; refused = 0 }
+  on j w = let e : 4 + k * 8 + j + 1 ≡ 4 + k * 8 + suc j = omega arith in λ i. record { word = Empty; place = e i; count = n; checked = Ok tt }
 
   module _ (X : List ℕ) (room : room_for n (length X) ≡ true) where
     item_at : (j : ℕ) (w : Word) → j < 8 → item (at j w) X ≡ field (at j w) k j X
@@ -117,17 +119,17 @@ module _ (n k : ℕ) (few : n ≤ 65535) (h : k < n) where
     slot_word_lem = item_at 0 (Number k) (omega arith) ∙ rw (lt-ltb k U (omega arith), eq-eqb k k refl) (ap (λ (s : State). stage s X) (on 0 (Number k)))
 
     pub entry_word : (j v : ℕ) → 0 < j → j < 4 → item (at j (Number v)) X ≡ stage (at (suc j) Empty) (sets X (44 + k * 24 + (j - 1) * 8) (digits 8 v))
-    unfolding field entry_field_lem
+    unfolding field entry_field_lem on_some
     entry_word j v a b =
         item_at j (Number v) (omega arith)
         ∙ rw (ne_eqb j 0 (λ e. omega arith), lt-ltb j 4 b) (ap (λ (s : State). stage s (sets X (44 + k * 24 + (j - 1) * 8) (digits 8 v))) (on j (Number v)))
 
-    pub link_word : (j v : ℕ) (w : Word) → 4 ≤ j → j < 7 → link_said w ≡ v → v < 4294967296
+    pub link_word : (j v : ℕ) (w : Word) → 4 ≤ j → j < 7 → link_said w ≡ Some v
         → item (at j w) X ≡ stage (at (suc j) Empty) (sets X (links_at_lem n + k * 12 + (j - 4) * 4) (digits 4 v))
-    unfolding field link_field_lem
-    link_word j v w a b e l =
+    unfolding field link_field_lem on_some
+    link_word j v w a b e =
         item_at j w (omega arith)
-        ∙ rw (ne_eqb j 0 (λ e. omega arith), le-ltb j 4 a, lt-ltb j 7 b, e, lt-ltb v 4294967296 l)
+        ∙ rw (ne_eqb j 0 (λ e. omega arith), le-ltb j 4 a, lt-ltb j 7 b, e)
         (ap (λ (s : State). stage s (sets X (links_at_lem n + k * 12 + (j - 4) * 4) (digits 4 v))) (on j w))
 
     pub colour_word : (v : Bool) → item (at 7 (Name (cond v red_name black_name))) X ≡ stage (at 8 Empty) (set_bit X (colours_at_lem n * 8 + k) v)

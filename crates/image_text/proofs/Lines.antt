@@ -9,7 +9,7 @@ use lib.Seq.{length-sets}
 use Rattle.words.specs.declared.node.Entry.{Entry}
 use Rattle.bitvec.specs.Bits.{set_bit}
 use Rattle.little.specs.Numbers.{digits}
-use Rattle.lines.specs.Input.{digit_of_lem, on_digit}
+use Rattle.lines.specs.Input.{digit_of_lem, on_some}
 use Rattle.lines.specs.Output.{number, next}
 use Rattle.image_rule.specs.Layout.{links_at_lem, colours_at_lem}
 use Rattle.image_text.specs.Text.{link_text, entry_text, links_text, colour_text}
@@ -27,11 +27,11 @@ pub follow : (t u w : Stage) (s o : List ℕ) → fed t s ≡ u → fed u o ≡ 
 follow t u w s o e f = pieces t s o ∙ ap (λ (T : Stage). fed T o) e ∙ f
 
 red_spelled : spelled Empty (114 ∷ 101 ∷ 100 ∷ []) ≡ Name red_name
-unfolding word_byte digit_of_lem on_digit longer_name_lem
+unfolding word_byte digit_of_lem on_some longer_name_lem
 red_spelled = refl
 
 black_spelled : spelled Empty (98 ∷ 108 ∷ 97 ∷ 99 ∷ 107 ∷ []) ≡ Name black_name
-unfolding word_byte digit_of_lem on_digit longer_name_lem
+unfolding word_byte digit_of_lem on_some longer_name_lem
 black_spelled = refl
 
 module _ (n k : ℕ) (few : n ≤ 65535) (h : k < n) (X : List ℕ) (room : room_for n (length X) ≡ true) (e : Entry) (a b c : ℕ) (v : Bool)
@@ -114,8 +114,8 @@ module _ (n k : ℕ) (few : n ≤ 65535) (h : k < n) (X : List ℕ) (room : room
       follow (stage (S 3 (Number e.value)) Y2) (stage (S 4 (L a)) Y3) (stage (S 6 (L c)) Y5) (link_text a) (link_text b ++ link_text c)
       (then_link 3 (Number e.value) Y2 Y3 a (omega arith) (entry_word n k few h Y2 room2 3 e.value (omega arith) (omega arith)))
       (follow (stage (S 4 (L a)) Y3) (stage (S 5 (L b)) Y4) (stage (S 6 (L c)) Y5) (link_text b) (link_text c)
-      (then_link 4 (L a) Y3 Y4 b (omega arith) (link_word n k few h Y3 room3 4 a (L a) (omega arith) (omega arith) (link_back a la) la))
-      (then_link 5 (L b) Y4 Y5 c (omega arith) (link_word n k few h Y4 room4 5 b (L b) (omega arith) (omega arith) (link_back b lb) lb)))
+      (then_link 4 (L a) Y3 Y4 b (omega arith) (link_word n k few h Y3 room3 4 a (L a) (omega arith) (omega arith) (link_back a la)))
+      (then_link 5 (L b) Y4 Y5 c (omega arith) (link_word n k few h Y4 room4 5 b (L b) (omega arith) (omega arith) (link_back b lb))))
 
   -- the colour and the line's end
   ended : (s : List ℕ) (w : Word) → spelled Empty s ≡ w → fed (stage (S 6 (L c)) Y5) (32 ∷ s) ≡ stage (S 7 (spelled Empty s)) Y6
@@ -128,7 +128,7 @@ module _ (n k : ℕ) (few : n ≤ 65535) (h : k < n) (X : List ℕ) (room : room
       (step_end (S 7 w) Y6 10 refl (line_after n k few h w) ∙ i)
 
   last_link : item (S 6 (L c)) Y5 ≡ stage (S 7 Empty) Y6
-  last_link = link_word n k few h Y5 room5 6 c (L c) (omega arith) (omega arith) (link_back c lc) lc
+  last_link = link_word n k few h Y5 room5 6 c (L c) (omega arith) (omega arith) (link_back c lc)
 
   colour_fed : fed (stage (S 6 (L c)) Y5) (colour_text v) ≡ stage (S 8 Empty) (set_bit Y6 (colours_at_lem n * 8 + k) v)
   unfolding colour_text

@@ -1,4 +1,7 @@
 -- Texts one after the other, and what is printed of an image.
+use Rattle.std.specs.Prelude.{Result, Ok, Err}
+use Rattle.words.specs.Refusals.{refusal_number}
+use Rattle.words.specs.declared.refusal.Refusal.{Refusal}
 use mathlib.Core.Path.{◌≡◌, refl, sym, ◌∙◌}
 use mathlib.Core.Bool.{Bool, true, false}
 use mathlib.Core.List.{List, [], ◌∷◌, ◌++◌, foldl-append}
@@ -10,7 +13,7 @@ use Rattle.words.specs.declared.node.Entry.{Entry}
 use Rattle.lines.specs.Output.{Page, out_byte, out_text, next}
 use Rattle.image_rule.specs.Layout.{count_in_lem, root_in_lem}
 use Rattle.image_rule.specs.Stored.{entry_in_lem, link_in, red_in_lem}
-use Rattle.image_text.specs.Judging.{image_number}
+use Rattle.image_text.specs.Judging.{image_checked}
 use Rattle.image_text.specs.Text.{link_text, entry_text, links_text, colour_text, red_word, black_word, head, row, rows, map_text, refusal_text, image_text_lem}
 
 -- a text, then another
@@ -91,11 +94,11 @@ unfolding map_text
 map_is I n r p q o a b e f = then p q o (head n r) (rows I n 0 n) e f ∙ rw (a, b) refl
 
 -- an image that is accepted, and one that is not
-module _ (I : List ℕ) (no : ℕ) (e : no ≡ image_number I) (p q : Page) where
-  pub image_shown : no ≡ 0 → q ≡ out_text p (map_text I) → q ≡ out_text p (image_text_lem I)
+module _ (I : List ℕ) (c : Result Unit Refusal) (e : c ≡ image_checked I) (p q : Page) where
+  pub image_shown : (x : Unit) → c ≡ Ok x → q ≡ out_text p (map_text I) → q ≡ out_text p (image_text_lem I)
   unfolding image_text_lem
-  image_shown z h = rw (← e, eq-eqb no 0 z) h
+  image_shown x z h = rw (← e, z) h
 
-  pub image_refused : (no ≡ 0 → ⊥) → q ≡ out_text p (refusal_text no) → q ≡ out_text p (image_text_lem I)
+  pub image_refused : (y : Refusal) (m : ℕ) → c ≡ Err y → m ≡ refusal_number y → q ≡ out_text p (refusal_text m) → q ≡ out_text p (image_text_lem I)
   unfolding image_text_lem
-  image_refused z h = rw (← e, ne_eqb no 0 z) h
+  image_refused y m z f h = rw (← e, z, ← f) h

@@ -1,4 +1,5 @@
 -- The text of an accepted image comes to that image: `imagetext | textimage` gives the same bytes.
+use Rattle.std.specs.Prelude.{Some, Ok}
 use mathlib.Core.Path.{◌≡◌, refl, sym, ap, ◌∙◌}
 use mathlib.Core.Bool.{Bool, true, false, cond}
 use mathlib.Core.List.{List, [], ◌∷◌, ◌++◌}
@@ -14,20 +15,19 @@ use Rattle.bitvec.specs.Bits.{bit, bit_at}
 use Rattle.bitvec.specs.Calls.{bytes_for}
 use Rattle.little.specs.Numbers.{number, digits, Bytes}
 use Rattle.little.proofs.Numbers.{number_low}
-use Rattle.lines.specs.Input.{digit_of_lem, on_digit}
+use Rattle.lines.specs.Input.{digit_of_lem, on_some}
 use Rattle.lines.specs.Output.{number as decimals}
 use Rattle.image_rule.specs.Layout.{links_at_lem, colours_at_lem, image_length_lem, count_in_lem, root_in_lem}
 use Rattle.image_rule.specs.Stored.{entry_in_lem, link_in, red_in_lem}
 use Rattle.image_rule.specs.Written.{heading, header}
 use Rattle.image_rule.proofs.Laid.{Laid, laid}
-use Rattle.image_text.specs.Judging.{image_number}
+use Rattle.image_text.specs.Judging.{image_checked}
 use Rattle.image_text.specs.Text.{link_text, root_word, head, row, rows, map_text, image_text_lem}
 use Rattle.image_text.specs.Words.{word_byte, longer_name_lem, small_in, link_said, count_name, root_name}
 use Rattle.image_text.specs.Reading.{Stage, stage, begun, room_for, cleared, framed, framed_in, named, counted, rooted, head_item_lem, item, fed, end_of, last_of, is_complete, judged_as, outcome_of}
 use Rattle.image_text.specs.declared.word.Word.{Word}
 use Rattle.image_text.specs.declared.word.Word.TheVariants.{Empty, Number, Name}
 use Rattle.image_text.specs.declared.reading.State.{State}
-use Rattle.image_text.specs.declared.reading.Outcome.TheVariants.{Done}
 use Rattle.image_text.proofs.Judged.{accepted}
 use Rattle.image_text.proofs.Back.{spelled, number_back, link_back}
 use Rattle.image_text.proofs.Agrees.{Agree, Gains, gains_then, number_gains, fields_gains, bit_gains, begins, bytes_set}
@@ -44,14 +44,14 @@ bit_high (suc j) b (suc m) h l = let e : 2 ^ suc m ≡ 2 ^ m * 2 = pow-suc 2 m i
 
 -- the first line
 abbrev top : ℕ → ℕ → Word → State
-top j n w = record { word = w; place = j; count = n; refused = 0 }
+top j n w = record { word = w; place = j; count = n; checked = Ok tt }
 
 count_spelled : spelled Empty (99 ∷ 111 ∷ 117 ∷ 110 ∷ 116 ∷ []) ≡ Name count_name
-unfolding word_byte digit_of_lem on_digit longer_name_lem
+unfolding word_byte digit_of_lem on_some longer_name_lem
 count_spelled = refl
 
 root_spelled : spelled Empty (114 ∷ 111 ∷ 111 ∷ 116 ∷ []) ≡ Name root_name
-unfolding word_byte digit_of_lem on_digit longer_name_lem
+unfolding word_byte digit_of_lem on_some longer_name_lem
 root_spelled = refl
 
 module _ (n r : ℕ) (X : List ℕ) (few : n ≤ 65535) (low : r < 4294967296) (room : room_for n (length X) ≡ true) where
@@ -60,16 +60,16 @@ module _ (n r : ℕ) (X : List ℕ) (few : n ≤ 65535) (low : r < 4294967296) (
   count_item = refl
 
   number_item : item (top 1 0 (Number n)) X ≡ stage (top 2 n Empty) X
-  unfolding item head_item_lem counted small_in
-  number_item = rw (lt-ltb n U (omega arith), lt-ltb n 4294967296 (omega arith)) refl
+  unfolding item head_item_lem counted on_some small_in
+  number_item = rw (lt-ltb n U (omega arith)) refl
 
   root_item : item (top 2 n (Name root_name)) X ≡ stage (top 3 n Empty) X
   unfolding item head_item_lem named
   root_item = refl
 
-  link_item : (w : Word) → link_said w ≡ r → item (top 3 n w) X ≡ stage (top 4 n Empty) (framed X n r)
-  unfolding item head_item_lem rooted framed_in
-  link_item w e = rw (e, lt-ltb r 4294967296 low, room) refl
+  link_item : (w : Word) → link_said w ≡ Some r → item (top 3 n w) X ≡ stage (top 4 n Empty) (framed X n r)
+  unfolding item head_item_lem rooted on_some framed_in
+  link_item w e = rw (e, room) refl
 
   abbrev count_letters : List ℕ
   count_letters = 99 ∷ 111 ∷ 117 ∷ 110 ∷ 116 ∷ []
@@ -110,7 +110,7 @@ module _ (n r : ℕ) (X : List ℕ) (few : n ≤ 65535) (low : r < 4294967296) (
       ∙ turn (top 2 n (Name root_name)) (top 3 n Empty) X X (spelling r) refl (space 2 (omega arith)) root_item refl (plain_link r))
       (step_end (top 3 n (spelled Empty (spelling r))) X 10 refl line_end ∙ link_item (spelled Empty (spelling r)) (link_back r low)))))
 
-module _ (I : List ℕ) (bytes : Bytes I) (ok : image_number I ≡ 0) where
+module _ (I : List ℕ) (bytes : Bytes I) (ok : image_checked I ≡ Ok tt) where
   abbrev n : ℕ
   n = count_in_lem I
 
@@ -253,7 +253,7 @@ module _ (I : List ℕ) (bytes : Bytes I) (ok : image_number I ≡ 0) where
         }
 
   abbrev slot : ℕ → State
-  slot k = record { word = Empty; place = 4 + k * 8; count = n; refused = 0 }
+  slot k = record { word = Empty; place = 4 + k * 8; count = n; checked = Ok tt }
 
   -- what the lines of m slots from k on leave
   record Came (X : List ℕ) (k m : ℕ) : Type 0 where
@@ -282,10 +282,10 @@ module _ (I : List ℕ) (bytes : Bytes I) (ok : image_number I ≡ 0) where
       let Y : List ℕ = after k h X r in
       let g : Grows X Y k (suc k) = row_grows k h X r in
       let z : Came Y (suc k) m = rows_come m (suc k) (omega arith) Y (omega (arith, r, g.same)) in
-      let a : stage (slot k) X ≡ stage (record { word = Empty; place = 4 + k * 8 + 0; count = n; refused = 0 }) X =
-      (let x : 4 + k * 8 ≡ 4 + k * 8 + 0 = omega arith in λ i. stage (record { word = Empty; place = x i; count = n; refused = 0 }) X) in
-      let b : stage (record { word = Empty; place = 4 + k * 8 + 8; count = n; refused = 0 }) Y ≡ stage (slot (suc k)) Y =
-      (let x : 4 + k * 8 + 8 ≡ 4 + suc k * 8 = omega arith in λ i. stage (record { word = Empty; place = x i; count = n; refused = 0 }) Y) in
+      let a : stage (slot k) X ≡ stage (record { word = Empty; place = 4 + k * 8 + 0; count = n; checked = Ok tt }) X =
+      (let x : 4 + k * 8 ≡ 4 + k * 8 + 0 = omega arith in λ i. stage (record { word = Empty; place = x i; count = n; checked = Ok tt }) X) in
+      let b : stage (record { word = Empty; place = 4 + k * 8 + 8; count = n; checked = Ok tt }) Y ≡ stage (slot (suc k)) Y =
+      (let x : 4 + k * 8 + 8 ≡ 4 + suc k * 8 = omega arith in λ i. stage (record { word = Empty; place = x i; count = n; checked = Ok tt }) Y) in
       record {
         image = z.image;
         came =
@@ -365,11 +365,11 @@ module _ (I : List ℕ) (bytes : Bytes I) (ok : image_number I ≡ 0) where
         begins I bytes Y (omega (arith, framed_long, read.grows.same))
         (read.grows.small (header_gains.small (bytes_set X (image_length_lem n - 1) 0 b (omega arith)))) all_agree
 
-    done : take (length I) Y ≡ I → outcome_of (stage (slot n) Y) ≡ Done (length I)
+    done : take (length I) Y ≡ I → outcome_of (stage (slot n) Y) ≡ Ok (length I)
     unfolding outcome_of is_complete judged_as
     done q =
         let p : take (image_length_lem n) Y ≡ I = ap (λ (k : ℕ). take k Y) (sym lay.whole) ∙ q in
-        rw (fits Y (omega (arith, framed_long, read.grows.same)), eq-eqb (4 + n * 8) (4 + n * 8) refl, p, eq-eqb (image_number I) 0 ok) refl
+        rw (fits Y (omega (arith, framed_long, read.grows.same)), eq-eqb (4 + n * 8) (4 + n * 8) refl, p, ok) refl
 
     -- the stage after the whole text
     abbrev end : Stage
@@ -377,14 +377,14 @@ module _ (I : List ℕ) (bytes : Bytes I) (ok : image_number I ≡ 0) where
 
     end_is : end ≡ stage (slot n) Y
     unfolding image_text_lem last_of
-    end_is = rw (eq-eqb (image_number I) 0 ok, map_fed) refl
+    end_is = rw (ok, map_fed) refl
 
 -- Of the text of I, read into the slice X: it is accepted, and the image is at the front of X.
 pub record ComesBack (I X : List ℕ) : Type 0 where
-  pub done : outcome_of (last_of (fed (stage begun X) (image_text_lem I))) ≡ Done (length I)
+  pub done : outcome_of (last_of (fed (stage begun X) (image_text_lem I))) ≡ Ok (length I)
   pub image : take (length I) (last_of (fed (stage begun X) (image_text_lem I))).image ≡ I
 
-pub comes_back : (I X : List ℕ) → Bytes I → Bytes X → image_number I ≡ 0 → length I ≤ length X → ComesBack I X
+pub comes_back : (I X : List ℕ) → Bytes I → Bytes X → image_checked I ≡ Ok tt → length I ≤ length X → ComesBack I X
 comes_back I X b c ok r =
     record {
       done = ap outcome_of (end_is I b ok X r) ∙ done I b ok X r (back I b ok X r c);

@@ -1,20 +1,23 @@
 -- A text into an image. The words of the text are numbered from 0: `count`, the count, `root`, the
 -- root, and eight for each slot.
--- Letters: n count, r root, s state or text, t stage, i place of a word in the text, o name,
---   k slot, j place of the word among the slot's, b byte, I image (its bytes)
-use Rattle.std.specs.Prelude.{Bool, false, cond, ◌&&◌, ◌||◌, ℕ, ◌+◌, ◌-◌, ◌*◌, ◌/◌, ◌%◌, length, set, take, eqb, ltb, leb}
+-- Letters: n count, s state or text, t stage, i place of a word in the text, o name, k slot,
+--   j place of the word among the slot's, b byte, v number, y why or refusal, I image (its bytes),
+--   r root or result, x nothing
+use Rattle.std.specs.Prelude.{Bool, false, cond, Some, Result, Ok, Err, is_ok, ◌&&◌, ◌||◌, ℕ, ◌+◌, ◌-◌, ◌*◌, ◌/◌, ◌%◌, length, set, take, eqb, ltb, leb}
+use Rattle.std.specs.Option.{option_eq}
 use mathlib.Core.List.{List, foldl}
 use Rattle.std.proofs.lemmas.List.Edits.{sets}
 use Rattle.bitvec.specs.Bits.{set_bit}
 use Rattle.little.specs.Numbers.{digits}
 use Rattle.image_rule.specs.Layout.{links_at_lem, colours_at_lem, image_length_lem}
 use Rattle.image_rule.specs.Written.{header}
-use Rattle.image_text.specs.Judging.{image_number}
-use Rattle.image_text.specs.Words.{word_byte, is_new_lem, is_name_lem, is_number, value_in, small_in, link_said, count_name, root_name, red_name, black_name}
+use Rattle.lines.specs.Input.{on_some}
+use Rattle.image_text.specs.Judging.{image_checked}
+use Rattle.image_text.specs.Words.{word_byte, is_new_lem, is_name_lem, number_in, small_in, link_said, count_name, root_name, red_name, black_name}
 use Rattle.image_text.specs.declared.word.Word.TheVariants.{Empty}
 use Rattle.image_text.specs.declared.reading.State.{State}
-use Rattle.image_text.specs.declared.reading.Outcome.{Outcome}
-use Rattle.image_text.specs.declared.reading.Outcome.TheVariants.{Done, Refused}
+use Rattle.words.specs.declared.refusal.Refusal.{Refusal}
+use Rattle.words.specs.declared.refusal.Refusal.TheVariants.{NoRoom, BadList}
 
 -- the state, and the bytes of the image
 pub record Stage : Type 0 where
@@ -25,14 +28,14 @@ abbrev pub stage : (state : State) (image : List ℕ) → Stage
 stage s I = record { state = s; image = I }
 
 abbrev pub begun : State
-begun = record { word = Empty; place = 0; count = 0; refused = 0 }
+begun = record { word = Empty; place = 0; count = 0; checked = Ok tt }
 
-abbrev pub refused_of : (state : State) (why : ℕ) → State
-refused_of s why = record { word = s.word; place = s.place; count = s.count; refused = why }
+abbrev pub refused_of : (state : State) (why : Refusal) → State
+refused_of s y = record { word = s.word; place = s.place; count = s.count; checked = Err y }
 
 -- the next word, with the count n
 abbrev pub next_of : (state : State) (count : ℕ) → State
-next_of s n = record { word = Empty; place = s.place + 1; count = n; refused = s.refused }
+next_of s n = record { word = Empty; place = s.place + 1; count = n; checked = s.checked }
 
 -- "one space between, LF at each line's end": the byte after word i
 unfoldable pub end_of : (place : ℕ) → ℕ
@@ -44,10 +47,10 @@ room_for n len = cond (ltb 65535 n) false (leb (image_length_lem n) len)
 
 -- the first line: `count`, the count, `root`, the root
 unfoldable pub named : (state : State) (name : ℕ) → State
-named s o = cond (is_name_lem s.word o) (next_of s s.count) (refused_of s 8)
+named s o = cond (is_name_lem s.word o) (next_of s s.count) (refused_of s BadList)
 
 unfoldable pub counted : (state : State) → State
-counted s = cond (ltb (small_in s.word) 4294967296) (next_of s (small_in s.word)) (refused_of s 8)
+counted s = on_some (small_in s.word) (λ n. next_of s n) (refused_of s BadList)
 
 -- the last byte, which may have spare bits, is 0 at first; count, root and table of contents
 abbrev pub cleared : (image : List ℕ) (count : ℕ) → List ℕ
@@ -58,10 +61,10 @@ framed I n r = sets (cleared I n) 0 (header n r)
 
 unfoldable pub framed_in : (state : State) (root : ℕ) (image : List ℕ) → Stage
 framed_in s r I =
-    cond (room_for s.count (length I)) (stage (next_of s s.count) (framed I s.count r)) (stage (refused_of s 1) I)
+    cond (room_for s.count (length I)) (stage (next_of s s.count) (framed I s.count r)) (stage (refused_of s NoRoom) I)
 
 unfoldable pub rooted : (state : State) (image : List ℕ) → Stage
-rooted s I = cond (ltb (link_said s.word) 4294967296) (framed_in s (link_said s.word) I) (stage (refused_of s 8) I)
+rooted s I = on_some (link_said s.word) (λ r. framed_in s r I) (stage (refused_of s BadList) I)
 
 unfoldable pub head_item_lem : (state : State) (image : List ℕ) → Stage
 head_item_lem s I =
@@ -71,25 +74,25 @@ head_item_lem s I =
 
 -- the words of slot k: its number; start, end, value; left, right, parent; colour
 unfoldable pub numbered : (state : State) (slot : ℕ) → State
-numbered s k = cond (eqb (small_in s.word) k) (next_of s s.count) (refused_of s 8)
+numbered s k = cond (option_eq eqb (small_in s.word) (Some k)) (next_of s s.count) (refused_of s BadList)
 
 unfoldable pub entry_field_lem : (state : State) (slot place : ℕ) (image : List ℕ) → Stage
 entry_field_lem s k j I =
-    cond (is_number s.word)
-    (stage (next_of s s.count) (sets I (44 + k * 24 + (j - 1) * 8) (digits 8 (value_in s.word))))
-    (stage (refused_of s 8) I)
+    on_some (number_in s.word)
+    (λ v. stage (next_of s s.count) (sets I (44 + k * 24 + (j - 1) * 8) (digits 8 v)))
+    (stage (refused_of s BadList) I)
 
 unfoldable pub link_field_lem : (state : State) (slot place : ℕ) (image : List ℕ) → Stage
 link_field_lem s k j I =
-    cond (ltb (link_said s.word) 4294967296)
-    (stage (next_of s s.count) (sets I (links_at_lem s.count + k * 12 + (j - 4) * 4) (digits 4 (link_said s.word))))
-    (stage (refused_of s 8) I)
+    on_some (link_said s.word)
+    (λ v. stage (next_of s s.count) (sets I (links_at_lem s.count + k * 12 + (j - 4) * 4) (digits 4 v)))
+    (stage (refused_of s BadList) I)
 
 unfoldable pub colour_field_lem : (state : State) (slot : ℕ) (image : List ℕ) → Stage
 colour_field_lem s k I =
     cond (is_name_lem s.word red_name || is_name_lem s.word black_name)
     (stage (next_of s s.count) (set_bit I (colours_at_lem s.count * 8 + k) (is_name_lem s.word red_name)))
-    (stage (refused_of s 8) I)
+    (stage (refused_of s BadList) I)
 
 unfoldable pub field : (state : State) (slot place : ℕ) (image : List ℕ) → Stage
 field s k j I =
@@ -98,8 +101,8 @@ field s k j I =
 unfoldable pub row_item_lem : (state : State) (image : List ℕ) → Stage
 row_item_lem s I =
     cond (room_for s.count (length I))
-    (cond (ltb ((s.place - 4) / 8) s.count) (field s ((s.place - 4) / 8) ((s.place - 4) % 8) I) (stage (refused_of s 8) I))
-    (stage (refused_of s 1) I)
+    (cond (ltb ((s.place - 4) / 8) s.count) (field s ((s.place - 4) / 8) ((s.place - 4) % 8) I) (stage (refused_of s BadList) I))
+    (stage (refused_of s NoRoom) I)
 
 -- a complete word
 unfoldable pub item : (state : State) (image : List ℕ) → Stage
@@ -107,12 +110,12 @@ item s I = cond (ltb s.place 4) (head_item_lem s I) (row_item_lem s I)
 
 -- one more byte of a word
 abbrev pub longer : (state : State) (byte : ℕ) → State
-longer s b = record { word = word_byte s.word b; place = s.place; count = s.count; refused = s.refused }
+longer s b = record { word = word_byte s.word b; place = s.place; count = s.count; checked = s.checked }
 
 -- one byte, and a piece of the text; the first refusal stays
 unfoldable pub stepped : (stage : Stage) (byte : ℕ) → Stage
 stepped t b =
-    cond (eqb t.state.refused 0)
+    cond (is_ok t.state.checked)
     (cond (eqb b (end_of t.state.place)) (item t.state t.image) (stage (longer t.state b) t.image))
     t
 
@@ -127,12 +130,16 @@ last_of t = cond (is_new_lem t.state.word) t (stepped t 10)
 unfoldable pub is_complete : (state : State) (len : ℕ) → Bool
 is_complete s len = cond (room_for s.count len) (is_new_lem s.word && eqb s.place (4 + s.count * 8)) false
 
--- "where the image that the text gives would be refused"
-unfoldable pub judged_as : (image : List ℕ) → Outcome
-judged_as I = cond (eqb (image_number I) 0) (Done (length I)) (Refused (image_number I))
+-- nothing wrong, and then r; or the refusal
+abbrev pub and_then : (checked : Result Unit Refusal) (result : Result ℕ Refusal) → Result ℕ Refusal
+and_then (Ok x) r = r
+and_then (Err y) r = Err y
 
-unfoldable pub outcome_of : (stage : Stage) → Outcome
+-- "where the image that the text gives would be refused"
+unfoldable pub judged_as : (image : List ℕ) → Result ℕ Refusal
+judged_as I = and_then (image_checked I) (Ok (length I))
+
+unfoldable pub outcome_of : (stage : Stage) → Result ℕ Refusal
 outcome_of t =
-    cond (eqb t.state.refused 0)
-    (cond (is_complete t.state (length t.image)) (judged_as (take (image_length_lem t.state.count) t.image)) (Refused 8))
-    (Refused t.state.refused)
+    and_then t.state.checked
+    (cond (is_complete t.state (length t.image)) (judged_as (take (image_length_lem t.state.count) t.image)) (Err BadList))

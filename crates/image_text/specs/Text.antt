@@ -1,14 +1,16 @@
 -- The text of an image: a line with count and root, then a line for each slot with its start, end,
 -- value, left, right, parent and colour. `-` is U.
 -- Letters: n count, r root, a left link, b right link, c parent, e entry, I image (its bytes),
---   s slot, m slots to print, k link, v red (whether the slot is)
-use Rattle.std.specs.Prelude.{Bool, cond, List, [], ◌∷◌, ◌++◌, ℕ, zero, suc, eqb}
+--   s slot, m slots to print, k link, v red (whether the slot is), x nothing, y refusal
+use Rattle.std.specs.Prelude.{Bool, cond, Result, Ok, Err, List, [], ◌∷◌, ◌++◌, ℕ, zero, suc, eqb}
 use Rattle.words.specs.Ix.{U}
 use Rattle.words.specs.declared.node.Entry.{Entry}
 use Rattle.lines.specs.Output.{number, next}
 use Rattle.image_rule.specs.Layout.{count_in_lem, root_in_lem}
 use Rattle.image_rule.specs.Stored.{entry_in_lem, link_in, red_in_lem}
-use Rattle.image_text.specs.Judging.{image_number}
+use Rattle.words.specs.Refusals.{refusal_number}
+use Rattle.words.specs.declared.refusal.Refusal.{Refusal}
+use Rattle.image_text.specs.Judging.{image_checked}
 
 -- a space and a link
 unfoldable pub link_text : (link : ℕ) → List ℕ
@@ -60,5 +62,9 @@ unfoldable pub refusal_text : (why : ℕ) → List ℕ
 refusal_text why = refused_word ++ (number why ++ (10 ∷ []))  -- "\n"
 
 -- what is printed of an image: `refused N` alone where it is refused
+abbrev pub checked_text : (checked : Result Unit Refusal) (image : List ℕ) → List ℕ
+checked_text (Ok x) I = map_text I
+checked_text (Err y) I = refusal_text (refusal_number y)
+
 unfoldable pub image_text_lem : (image : List ℕ) → List ℕ
-image_text_lem I = cond (eqb (image_number I) 0) (map_text I) (refusal_text (image_number I))
+image_text_lem I = checked_text (image_checked I) I

@@ -1,16 +1,16 @@
 -- A word of a text, byte by byte: a decimal number of 64 bits, or a name.
 -- Letters: w word, d digit, b byte, v value, x longer value or other name, o name, s bytes
-use Rattle.std.specs.Prelude.{Bool, true, false, cond, ℕ, ◌+◌, ◌*◌, eqb, ltb}
+use Rattle.std.specs.Prelude.{Bool, true, false, cond, Option, None, Some, ℕ, ◌+◌, ◌*◌, eqb, ltb}
 use mathlib.Core.List.{List, [], ◌∷◌, foldl}
 use Rattle.words.specs.Ix.{U}
-use Rattle.lines.specs.Input.{digit_of_lem, appended, on_digit, on_value}
+use Rattle.lines.specs.Input.{digit_of_lem, appended, on_some}
 use Rattle.image_text.specs.declared.word.Word.{Word}
 use Rattle.image_text.specs.declared.word.Word.TheVariants.{Empty, Number, Name, Wrong}
 
 -- one more digit
 abbrev pub word_digit : (word : Word) (digit : ℕ) → Word
 word_digit Empty d = Number d
-word_digit (Number v) d = on_value (appended v d) (λ x. Number x) Wrong
+word_digit (Number v) d = on_some (appended v d) (λ x. Number x) Wrong
 word_digit (Name o) d = Wrong
 word_digit Wrong d = Wrong
 
@@ -25,7 +25,7 @@ word_letter (Name o) b = longer_name_lem o b
 word_letter Wrong b = Wrong
 
 unfoldable pub word_byte : (word : Word) (byte : ℕ) → Word
-word_byte w b = on_digit (digit_of_lem b) (λ d. word_digit w d) (word_letter w b)
+word_byte w b = on_some (digit_of_lem b) (λ d. word_digit w d) (word_letter w b)
 
 -- a name as one number: its letters are digits of base 256, after a 1
 abbrev pub name_of : (bytes : List ℕ) → ℕ
@@ -59,22 +59,20 @@ is_name_lem (Number v) o = false
 is_name_lem (Name x) o = eqb x o
 is_name_lem Wrong o = false
 
-abbrev pub is_number : (word : Word) → Bool
-is_number Empty = false
-is_number (Number v) = true
-is_number (Name o) = false
-is_number Wrong = false
+abbrev pub number_in : (word : Word) → Option ℕ
+number_in Empty = None
+number_in (Number v) = Some v
+number_in (Name o) = None
+number_in Wrong = None
 
-abbrev pub value_in : (word : Word) → ℕ
-value_in Empty = 0
-value_in (Number v) = v
-value_in (Name o) = 0
-value_in Wrong = 0
+-- a number below U
+abbrev pub below_U : (number : Option ℕ) → Option ℕ
+below_U None = None
+below_U (Some v) = cond (ltb v U) (Some v) None
 
--- a number below U; 4294967296 for any other word
-unfoldable pub small_in : (word : Word) → ℕ
-small_in w = cond (is_number w) (cond (ltb (value_in w) U) (value_in w) 4294967296) 4294967296
+unfoldable pub small_in : (word : Word) → Option ℕ
+small_in w = below_U (number_in w)
 
 -- a link: U for `-`
-unfoldable pub link_said : (word : Word) → ℕ
-link_said w = cond (is_name_lem w dash_name) U (small_in w)
+unfoldable pub link_said : (word : Word) → Option ℕ
+link_said w = cond (is_name_lem w dash_name) (Some U) (small_in w)

@@ -6,12 +6,13 @@ ghost use Rattle.image_rule.specs.Layout.{image_length_lem};
 ghost use Rattle.image_text.specs.Reading.{stage, begun, next_of, refused_of, end_of, room_for, framed, framed_in, named, counted, rooted};
 ghost use Rattle.image_text.specs.Reading.{numbered, entry_field_lem, link_field_lem, colour_field_lem, field, row_item_lem, head_item_lem, item, longer, stepped, fed, is_complete, last_of, outcome_of, judged_as};
 
-use crate::judging::number_of;
-use crate::word::{NONE, Word};
+use crate::judging::check;
+use crate::word::Word;
 use bitvec::put_bit;
 use image::layout::image_length;
 use image::write::put_header;
 use little::{put_u32, put_u64};
+use words::refusal::Refusal;
 
 const LINE_END: u8 = 10;
 
@@ -26,20 +27,14 @@ const RED: u64 = 24274276;
 
 const BLACK: u64 = 1522236744555;
 
-// The word so far, its number in the text, the count, and the first refusal's number, or 0.
+// The word so far, its number in the text, the count, and whether the words before it are right, or
+// the first refusal.
 #[derive(Clone, Copy)]
 pub struct State {
     word: Word,
     place: u64,
     count: u64,
-    refused: u64,
-}
-
-// What a text came to: the length of its image, or the number of its refusal.
-#[derive(Clone, Copy)]
-pub enum Outcome {
-    Done(usize),
-    Refused(u64),
+    checked: Result<(), Refusal>,
 }
 
 // Returns the byte that ends a word.
@@ -70,16 +65,12 @@ fn frame(image: &mut [u8], count: u64, root: u64)
     put_header(image, count, root);
 }
 
-// What the image of an accepted text is: judged, and then its length.
-fn judge_image(image: &[u8]) -> Outcome
+// What the image of a whole text comes to: its length, if it is accepted.
+fn judge_image(image: &[u8]) -> Result<usize, Refusal>
     ensures { result ≡ judged_as image.now }
 {
-    let why = number_of(image);
-    if why == 0 {
-        Outcome::Done(image.len())
-    } else {
-        Outcome::Refused(why)
-    }
+    check(image)?;
+    Ok(image.len())
 }
 
 impl State {
@@ -91,11 +82,11 @@ impl State {
             word: Word::Empty,
             place: 0,
             count: 0,
-            refused: 0,
+            checked: Ok(()),
         }
     }
 
-    fn refuse(self, why: u64) -> State
+    fn refuse(self, why: Refusal) -> State
         ensures { result ≡ refused_of self why }
     {
         let word = self.word;
@@ -103,7 +94,7 @@ impl State {
             word,
             place: self.place,
             count: self.count,
-            refused: why,
+            checked: Err(why),
         }
     }
 
@@ -112,11 +103,12 @@ impl State {
         requires { self.place + 1 < 18446744073709551616 }
         ensures { result ≡ next_of self count }
     {
+        let checked = self.checked;
         State {
             word: Word::Empty,
             place: self.place + 1,
             count,
-            refused: self.refused,
+            checked,
         }
     }
 
@@ -129,7 +121,7 @@ impl State {
         if word.is_name(name) {
             self.next(self.count)
         } else {
-            self.refuse(8)
+            self.refuse(Refusal::BadList)
         }
     }
 
@@ -139,11 +131,9 @@ impl State {
         ensures { result ≡ counted self }
     {
         let word = self.word;
-        let n = word.small();
-        if n < NONE {
-            self.next(n)
-        } else {
-            self.refuse(8)
+        match word.small() {
+            Some(n) => self.next(n),
+            None => self.refuse(Refusal::BadList),
         }
     }
 
@@ -157,7 +147,7 @@ impl State {
             frame(image, count, root);
             self.next(count)
         } else {
-            self.refuse(1)
+            self.refuse(Refusal::NoRoom)
         }
     }
 
@@ -167,11 +157,9 @@ impl State {
         ensures { stage result image.new ≡ rooted self image.old }
     {
         let word = self.word;
-        let root = word.link();
-        if root < NONE {
-            self.framed(root, image)
-        } else {
-            self.refuse(8)
+        match word.link() {
+            Some(root) => self.framed(root, image),
+            None => self.refuse(Refusal::BadList),
         }
     }
 
@@ -197,10 +185,10 @@ impl State {
         ensures { result ≡ numbered self slot }
     {
         let word = self.word;
-        if word.small() == slot {
+        if word.small() == Some(slot) {
             self.next(self.count)
         } else {
-            self.refuse(8)
+            self.refuse(Refusal::BadList)
         }
     }
 
@@ -210,12 +198,11 @@ impl State {
         ensures { stage result image.new ≡ entry_field_lem self slot j image.old }
     {
         let word = self.word;
-        if word.is_number() {
-            put_u64(image, (44 + slot * 24 + (j - 1) * 8) as usize, word.value());
-            self.next(self.count)
-        } else {
-            self.refuse(8)
-        }
+        let Some(x) = word.number() else {
+            return self.refuse(Refusal::BadList);
+        };
+        put_u64(image, (44 + slot * 24 + (j - 1) * 8) as usize, x);
+        self.next(self.count)
     }
 
     // The word must be a link of the slot: the left one at j = 4, the right one, the parent.
@@ -224,17 +211,15 @@ impl State {
         ensures { stage result image.new ≡ link_field_lem self slot j image.old }
     {
         let word = self.word;
-        let link = word.link();
-        if link < NONE {
-            put_u32(
-                image,
-                (44 + self.count * 24 + slot * 12 + (j - 4) * 4) as usize,
-                link,
-            );
-            self.next(self.count)
-        } else {
-            self.refuse(8)
-        }
+        let Some(link) = word.link() else {
+            return self.refuse(Refusal::BadList);
+        };
+        put_u32(
+            image,
+            (44 + self.count * 24 + slot * 12 + (j - 4) * 4) as usize,
+            link,
+        );
+        self.next(self.count)
     }
 
     // The word must be the slot's colour.
@@ -249,7 +234,7 @@ impl State {
             put_bit(image, ((44 + self.count * 36) * 8 + slot) as usize, red);
             self.next(self.count)
         } else {
-            self.refuse(8)
+            self.refuse(Refusal::BadList)
         }
     }
 
@@ -280,10 +265,10 @@ impl State {
             if slot < count {
                 self.field(slot, (self.place - 4) % 8, image)
             } else {
-                self.refuse(8)
+                self.refuse(Refusal::BadList)
             }
         } else {
-            self.refuse(1)
+            self.refuse(Refusal::NoRoom)
         }
     }
 
@@ -303,11 +288,12 @@ impl State {
         ensures { result ≡ longer self b }
     {
         let word = self.word;
+        let checked = self.checked;
         State {
             word: word.byte(b),
             place: self.place,
             count: self.count,
-            refused: self.refused,
+            checked,
         }
     }
 
@@ -315,7 +301,8 @@ impl State {
     fn byte(self, b: u8, image: &mut [u8]) -> State
         ensures { stage result image.new ≡ stepped (stage self image.old) b }
     {
-        if self.refused == 0 {
+        let checked = self.checked;
+        if checked.is_ok() {
             if b == end_of(self.place) {
                 self.item(image)
             } else {
@@ -331,10 +318,7 @@ impl State {
         ensures { stage result image.new ≡ fed (stage self image.old) piece.now }
     {
         let mut state = self;
-        let mut i = 0;
-        while i < piece.len() {
-            let b = piece[i];
-            i += 1;
+        for &b in piece {
             state = state.byte(b, image);
         }
         state
@@ -366,22 +350,21 @@ impl State {
     }
 
     // Judges the image, if all slots are read.
-    fn judged(self, image: &[u8]) -> Outcome
+    fn judged(self, image: &[u8]) -> Result<usize, Refusal>
         ensures { result ≡ outcome_of (stage self image.now) }
     {
-        if self.refused != 0 {
-            return Outcome::Refused(self.refused);
-        }
+        self.checked?;
         if self.is_complete(image.len()) {
             let n = image_length(self.count) as usize;
             judge_image(&image[..n])
         } else {
-            Outcome::Refused(8)
+            Err(Refusal::BadList)
         }
     }
 
-    // Ends the text. The image is at the front of the slice, if the text is accepted.
-    pub fn finish(self, image: &mut [u8]) -> Outcome
+    // Ends the text. If it is accepted, its image is at the front of the slice, and the image's length
+    // is returned.
+    pub fn finish(self, image: &mut [u8]) -> Result<usize, Refusal>
         ensures { (result ≡ outcome_of (last_of (stage self image.old))) × (image.new ≡ (last_of (stage self image.old)).image) }
     {
         let state = self.end_last(image);

@@ -1,13 +1,9 @@
 // Reads a word of a text byte by byte: a number, or a name of at most seven letters.
 ghost use Rattle.std.specs.Prelude.{◌≡◌};
-ghost use Rattle.image_text.specs.Words.{word_digit, longer_name_lem, word_letter, word_byte, is_new_lem, is_name_lem, is_number, value_in, small_in, link_said};
+ghost use Rattle.image_text.specs.Words.{word_digit, longer_name_lem, word_letter, word_byte, is_new_lem, is_name_lem, number_in, small_in, link_said};
 
-use lines::input::{Digit, Value, append_digit, digit_of};
+use lines::input::{append_digit, digit_of};
 use words::ix::U;
-use words::numbers::wide;
-
-// No slot, no count and no link: what `small` and `link` return for any other word.
-pub(crate) const NONE: u64 = 4294967296;
 
 // The name of the undefined link, `-`: a 1 and then its letters, as digits of base 256.
 const DASH: u64 = 301;
@@ -26,8 +22,8 @@ fn longer_number(value: u64, d: u64) -> Word
     ensures { result ≡ word_digit (Word.Number value) d }
 {
     match append_digit(value, d) {
-        Value::Is(v) => Word::Number(v),
-        Value::Over => Word::Wrong,
+        Some(v) => Word::Number(v),
+        None => Word::Wrong,
     }
 }
 
@@ -36,7 +32,7 @@ fn longer_name(name: u64, b: u8) -> Word
     ensures { result ≡ longer_name_lem name b }
 {
     if name < 72057594037927936 {
-        Word::Name(name * 256 + wide(b))
+        Word::Name(name * 256 + u64::from(b))
     } else {
         Word::Wrong
     }
@@ -58,7 +54,7 @@ impl Word {
         ensures { result ≡ word_letter self b }
     {
         match self {
-            Word::Empty => Word::Name(256 + wide(b)),
+            Word::Empty => Word::Name(256 + u64::from(b)),
             Word::Number(_) => Word::Wrong,
             Word::Name(v) => longer_name(v, b),
             Word::Wrong => Word::Wrong,
@@ -70,8 +66,8 @@ impl Word {
         ensures { result ≡ word_byte self b }
     {
         match digit_of(b) {
-            Digit::Is(d) => self.with_digit(d),
-            Digit::Not => self.with_letter(b),
+            Some(d) => self.with_digit(d),
+            None => self.with_letter(b),
         }
     }
 
@@ -79,12 +75,7 @@ impl Word {
     pub(crate) fn is_new(self) -> bool
         ensures { result ≡ is_new_lem self }
     {
-        match self {
-            Word::Empty => true,
-            Word::Number(_) => false,
-            Word::Name(_) => false,
-            Word::Wrong => false,
-        }
+        matches!(self, Word::Empty)
     }
 
     // Whether the word is this name.
@@ -92,51 +83,37 @@ impl Word {
         ensures { result ≡ is_name_lem self name }
     {
         match self {
-            Word::Empty => false,
-            Word::Number(_) => false,
             Word::Name(v) => v == name,
-            Word::Wrong => false,
+            Word::Empty | Word::Number(_) | Word::Wrong => false,
         }
     }
 
-    pub(crate) fn is_number(self) -> bool
-        ensures { result ≡ is_number self }
+    // Returns the number, if the word is one.
+    pub(crate) fn number(self) -> Option<u64>
+        ensures { result ≡ number_in self }
     {
         match self {
-            Word::Empty => false,
-            Word::Number(_) => true,
-            Word::Name(_) => false,
-            Word::Wrong => false,
+            Word::Number(v) => Some(v),
+            Word::Empty | Word::Name(_) | Word::Wrong => None,
         }
     }
 
-    // Returns the number, and 0 if the word is no number.
-    pub(crate) fn value(self) -> u64
-        ensures { result ≡ value_in self }
-    {
-        match self {
-            Word::Empty => 0,
-            Word::Number(v) => v,
-            Word::Name(_) => 0,
-            Word::Wrong => 0,
-        }
-    }
-
-    // Returns the number if it is below U, and NONE for any other word.
-    pub(crate) fn small(self) -> u64
+    // Returns the number, if the word is one below U.
+    pub(crate) fn small(self) -> Option<u64>
         ensures { result ≡ small_in self }
     {
-        if self.is_number() {
-            if self.value() < U { self.value() } else { NONE }
-        } else {
-            NONE
-        }
+        let v = self.number()?;
+        if v < U { Some(v) } else { None }
     }
 
     // Returns the link: U for `-`, else as `small`.
-    pub(crate) fn link(self) -> u64
+    pub(crate) fn link(self) -> Option<u64>
         ensures { result ≡ link_said self }
     {
-        if self.is_name(DASH) { U } else { self.small() }
+        if self.is_name(DASH) {
+            Some(U)
+        } else {
+            self.small()
+        }
     }
 }

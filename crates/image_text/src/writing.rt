@@ -5,7 +5,7 @@ ghost use Rattle.image_rule.specs.Layout.{Bodies, laid_out_lem, count_in_lem};
 ghost use Rattle.lines.specs.Output.{page, out_text};
 ghost use Rattle.image_text.specs.Text.{link_text, head, entry_text, links_text, colour_text, row, rows, map_text, refusal_text, image_text_lem};
 
-use crate::judging::number_of;
+use crate::judging::check;
 use image::layout::{count_in, root_in};
 use image::stored::{entry_in, link_in, red_in};
 use lines::output::{put_byte, put_next, put_number, put_text};
@@ -97,10 +97,8 @@ fn put_rows(streams: &Streams, out: &mut [u8], at: usize, image: &[u8], count: u
     ensures { page result out.new ≡ out_text (page at out.old) (rows image.now count 0 count) }
 {
     let mut to = at;
-    let mut slot = 0;
-    while slot < count {
+    for slot in 0..count {
         to = put_row(streams, out, to, image, count, slot);
-        slot += 1;
     }
     to
 }
@@ -128,10 +126,8 @@ pub fn put_refusal(streams: &Streams, out: &mut [u8], why: u64) -> usize
 pub fn put_image(streams: &Streams, out: &mut [u8], image: &[u8]) -> usize
     ensures { page result out.new ≡ out_text (page 0 out.old) (image_text_lem image.now) }
 {
-    let why = number_of(image);
-    if why == 0 {
-        put_map(streams, out, image)
-    } else {
-        put_refusal(streams, out, why)
+    match check(image) {
+        Ok(()) => put_map(streams, out, image),
+        Err(why) => put_refusal(streams, out, why.number()),
     }
 }

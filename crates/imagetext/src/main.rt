@@ -7,25 +7,23 @@ use image_text::writing::{put_image, put_refusal};
 use lines::output;
 use lines::streams::Streams;
 use lines::whole::read_all;
+use words::refusal::Refusal;
 
 // Prints the first n bytes as an image. If they fill the input, it is longer than any image that
 // fits.
 fn print(streams: &Streams, input: &[u8], n: usize, out: &mut [u8]) {
-    if n < input.len() {
-        let end = put_image(streams, out, &input[..n]);
-        output::flush(streams, out, end);
+    let end = if n < input.len() {
+        put_image(streams, out, &input[..n])
     } else {
-        let end = put_refusal(streams, out, 1);
-        output::flush(streams, out, end);
-    }
+        put_refusal(streams, out, Refusal::NoRoom.number())
+    };
+    output::flush(streams, out, end);
 }
 
 fn run(streams: &Streams, input: &mut [u8], out: &mut [u8]) {
-    let got = read_all(streams, input);
-    if got.failed {
-        output::complain(streams, b"imagetext", b"read");
-    } else {
-        print(streams, input, got.len, out);
+    match read_all(streams, input) {
+        Ok(n) => print(streams, input, n, out),
+        Err(_) => output::complain(streams, b"imagetext", b"read"),
     }
 }
 

@@ -7,33 +7,31 @@ use native.Mathlib.Omega.{arith}
 use native.Mathlib.Nat.{pow-suc}
 use lib.Dec.{ltb}
 use borrow.Author.Tests.{lt-ltb, le-ltb, ltb-true}
-use Rattle.lines.specs.Input.{digit_of_lem, on_digit, appended, on_value}
+use Rattle.lines.specs.Input.{digit_of_lem, on_some, appended}
 use Rattle.lines.specs.Output.{decimal, number, next}
-use Rattle.plan_text.specs.Line.{first_digit_lem, longer, number_byte_lem, byte_rule, end_rule}
-use Rattle.plan_text.specs.declared.line.Before.{Before}
-use Rattle.plan_text.specs.declared.line.Before.TheVariants.{Nothing, Old}
+use Rattle.plan_text.specs.Line.{goes_to, first_digit_lem, longer, number_byte_lem, byte_rule, end_rule}
+use Rattle.std.specs.Prelude.{Option, None, Some}
 use Rattle.plan_text.specs.declared.line.Line.{Line}
 use Rattle.plan_text.specs.declared.line.Line.TheVariants.{Start, Number, Gap}
-use Rattle.plan_text.specs.declared.line.Said.TheVariants.{Move}
 
 -- a line with the bytes of a text after it
 abbrev pub spelled : Line → List ℕ → Line
 spelled l c = foldl byte_rule l c
 
-first_is : (g : Before) (d : ℕ) → d < 10 → first_digit_lem g (48 + d) ≡ Number g d
-unfolding first_digit_lem digit_of_lem on_digit
+first_is : (g : Option ℕ) (d : ℕ) → d < 10 → first_digit_lem g (48 + d) ≡ Number g d
+unfolding first_digit_lem digit_of_lem on_some
 first_is g d h =
     let e : 48 + d - 48 ≡ d = omega arith in
     rw (le-ltb (48 + d) 48 (omega arith), le-ltb 57 (48 + d) (omega arith), e) refl
 
-next_is : (g : Before) (v d : ℕ) → d < 10 → v * 10 + d < 18446744073709551616 → byte_rule (Number g v) (48 + d) ≡ Number g (v * 10 + d)
-unfolding number_byte_lem digit_of_lem on_digit longer appended on_value
+next_is : (g : Option ℕ) (v d : ℕ) → d < 10 → v * 10 + d < 18446744073709551616 → byte_rule (Number g v) (48 + d) ≡ Number g (v * 10 + d)
+unfolding number_byte_lem digit_of_lem on_some longer appended
 next_is g v d h k =
     let e : 48 + d - 48 ≡ d = omega arith in
     rw (le-ltb (48 + d) 48 (omega arith), le-ltb 57 (48 + d) (omega arith), e, lt-ltb (v * 10 + d) 18446744073709551616 k) refl
 
 -- a number where one has to begin
-module _ (l : Line) (g : Before) (f : (b : ℕ) → byte_rule l b ≡ first_digit_lem g b) where
+module _ (l : Line) (g : Option ℕ) (f : (b : ℕ) → byte_rule l b ≡ first_digit_lem g b) where
   decimal_back : (m n : ℕ) → n < 10 ^ suc m → n < 18446744073709551616 → spelled l (decimal (suc m) n) ≡ Number g n
   unfolding decimal
   decimal_back zero n h k = let d : n < 10 = omega arith in rw (lt-ltb n 10 d) (f (48 + n) ∙ first_is g n d)
@@ -55,10 +53,10 @@ module _ (l : Line) (g : Before) (f : (b : ℕ) → byte_rule l b ≡ first_digi
   number_back n h = decimal_back 19 n (omega arith) h
 
 -- the line `s v`, as it is printed, says that slot s goes to slot v
-pub row_says : (s v : ℕ) → s < 18446744073709551616 → v < 18446744073709551616 → end_rule (spelled Start (number s ++ next v)) ≡ Move s v
-unfolding number_byte_lem digit_of_lem on_digit
+pub row_says : (s v : ℕ) → s < 18446744073709551616 → v < 18446744073709551616 → end_rule (spelled Start (number s ++ next v)) ≡ Some (goes_to s v)
+unfolding number_byte_lem digit_of_lem on_some
 row_says s v h k =
     ap end_rule
     (foldl-append byte_rule Start (number s) (next v)
-    ∙ ap (λ (l : Line). spelled l (next v)) (number_back Start Nothing (λ b. refl) s h)
-    ∙ number_back (Gap s) (Old s) (λ b. refl) v k)
+    ∙ ap (λ (l : Line). spelled l (next v)) (number_back Start None (λ b. refl) s h)
+    ∙ number_back (Gap s) (Some s) (λ b. refl) v k)

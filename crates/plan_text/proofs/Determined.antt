@@ -1,5 +1,6 @@
 -- Any two answers, and any two contents of each lent slice at exit, that a promise allows are
 -- equal.
+use Rattle.std.specs.Prelude.{Result}
 use mathlib.Core.Path.{◌≡◌, sym, ap, ◌∙◌}
 use mathlib.Core.List.{List}
 use Prim.Native.Nat.{ℕ}
@@ -30,19 +31,17 @@ use Rattle.plan_text.proofs.reading.State.feed.Reads as feed-reads
 use Rattle.plan_text.proofs.reading.State.feed.Kinds as feed-kinds
 use Rattle.plan_text.proofs.reading.State.finish.Reads as finish-reads
 use Rattle.plan_text.proofs.reading.State.finish.Kinds as finish-kinds
-use Rattle.plan_text.proofs.reading.Flaw.is_nothing.Reads as is-nothing-reads
-use Rattle.plan_text.proofs.reading.Flaw.is_nothing.Kinds as is-nothing-kinds
 
--- a page is its place and its bytes; a shelf its flaw, plan and lines; a stage has a state's parts
+-- a page is its place and its bytes; a shelf its check, plan and lines; a stage has a state's parts
 same_page : (p : Page) (r r' : ℕ) (o o' : List ℕ) → page r o ≡ p → page r' o' ≡ p → (r ≡ r') × (o ≡ o')
 same_page p r r' o o' e f = (ap (λ (x : Page). x.at) (e ∙ sym f), ap (λ (x : Page). x.out) (e ∙ sym f))
 
-same_shelf : (h : Shelf) (r r' : Flaw) (P P' L L' : List ℕ) → shelf r P L ≡ h → shelf r' P' L' ≡ h → (r ≡ r') × (P ≡ P') × (L ≡ L')
+same_shelf : (h : Shelf) (r r' : Result Unit Flaw) (P P' L L' : List ℕ) → shelf r P L ≡ h → shelf r' P' L' ≡ h → (r ≡ r') × (P ≡ P') × (L ≡ L')
 same_shelf h r r' P P' L L' e f =
-    (ap (λ (x : Shelf). x.flaw) (e ∙ sym f), ap (λ (x : Shelf). x.plan) (e ∙ sym f), ap (λ (x : Shelf). x.lines) (e ∙ sym f))
+    (ap (λ (x : Shelf). x.checked) (e ∙ sym f), ap (λ (x : Shelf). x.plan) (e ∙ sym f), ap (λ (x : Shelf). x.lines) (e ∙ sym f))
 
 abbrev state_of_lem : Stage → State
-state_of_lem t = record { line = t.line; number = t.number; flaw = t.shelf.flaw }
+state_of_lem t = record { line = t.line; number = t.number; checked = t.shelf.checked }
 
 same_stage : (t : Stage) (r r' : State) (P P' L L' : List ℕ) → stage r P L ≡ t → stage r' P' L' ≡ t → (r ≡ r') × (P ≡ P') × (L ≡ L')
 same_stage t r r' P P' L L' e f =
@@ -97,8 +96,3 @@ pub finish-determined :
     (κs : Lfts 2) (a : K.Dens κs finish-kinds.ps) (r r' : (K.res_t finish-kinds.r κs).Denot) (s s' : AtExit (K.ended_of 2 finish-kinds.ps finish-kinds.r) κs)
     → finish-reads.Post κs a r s → finish-reads.Post κs a r' s' → (r ≡ r') × (s.1.0.now ≡ s'.1.0.now) × (s.1.1.0.now ≡ s'.1.1.0.now)
 finish-determined κs a r r' s s' p q = same_shelf _ r r' _ _ _ _ p q
-
-pub is-nothing-determined :
-    (κs : Lfts 0) (a : K.Dens κs is-nothing-kinds.ps) (r r' : (K.res_t is-nothing-kinds.r κs).Denot) (s s' : AtExit (K.ended_of 0 is-nothing-kinds.ps is-nothing-kinds.r) κs)
-    → is-nothing-reads.Post κs a r s → is-nothing-reads.Post κs a r' s' → r ≡ r'
-is-nothing-determined κs a r r' s s' p q = p ∙ sym q

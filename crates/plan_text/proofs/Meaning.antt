@@ -1,5 +1,6 @@
 -- What an accepted text comes to: a plan that names each slot below the count once, and that has
 -- what each line says.
+use Rattle.std.specs.Prelude.{Option, None, Some, Result, Ok, Err, is_ok}
 use mathlib.Core.Path.{◌≡◌, refl, sym, ap, ◌∙◌}
 use mathlib.Core.Bool.{Bool, true, false, cond}
 use mathlib.Core.List.{List, [], ◌∷◌, ◌++◌, foldl, foldl-append}
@@ -14,12 +15,11 @@ use Rattle.tree.specs.Tree.{hit, times}
 use Rattle.tree.proofs.Slots.{hit_same, hit_cases, hit_zero, hit_ne}
 use Rattle.tidy_rule.specs.Plan.{fits}
 use Rattle.tidy_rule.proofs.Plans.{fits_one, is_fits}
-use Rattle.plan_text.specs.Line.{end_rule, new_rule}
-use Rattle.plan_text.specs.Reading.{is_nothing_lem, Shelf, shelf, flaw_of, written, placed, said, next_line_lem, Stage, stage, begun, lined, longer_line, stepped, fed, last_of, first_free_lem, closed, finished}
-use Rattle.plan_text.specs.declared.line.Said.{Said}
-use Rattle.plan_text.specs.declared.line.Said.TheVariants.{Move, Other}
+use Rattle.plan_text.specs.Line.{goes_to, end_rule, new_rule}
+use Rattle.plan_text.specs.Reading.{Shelf, shelf, flaw_of, written, placed, said, next_line_lem, Stage, stage, begun, lined, longer_line, stepped, fed, last_of, first_free_lem, closed, finished}
+use Rattle.plan_text.specs.declared.line.Move.{Move}
 use Rattle.plan_text.specs.declared.reading.Flaw.{Flaw}
-use Rattle.plan_text.specs.declared.reading.Flaw.TheVariants.{Nothing, Form, High, OldAgain, NewAgain, Missing}
+use Rattle.plan_text.specs.declared.reading.Flaw.TheVariants.{High, OldAgain, NewAgain, Missing}
 
 -- a piece, and then another, come to what both together come to
 pub pieces : (t : Stage) (a b : List ℕ) → fed t (a ++ b) ≡ fed (fed t a) b
@@ -89,12 +89,12 @@ pub record Taken (s v : ℕ) (P L : List ℕ) : Type 0 where
   pub unnamed : get_or P s 0 ≡ U
   pub ungiven : get_or L v 0 ≡ 0
 
-taken : (k s v : ℕ) (P L : List ℕ) → is_nothing_lem (flaw_of k s v P L) ≡ true → Taken s v P L
+taken : (k s v : ℕ) (P L : List ℕ) → is_ok (flaw_of k s v P L) ≡ true → Taken s v P L
 unfolding flaw_of
 taken k s v P L = go (leb (length P) s) (leb (length P) v) (eqb (get_or P s 0) U) (eqb (get_or L v 0) 0) refl refl refl refl
   where
     go : (a b c d : Bool) → leb (length P) s ≡ a → leb (length P) v ≡ b → eqb (get_or P s 0) U ≡ c → eqb (get_or L v 0) 0 ≡ d
-        → is_nothing_lem (cond a (High k s (length P)) (cond b (High k v (length P)) (cond c (cond d Nothing (NewAgain k v (get_or L v 0))) (OldAgain k s (get_or L (get_or P s 0) 0))))) ≡ true
+        → is_ok (cond a (Err (High k s (length P))) (cond b (Err (High k v (length P))) (cond c (cond d (Ok (tt {0})) (Err (NewAgain k v (get_or L v 0)))) (Err (OldAgain k s (get_or L (get_or P s 0) 0)))))) ≡ true
         → Taken s v P L
     go true b c d e f g h z = let y : ◌≡◌ {A = ℕ} 0 1 = cc in absurd (omega arith)
     go false true c d e f g h z = let y : ◌≡◌ {A = ℕ} 0 1 = cc in absurd (omega arith)
@@ -117,17 +117,17 @@ module _ (Keeps : List ℕ → List ℕ → Type 0)
 
   placed_keeps : (k s v : ℕ) (P L : List ℕ) → 0 < k → Keeps P L → Holds (placed k s v P L)
   unfolding placed
-  placed_keeps k s v P L pos y = go (is_nothing_lem (flaw_of k s v P L)) refl
+  placed_keeps k s v P L pos y = go (is_ok (flaw_of k s v P L)) refl
     where
-      go : (b : Bool) → is_nothing_lem (flaw_of k s v P L) ≡ b
+      go : (b : Bool) → is_ok (flaw_of k s v P L) ≡ b
           → Holds (cond b (written k s v P L) (shelf (flaw_of k s v P L) P L))
       go true e = takes k s v P L pos (taken k s v P L e) y
       go false e = y
 
-  said_keeps : (o : Said) (k : ℕ) (P L : List ℕ) → 0 < k → Keeps P L → Holds (said o k P L)
+  said_keeps : (o : Option Move) (k : ℕ) (P L : List ℕ) → 0 < k → Keeps P L → Holds (said o k P L)
   unfolding said
-  said_keeps (Move s v) k P L pos y = placed_keeps k s v P L pos y
-  said_keeps Other k P L pos y = y
+  said_keeps (Some m) k P L pos y = placed_keeps k m.old m.new P L pos y
+  said_keeps None k P L pos y = y
 
   next_pos : (k : ℕ) → 0 < next_line_lem k
   unfolding next_line_lem
@@ -139,7 +139,7 @@ module _ (Keeps : List ℕ → List ℕ → Type 0)
 
   stepped_keeps : (t : Stage) (b : ℕ) → Holds t.shelf → Holds (stepped t b).shelf
   unfolding stepped
-  stepped_keeps t b y = go (is_nothing_lem t.shelf.flaw) (eqb b 10)
+  stepped_keeps t b y = go (is_ok t.shelf.checked) (eqb b 10)
     where
       go : (p q : Bool) → Holds (cond p (cond q (lined t) (longer_line t b)) t).shelf
       go true true = said_keeps (end_rule t.line) (next_line_lem t.number) t.shelf.plan t.shelf.lines (next_pos t.number) y
@@ -160,70 +160,66 @@ module _ (Keeps : List ℕ → List ℕ → Type 0)
       go false = stepped_keeps t 10 y
 
 -- the end of the text: no slot is left
-none_free : (i : ℕ) (P : List ℕ) → first_free_lem i P ≡ Nothing → (s : ℕ) → s < length P → get_or P s 0 ≡ U → ⊥
+none_free : (i : ℕ) (P : List ℕ) → first_free_lem i P ≡ Ok tt → (s : ℕ) → s < length P → get_or P s 0 ≡ U → ⊥
 unfolding first_free_lem
 none_free i [] e s h u = absurd (omega arith)
 none_free i (v ∷ P) e s h u = go (eqb v U) refl e s h u (λ q. none_free (i + 1) P q)
   where
-    go : (b : Bool) → eqb v U ≡ b → cond b (Missing i) (first_free_lem (i + 1) P) ≡ Nothing → (s : ℕ) → s < suc (length P) → get_or (v ∷ P) s 0 ≡ U
-        → (first_free_lem (i + 1) P ≡ Nothing → (s : ℕ) → s < length P → get_or P s 0 ≡ U → ⊥) → ⊥
+    go : (b : Bool) → eqb v U ≡ b → cond b (Err (Missing i)) (first_free_lem (i + 1) P) ≡ Ok tt → (s : ℕ) → s < suc (length P) → get_or (v ∷ P) s 0 ≡ U
+        → (first_free_lem (i + 1) P ≡ Ok tt → (s : ℕ) → s < length P → get_or P s 0 ≡ U → ⊥) → ⊥
     go true q z s h u f = let y : ◌≡◌ {A = ℕ} 0 1 = cc in absurd (omega arith)
     go false q z zero h u f = eqb-false v U q u
     go false q z (suc s) h u f = f z s (omega arith) u
 
 -- a text that has no flaw
 record Whole (h : Shelf) : Type 0 where
-  right : h.flaw ≡ Nothing
+  right : h.checked ≡ Ok tt
   plan : (closed h).plan ≡ h.plan
   none : (s : ℕ) → s < length h.plan → get_or h.plan s 0 ≡ U → ⊥
 
-nothing_is : (f : Flaw) → is_nothing_lem f ≡ true → f ≡ Nothing
-nothing_is Nothing e = refl
-nothing_is (Form k) e = let y : ◌≡◌ {A = ℕ} 0 1 = cc in absurd (omega arith)
-nothing_is (High k s c) e = let y : ◌≡◌ {A = ℕ} 0 1 = cc in absurd (omega arith)
-nothing_is (OldAgain k s c) e = let y : ◌≡◌ {A = ℕ} 0 1 = cc in absurd (omega arith)
-nothing_is (NewAgain k s c) e = let y : ◌≡◌ {A = ℕ} 0 1 = cc in absurd (omega arith)
-nothing_is (Missing s) e = let y : ◌≡◌ {A = ℕ} 0 1 = cc in absurd (omega arith)
+ok_is : (f : Result Unit Flaw) → is_ok f ≡ true → f ≡ Ok tt
+ok_is (Ok x) e = refl
+ok_is (Err f) e = let y : ◌≡◌ {A = ℕ} 0 1 = cc in absurd (omega arith)
 
-whole : (h : Shelf) → (closed h).flaw ≡ Nothing → Whole h
-whole h = go (is_nothing_lem h.flaw) refl
+whole : (h : Shelf) → (closed h).checked ≡ Ok tt → Whole h
+whole h = go (is_ok h.checked) refl
   where
-    go : (b : Bool) → is_nothing_lem h.flaw ≡ b → (cond b (shelf (first_free_lem 0 h.plan) h.plan h.lines) h).flaw ≡ Nothing → Whole h
-    go true e z = record { right = nothing_is h.flaw e; plan = rw e refl; none = none_free 0 h.plan z }
-    go false e z = let y : is_nothing_lem h.flaw ≡ true = rw z refl in let x : ◌≡◌ {A = ℕ} 0 1 = cc in absurd (omega arith)
+    go : (b : Bool) → is_ok h.checked ≡ b → (cond b (shelf (first_free_lem 0 h.plan) h.plan h.lines) h).checked ≡ Ok tt → Whole h
+    go true e z = record { right = ok_is h.checked e; plan = rw e refl; none = none_free 0 h.plan z }
+    go false e z = let y : is_ok h.checked ≡ true = rw z refl in let x : ◌≡◌ {A = ℕ} 0 1 = cc in absurd (omega arith)
 
 -- the first flaw stays
-flaw_stays : (c : List ℕ) (t : Stage) → is_nothing_lem t.shelf.flaw ≡ false → fed t c ≡ t
+flaw_stays : (c : List ℕ) (t : Stage) → is_ok t.shelf.checked ≡ false → fed t c ≡ t
 unfolding fed stepped
 flaw_stays [] t e = refl
 flaw_stays (b ∷ c) t e = ap (λ (u : Stage). foldl stepped u c) (step_stays t b e) ∙ flaw_stays c t e
   where
-    step_stays : (t : Stage) (b : ℕ) → is_nothing_lem t.shelf.flaw ≡ false → stepped t b ≡ t
+    step_stays : (t : Stage) (b : ℕ) → is_ok t.shelf.checked ≡ false → stepped t b ≡ t
     step_stays t b e = rw e refl
 
-flaw_last : (t : Stage) (d : List ℕ) → is_nothing_lem t.shelf.flaw ≡ false → (last_of (fed t d)).shelf.flaw ≡ t.shelf.flaw
+flaw_last : (t : Stage) (d : List ℕ) → is_ok t.shelf.checked ≡ false → (last_of (fed t d)).shelf.checked ≡ t.shelf.checked
 unfolding last_of stepped
 flaw_last t d e = rw (flaw_stays d t e) (go (new_rule t.line))
   where
-    go : (b : Bool) → (cond b t (stepped t 10)).shelf.flaw ≡ t.shelf.flaw
+    go : (b : Bool) → (cond b t (stepped t 10)).shelf.checked ≡ t.shelf.checked
     go true = refl
     go false = rw e refl
 
 -- a line that is taken stands in the plan, and stays there
-placed_at : (k s v : ℕ) (P L : List ℕ) → is_nothing_lem (placed k s v P L).flaw ≡ true → (v < length P) × (get_or (placed k s v P L).plan s 0 ≡ v)
+placed_at : (k s v : ℕ) (P L : List ℕ) → is_ok (placed k s v P L).checked ≡ true → (v < length P) × (get_or (placed k s v P L).plan s 0 ≡ v)
 unfolding placed
-placed_at k s v P L = go (is_nothing_lem (flaw_of k s v P L)) refl
+placed_at k s v P L = go (is_ok (flaw_of k s v P L)) refl
   where
-    go : (b : Bool) → is_nothing_lem (flaw_of k s v P L) ≡ b → is_nothing_lem (cond b (written k s v P L) (shelf (flaw_of k s v P L) P L)).flaw ≡ true
+    go : (b : Bool) → is_ok (flaw_of k s v P L) ≡ b → is_ok (cond b (written k s v P L) (shelf (flaw_of k s v P L) P L)).checked ≡ true
         → (v < length P) × (get_or (cond b (written k s v P L) (shelf (flaw_of k s v P L) P L)).plan s 0 ≡ v)
     go true e z = let t : Taken s v P L = taken k s v P L e in (t.new, get_or-set_same P s v 0 t.old)
     go false e z = let y : ◌≡◌ {A = ℕ} 0 1 = cc in absurd (omega arith)
 
-lined_at : (t : Stage) (s v : ℕ) → end_rule t.line ≡ Move s v → is_nothing_lem t.shelf.flaw ≡ true → is_nothing_lem (stepped t 10).shelf.flaw ≡ true
+lined_at : (t : Stage) (s v : ℕ) → end_rule t.line ≡ Some (goes_to s v) → is_ok t.shelf.checked ≡ true → is_ok (stepped t 10).shelf.checked ≡ true
     → (v < length t.shelf.plan) × (get_or (stepped t 10).shelf.plan s 0 ≡ v)
 unfolding stepped said
 lined_at t s v q e z =
-    let y : is_nothing_lem (placed (next_line_lem t.number) s v t.shelf.plan t.shelf.lines).flaw ≡ true = rw (e, q) at z in
+    let y : is_ok (placed (next_line_lem t.number) s v t.shelf.plan t.shelf.lines).checked ≡ true = rw (e, q) at z in
     rw (e, q) (placed_at (next_line_lem t.number) s v t.shelf.plan t.shelf.lines y)
 
 stays : (s v : ℕ) → (v ≡ U → ⊥) → (k x y : ℕ) (P L : List ℕ) → 0 < k → Taken x y P L → get_or P s 0 ≡ v → get_or (set P x y) s 0 ≡ v
@@ -236,7 +232,7 @@ stays s v h k x y P L pos t e =
 abbrev pub read_plan_lem : ℕ → List ℕ → Shelf
 read_plan_lem n c = finished (fed (stage begun (replicate n U) (replicate n 0)) c)
 
-module _ (n : ℕ) (few : n ≤ 65535) (c : List ℕ) (e : (read_plan_lem n c).flaw ≡ Nothing) where
+module _ (n : ℕ) (few : n ≤ 65535) (c : List ℕ) (e : (read_plan_lem n c).checked ≡ Ok tt) where
   abbrev last : Shelf
   last = (last_of (fed (stage begun (replicate n U) (replicate n 0)) c)).shelf
 
@@ -254,18 +250,18 @@ module _ (n : ℕ) (few : n ≤ 65535) (c : List ℕ) (e : (read_plan_lem n c).f
       let g : Good n last.plan last.lines = last_keeps (Good n) takes_good (fed (stage begun (replicate n U) (replicate n 0)) c) (good_fed c) in
       rw w.plan (is_fits n last.plan (fits_one n last.plan g.long (λ s h. g.low s h (w.none s (omega (arith, g.long)))) g.once))
 
-  flawless : (t : Stage) (d : List ℕ) → fed (stage begun (replicate n U) (replicate n 0)) c ≡ fed t d → is_nothing_lem t.shelf.flaw ≡ true
-  flawless t d q = go (is_nothing_lem t.shelf.flaw) refl
+  flawless : (t : Stage) (d : List ℕ) → fed (stage begun (replicate n U) (replicate n 0)) c ≡ fed t d → is_ok t.shelf.checked ≡ true
+  flawless t d q = go (is_ok t.shelf.checked) refl
     where
-      go : (b : Bool) → is_nothing_lem t.shelf.flaw ≡ b → is_nothing_lem t.shelf.flaw ≡ true
+      go : (b : Bool) → is_ok t.shelf.checked ≡ b → is_ok t.shelf.checked ≡ true
       go true f = f
       go false f =
-          let x : last.flaw ≡ t.shelf.flaw = ap (λ (u : Stage). (last_of u).shelf.flaw) q ∙ flaw_last t d f in
-          let y : is_nothing_lem t.shelf.flaw ≡ true = rw (← x, (whole last e).right) refl in
+          let x : last.checked ≡ t.shelf.checked = ap (λ (u : Stage). (last_of u).shelf.checked) q ∙ flaw_last t d f in
+          let y : is_ok t.shelf.checked ≡ true = rw (← x, (whole last e).right) refl in
           y
 
   -- and what a line of the text says stands in the plan
-  pub accepted_says : (a b : List ℕ) (s v : ℕ) → c ≡ a ++ (10 ∷ b) → end_rule (fed (stage begun (replicate n U) (replicate n 0)) a).line ≡ Move s v
+  pub accepted_says : (a b : List ℕ) (s v : ℕ) → c ≡ a ++ (10 ∷ b) → end_rule (fed (stage begun (replicate n U) (replicate n 0)) a).line ≡ Some (goes_to s v)
       → get_or (read_plan_lem n c).plan s 0 ≡ v
   unfolding fed
   accepted_says a b s v q m =

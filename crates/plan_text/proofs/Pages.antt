@@ -7,9 +7,7 @@ use lib.ListN.{length, get_or, drop, drop_of_length-le}
 use lib.Seq.{drop-cons}
 use Rattle.lines.specs.Output.{Page, out_byte, out_text}
 use Rattle.image_text.proofs.Pages.{then, in_four}
-use Rattle.plan_text.specs.Text.{row, rows, flaw_said}
-use Rattle.plan_text.specs.declared.reading.Flaw.{Flaw}
-use Rattle.plan_text.specs.declared.reading.Flaw.TheVariants.{Nothing}
+use Rattle.plan_text.specs.Text.{row, rows}
 
 -- five and six parts
 pub in_five : (p q r m n o : Page) (s t u v w : List ℕ) → q ≡ out_text p s → r ≡ out_text q t → m ≡ out_text r u → n ≡ out_text m v
@@ -31,11 +29,3 @@ module _ (P : List ℕ) (i : ℕ) (Q p : Page) (e : Q ≡ out_text p (rows i (dr
   pub rows_end : length P ≤ i → p ≡ Q
   unfolding rows out_text
   rows_end h = sym (rw (drop_of_length-le P h) at e)
-
--- a flaw, by what it is
-pub said_of : (f z : Flaw) (e : f ≡ z) (p q : Page) → q ≡ out_text p (flaw_said z) → q ≡ out_text p (flaw_said f)
-said_of f z e p q h = rw e h
-
-pub said_nothing : (f : Flaw) (p : Page) → f ≡ Nothing → p ≡ out_text p (flaw_said f)
-unfolding out_text
-said_nothing f p e = rw e refl

@@ -1,10 +1,10 @@
 -- A plan as text, and what is wrong with one in words.
 -- Letters: c count, b before (the line that came first), w which (old or new), s old slot or slot,
---   v new slot, P plan, n line (its number), f flaw
-use Rattle.std.specs.Prelude.{List, [], ◌∷◌, ◌++◌, ℕ, ◌+◌}
+--   v new slot, P plan, n line (its number), f flaw, x interval
+use Rattle.std.specs.Prelude.{Result, Ok, Err, List, [], ◌∷◌, ◌++◌, ℕ, ◌+◌}
 use Rattle.lines.specs.Output.{number, next}
 use Rattle.plan_text.specs.declared.reading.Flaw.{Flaw}
-use Rattle.plan_text.specs.declared.reading.Flaw.TheVariants.{Nothing, Form, High, OldAgain, NewAgain, Missing}
+use Rattle.plan_text.specs.declared.reading.Flaw.TheVariants.{Form, High, OldAgain, NewAgain, Missing}
 
 -- a line `old new`
 unfoldable pub row : (old new : ℕ) → List ℕ
@@ -66,13 +66,13 @@ unfoldable pub missing_text : (slot : ℕ) → List ℕ
 missing_text s = missing_word ++ number s
 
 abbrev pub flaw_said : (flaw : Flaw) → List ℕ
-flaw_said Nothing = []
 flaw_said (Form n) = form_text n
 flaw_said (High n s c) = high_text n s c
 flaw_said (OldAgain n s b) = again_text old_word n s b
 flaw_said (NewAgain n s b) = again_text new_word n s b
 flaw_said (Missing s) = missing_text s
 
--- what a program cannot do, as `lines::output::complain` says it
-abbrev pub flaw_text : (flaw : Flaw) → List ℕ
-flaw_text f = take_word ++ flaw_said f
+-- what a program cannot do, as `lines::output::complain` says it; why, if there is a flaw
+abbrev pub flaw_text : (checked : Result Unit Flaw) → List ℕ
+flaw_text (Ok x) = take_word
+flaw_text (Err f) = take_word ++ flaw_said f

@@ -2,69 +2,62 @@
 ghost use Rattle.std.specs.Prelude.{◌≡◌};
 ghost use Rattle.plan_text.specs.Line.{first_digit_lem, longer, gap_after_lem, number_byte_lem, byte_rule, complete, end_rule, new_rule};
 
-use lines::input::{Digit, Value, append_digit, digit_of};
+use lines::input::{append_digit, digit_of};
 
 const SPACE: u8 = 32;
 
-// What a line has before the number that is being read: nothing, or the old slot.
-#[derive(Clone, Copy)]
-pub enum Before {
-    Nothing,
-    Old(u64),
-}
-
-// A line so far: nothing; a number with at least one digit; or the old slot and a space, after
-// which a number must begin. A wrong line stays wrong.
+// A line so far: nothing; a number with at least one digit, after the old slot if that is complete;
+// or the old slot and a space, after which a number must begin. A wrong line stays wrong.
 #[derive(Clone, Copy)]
 pub enum Line {
     Start,
-    Number(Before, u64),
+    Number(Option<u64>, u64),
     Gap(u64),
     Wrong,
 }
 
-// What a complete line says.
+// What a complete line says: a slot's old number and its new one.
 #[derive(Clone, Copy)]
-pub enum Said {
-    Move { old: u64, new: u64 },
-    Other,
+pub struct Move {
+    pub old: u64,
+    pub new: u64,
 }
 
-fn first_digit(before: Before, b: u8) -> Line
+fn first_digit(before: Option<u64>, b: u8) -> Line
     ensures { result ≡ first_digit_lem before b }
 {
     match digit_of(b) {
-        Digit::Is(d) => Line::Number(before, d),
-        Digit::Not => Line::Wrong,
+        Some(d) => Line::Number(before, d),
+        None => Line::Wrong,
     }
 }
 
-fn longer(before: Before, value: u64, d: u64) -> Line
+fn longer(before: Option<u64>, value: u64, d: u64) -> Line
     ensures { result ≡ longer before value d }
 {
     match append_digit(value, d) {
-        Value::Is(v) => Line::Number(before, v),
-        Value::Over => Line::Wrong,
+        Some(v) => Line::Number(before, v),
+        None => Line::Wrong,
     }
 }
 
 // A space after a number, which is then complete. A space after the second number makes the line
 // wrong.
-fn gap_after(before: Before, value: u64) -> Line
+fn gap_after(before: Option<u64>, value: u64) -> Line
     ensures { result ≡ gap_after_lem before value }
 {
     match before {
-        Before::Nothing => Line::Gap(value),
-        Before::Old(_) => Line::Wrong,
+        None => Line::Gap(value),
+        Some(_) => Line::Wrong,
     }
 }
 
-fn number_byte(before: Before, value: u64, b: u8) -> Line
+fn number_byte(before: Option<u64>, value: u64, b: u8) -> Line
     ensures { result ≡ number_byte_lem before value b }
 {
     match digit_of(b) {
-        Digit::Is(d) => longer(before, value, d),
-        Digit::Not => if b == SPACE {
+        Some(d) => longer(before, value, d),
+        None => if b == SPACE {
             gap_after(before, value)
         } else {
             Line::Wrong
@@ -73,13 +66,11 @@ fn number_byte(before: Before, value: u64, b: u8) -> Line
 }
 
 // A line that ends with a number.
-fn complete(before: Before, value: u64) -> Said
+fn complete(before: Option<u64>, value: u64) -> Option<Move>
     ensures { result ≡ complete before value }
 {
-    match before {
-        Before::Nothing => Said::Other,
-        Before::Old(old) => Said::Move { old, new: value },
-    }
+    let old = before?;
+    Some(Move { old, new: value })
 }
 
 impl Line {
@@ -88,22 +79,20 @@ impl Line {
         ensures { result ≡ byte_rule self b }
     {
         match self {
-            Line::Start => first_digit(Before::Nothing, b),
+            Line::Start => first_digit(None, b),
             Line::Number(before, value) => number_byte(before, value, b),
-            Line::Gap(old) => first_digit(Before::Old(old), b),
+            Line::Gap(old) => first_digit(Some(old), b),
             Line::Wrong => Line::Wrong,
         }
     }
 
-    // What the line says, now that it is complete.
-    pub(crate) fn end(self) -> Said
+    // What the line says, now that it is complete: nothing, if it is not two numbers.
+    pub(crate) fn end(self) -> Option<Move>
         ensures { result ≡ end_rule self }
     {
         match self {
-            Line::Start => Said::Other,
             Line::Number(before, value) => complete(before, value),
-            Line::Gap(_) => Said::Other,
-            Line::Wrong => Said::Other,
+            Line::Start | Line::Gap(_) | Line::Wrong => None,
         }
     }
 
@@ -111,11 +100,6 @@ impl Line {
     pub(crate) fn is_new(self) -> bool
         ensures { result ≡ new_rule self }
     {
-        match self {
-            Line::Start => true,
-            Line::Number(_, _) => false,
-            Line::Gap(_) => false,
-            Line::Wrong => false,
-        }
+        matches!(self, Line::Start)
     }
 }

@@ -2,10 +2,10 @@
 // The plan's length is the count of slots. A place that no line has named yet holds FREE. `lines`
 // has, at the place of each new slot, the number of the line that gave it away, and 0 if none did.
 ghost use Rattle.std.specs.Prelude.{◌≡◌, length, get_or, set};
-ghost use Rattle.plan_text.specs.Reading.{is_nothing_lem, flaw_of, shelf, written, placed, said, next_line_lem, stage, begun, lined, stepped, fed, last_of, first_free_lem, finished};
+ghost use Rattle.plan_text.specs.Reading.{flaw_of, shelf, placed, said, next_line_lem, stage, begun, lined, stepped, fed, last_of, first_free_lem, finished};
 ghost use Rattle.plan_text.specs.Line.{byte_rule};
 
-use crate::line::{Line, Said};
+use crate::line::{Line, Move};
 
 const LINE_END: u8 = 10;
 
@@ -15,7 +15,6 @@ const FREE: u64 = 4294967295;
 // What is wrong with a plan, first in the order of its lines. Lines are counted from 1, up to FREE.
 #[derive(Clone, Copy)]
 pub enum Flaw {
-    Nothing,
     // the line is not two numbers with one space between them
     Form { line: u64 },
     // the line names a slot that is not below the count
@@ -27,51 +26,19 @@ pub enum Flaw {
     Missing { slot: u64 },
 }
 
-// The line so far, how many lines came before it, and what is wrong with them.
+// The line so far, how many lines came before it, and whether they are right.
 #[derive(Clone, Copy)]
 pub struct State {
     line: Line,
     number: u64,
-    flaw: Flaw,
-}
-
-impl Flaw {
-    // Whether nothing is wrong.
-    pub fn is_nothing(self) -> bool
-        ensures { result ≡ is_nothing_lem self }
-    {
-        match self {
-            Flaw::Nothing => true,
-            Flaw::Form { line: _ } => false,
-            Flaw::High {
-                line: _,
-                slot: _,
-                count: _,
-            } => false,
-            Flaw::OldAgain {
-                line: _,
-                slot: _,
-                before: _,
-            } => false,
-            Flaw::NewAgain {
-                line: _,
-                slot: _,
-                before: _,
-            } => false,
-            Flaw::Missing { slot: _ } => false,
-        }
-    }
+    checked: Result<(), Flaw>,
 }
 
 // Returns the number at a place, and 0 past the end.
 fn number_at(numbers: &[u64], i: u64) -> u64
     ensures { result ≡ get_or numbers.now i 0 }
 {
-    if i < numbers.len() as u64 {
-        numbers[i as usize]
-    } else {
-        0
-    }
+    numbers.get(i as usize).copied().unwrap_or(0)
 }
 
 // Writes the number at a place, and nothing past the end.
@@ -83,72 +50,61 @@ fn put_at(numbers: &mut [u64], i: u64, x: u64)
     }
 }
 
-// What is wrong with the line `line` that gives the slot `old` the new slot `new`.
-fn test(plan: &[u64], lines: &[u64], line: u64, old: u64, new: u64) -> Flaw
+// Whether the line `line` may give the slot `old` the new slot `new`, or what is wrong with it.
+fn test(plan: &[u64], lines: &[u64], line: u64, old: u64, new: u64) -> Result<(), Flaw>
     ensures { result ≡ flaw_of line old new plan.now lines.now }
 {
     let count = plan.len() as u64;
     if count <= old {
-        return Flaw::High {
+        return Err(Flaw::High {
             line,
             slot: old,
             count,
-        };
+        });
     }
     if count <= new {
-        return Flaw::High {
+        return Err(Flaw::High {
             line,
             slot: new,
             count,
-        };
+        });
     }
     let given = number_at(plan, old);
     if given != FREE {
-        return Flaw::OldAgain {
+        return Err(Flaw::OldAgain {
             line,
             slot: old,
             before: number_at(lines, given),
-        };
+        });
     }
     let before = number_at(lines, new);
     if before != 0 {
-        return Flaw::NewAgain {
+        return Err(Flaw::NewAgain {
             line,
             slot: new,
             before,
-        };
+        });
     }
-    Flaw::Nothing
-}
-
-// Writes the line into the plan. There is nothing wrong with it, and that is returned.
-fn write(plan: &mut [u64], lines: &mut [u64], line: u64, old: u64, new: u64) -> Flaw
-    ensures { shelf result plan.new lines.new ≡ written line old new plan.old lines.old }
-{
-    put_at(plan, old, new);
-    put_at(lines, new, line);
-    Flaw::Nothing
+    Ok(())
 }
 
 // Takes the line into the plan, if nothing is wrong with it.
-fn place(plan: &mut [u64], lines: &mut [u64], line: u64, old: u64, new: u64) -> Flaw
+fn place(plan: &mut [u64], lines: &mut [u64], line: u64, old: u64, new: u64) -> Result<(), Flaw>
     ensures { shelf result plan.new lines.new ≡ placed line old new plan.old lines.old }
 {
-    let flaw = test(plan, lines, line, old, new);
-    if flaw.is_nothing() {
-        write(plan, lines, line, old, new)
-    } else {
-        flaw
-    }
+    test(plan, lines, line, old, new)?;
+    put_at(plan, old, new);
+    put_at(lines, new, line);
+    Ok(())
 }
 
 // Takes a complete line.
-fn take(what: Said, line: u64, plan: &mut [u64], lines: &mut [u64]) -> Flaw
+fn take(what: Option<Move>, line: u64, plan: &mut [u64], lines: &mut [u64]) -> Result<(), Flaw>
     ensures { shelf result plan.new lines.new ≡ said what line plan.old lines.old }
 {
     match what {
-        Said::Move { old, new } => place(plan, lines, line, old, new),
-        Said::Other => Flaw::Form { line },
+        Some(Move { old, new }) => place(plan, lines, line, old, new),
+        None => Err(Flaw::Form { line }),
     }
 }
 
@@ -159,18 +115,16 @@ fn next_line(line: u64) -> u64
     if line < FREE { line + 1 } else { line }
 }
 
-// The first old slot that no line names.
-fn first_free(plan: &[u64]) -> Flaw
+// Whether a line names each old slot, or the first that none does.
+fn first_free(plan: &[u64]) -> Result<(), Flaw>
     ensures { result ≡ first_free_lem 0 plan.now }
 {
-    let mut i = 0;
-    while i < plan.len() {
+    for i in 0..plan.len() {
         if plan[i] == FREE {
-            return Flaw::Missing { slot: i as u64 };
+            return Err(Flaw::Missing { slot: i as u64 });
         }
-        i += 1;
     }
-    Flaw::Nothing
+    Ok(())
 }
 
 impl State {
@@ -181,7 +135,7 @@ impl State {
         State {
             line: Line::Start,
             number: 0,
-            flaw: Flaw::Nothing,
+            checked: Ok(()),
         }
     }
 
@@ -191,24 +145,24 @@ impl State {
     {
         let line = self.line;
         let number = next_line(self.number);
-        let flaw = take(line.end(), number, plan, lines);
+        let checked = take(line.end(), number, plan, lines);
         State {
             line: Line::Start,
             number,
-            flaw,
+            checked,
         }
     }
 
     // Takes one more byte of the line.
     fn more(self, b: u8) -> State
-        ensures { (result.line ≡ byte_rule self.line b) × (result.number ≡ self.number) × (result.flaw ≡ self.flaw) }
+        ensures { (result.line ≡ byte_rule self.line b) × (result.number ≡ self.number) × (result.checked ≡ self.checked) }
     {
         let line = self.line;
-        let flaw = self.flaw;
+        let checked = self.checked;
         State {
             line: line.byte(b),
             number: self.number,
-            flaw,
+            checked,
         }
     }
 
@@ -216,8 +170,8 @@ impl State {
     fn byte(self, b: u8, plan: &mut [u64], lines: &mut [u64]) -> State
         ensures { stage result plan.new lines.new ≡ stepped (stage self plan.old lines.old) b }
     {
-        let flaw = self.flaw;
-        if flaw.is_nothing() {
+        let checked = self.checked;
+        if checked.is_ok() {
             if b == LINE_END {
                 self.end_line(plan, lines)
             } else {
@@ -233,10 +187,7 @@ impl State {
         ensures { stage result plan.new lines.new ≡ fed (stage self plan.old lines.old) piece.now }
     {
         let mut state = self;
-        let mut i = 0;
-        while i < piece.len() {
-            let b = piece[i];
-            i += 1;
+        for &b in piece {
             state = state.byte(b, plan, lines);
         }
         state
@@ -256,15 +207,11 @@ impl State {
 
     // Ends the text. If nothing is wrong, each slot below the count has its line, and the plan is
     // whole.
-    pub fn finish(self, plan: &mut [u64], lines: &mut [u64]) -> Flaw
+    pub fn finish(self, plan: &mut [u64], lines: &mut [u64]) -> Result<(), Flaw>
         ensures { shelf result plan.new lines.new ≡ finished (stage self plan.old lines.old) }
     {
         let state = self.end_last(plan, lines);
-        let flaw = state.flaw;
-        if flaw.is_nothing() {
-            first_free(plan)
-        } else {
-            flaw
-        }
+        state.checked?;
+        first_free(plan)
     }
 }

@@ -22,10 +22,8 @@ pub fn put_plan(streams: &Streams, out: &mut [u8], plan: &[u64]) -> usize
     ensures { page result out.new ≡ out_text (page 0 out.old) (rows 0 plan.now) }
 {
     let mut to = 0;
-    let mut old = 0;
-    while old < plan.len() {
+    for old in 0..plan.len() {
         to = put_row(streams, out, to, old as u64, plan[old]);
-        old += 1;
     }
     to
 }
@@ -97,7 +95,6 @@ fn put_said(streams: &Streams, out: &mut [u8], at: usize, flaw: Flaw) -> usize
     ensures { page result out.new ≡ out_text (page at out.old) (flaw_said flaw) }
 {
     match flaw {
-        Flaw::Nothing => at,
         Flaw::Form { line } => put_form(streams, out, at, line),
         Flaw::High { line, slot, count } => put_high(streams, out, at, line, slot, count),
         Flaw::OldAgain { line, slot, before } => put_again(
@@ -123,9 +120,12 @@ fn put_said(streams: &Streams, out: &mut [u8], at: usize, flaw: Flaw) -> usize
 }
 
 // Writes what is wrong with a plan, as what a program cannot do: `take the plan: ` and why.
-pub fn put_flaw(streams: &Streams, out: &mut [u8], flaw: Flaw) -> usize
-    ensures { page result out.new ≡ out_text (page 0 out.old) (flaw_text flaw) }
+pub fn put_flaw(streams: &Streams, out: &mut [u8], checked: Result<(), Flaw>) -> usize
+    ensures { page result out.new ≡ out_text (page 0 out.old) (flaw_text checked) }
 {
     let at = put_text(streams, out, 0, b"take the plan: ");
-    put_said(streams, out, at, flaw)
+    match checked {
+        Ok(()) => at,
+        Err(flaw) => put_said(streams, out, at, flaw),
+    }
 }

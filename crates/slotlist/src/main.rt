@@ -6,13 +6,6 @@ use lines::output;
 use lines::streams::Streams;
 use slotlist_core::{State, memory};
 
-// What was read, and whether a read failed.
-#[derive(Clone, Copy)]
-struct Fed {
-    state: State,
-    failed: bool,
-}
-
 // Reads to the end of the input. The loop is bounded by 2^64 rounds, so that the proof can show
 // that it ends.
 fn feed_all(
@@ -21,25 +14,16 @@ fn feed_all(
     nodes: &mut [u64],
     colours: &mut [u8],
     entries: &mut [u64],
-) -> Fed {
+) -> std::io::Result<State> {
     let mut state = State::new();
-    let mut turns = u64::MAX;
-    while 0 < turns {
-        turns -= 1;
-        let got = streams.read(input);
-        let n = got.len;
+    for _ in 0..u64::MAX {
+        let n = streams.read(input)?;
         if n == 0 {
-            return Fed {
-                state,
-                failed: got.failed,
-            };
+            break;
         }
         state = state.feed(&input[..n], nodes, colours, entries);
     }
-    Fed {
-        state,
-        failed: false,
-    }
+    Ok(state)
 }
 
 fn print(
@@ -62,11 +46,9 @@ fn run(
     entries: &mut [u64],
     out: &mut [u8],
 ) {
-    let fed = feed_all(streams, input, nodes, colours, entries);
-    if fed.failed {
-        output::complain(streams, b"slotlist", b"read");
-    } else {
-        print(streams, fed.state, nodes, colours, entries, out);
+    match feed_all(streams, input, nodes, colours, entries) {
+        Ok(state) => print(streams, state, nodes, colours, entries, out),
+        Err(_) => output::complain(streams, b"slotlist", b"read"),
     }
 }
 

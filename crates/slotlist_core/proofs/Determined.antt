@@ -1,11 +1,18 @@
 -- Any two answers, and any two contents of each lent slice at exit, that a promise allows are
 -- equal.
-use mathlib.Core.Path.{◌≡◌, sym, ap, ◌∙◌}
+use Rattle.std.specs.Prelude.{Result, Ok, Err}
+use mathlib.Core.Path.{◌≡◌, refl, sym, ap, ◌∙◌}
+use mathlib.Core.List.{[]}
 use contract.Lifetimes.{Lfts}
 use borrow.Fn.Kinds as K
 use denote.Triple.Clauses.{AtExit}
-use Rattle.slotlist_core.specs.Feeding.{Stage, End}
+use Rattle.slotlist_core.specs.Feeding.{Stage, stage, End}
+use Rattle.words.specs.declared.refusal.Refusal.{Refusal}
+use Rattle.words.proofs.Refusals.{refusal_at, at_number}
+use Rattle.slotlist_core.specs.Working.{Job, Listing, Mapped, Refused, job}
 use Rattle.slotlist_core.specs.declared.State.{State}
+use Rattle.slotlist_core.specs.declared.working.Work.{Work}
+use Rattle.slotlist_core.specs.declared.working.Work.TheVariants as work
 use Rattle.slotlist_core.proofs.State.new.Reads as new-reads
 use Rattle.slotlist_core.proofs.State.new.Kinds as new-kinds
 use Rattle.slotlist_core.proofs.State.feed.Reads as feed-reads
@@ -26,9 +33,22 @@ pub new-determined :
     → new-reads.Post κs a r s → new-reads.Post κs a r' s' → r ≡ r'
 new-determined κs a r r' s s' p q = p ∙ sym q
 
--- the state in a turn
+-- the work that a job is read off, and the state in a turn
+abbrev work_of : Job → Result Work Refusal
+work_of (Listing n) = Ok (work.Listing n)
+work_of (Mapped m) = Ok (work.Mapped m)
+work_of (Refused k) = Err (refusal_at k)
+
+of_job : (w : Result Work Refusal) → work_of (job w) ≡ w
+of_job (Ok (work.Listing n)) = refl
+of_job (Ok (work.Mapped m)) = refl
+of_job (Err y) = ap (λ (z : Refusal). Err z) (at_number y)
+
 abbrev state_of : Stage → State
-state_of t = record { line = t.line; work = t.desk.work }
+state_of t = record { line = t.line; work = work_of t.desk.work }
+
+of_stage : (s : State) → state_of (stage s [] [] []) ≡ s
+of_stage s = λ i. record { line = s.line; work = of_job s.work i }
 
 pub feed-determined :
     (κs : Lfts 4) (a : K.Dens κs feed-kinds.ps) (r r' : (K.res_t feed-kinds.r κs).Denot) (s s' : AtExit (K.ended_of 4 feed-kinds.ps feed-kinds.r) κs)
@@ -37,7 +57,7 @@ pub feed-determined :
     × (s.1.1.1.1.0.now ≡ s'.1.1.1.1.0.now)
 feed-determined κs a r r' s s' p q =
     let e = p ∙ sym q in
-    (ap state_of e, ap (λ (t : Stage). t.desk.nodes) e, ap (λ (t : Stage). t.desk.colours) e, ap (λ (t : Stage). t.desk.entries) e)
+    (sym (of_stage r) ∙ ap state_of e ∙ of_stage r', ap (λ (t : Stage). t.desk.nodes) e, ap (λ (t : Stage). t.desk.colours) e, ap (λ (t : Stage). t.desk.entries) e)
 
 pub finish-determined :
     (κs : Lfts 4) (a : K.Dens κs finish-kinds.ps) (r r' : (K.res_t finish-kinds.r κs).Denot)

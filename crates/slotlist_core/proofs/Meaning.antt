@@ -9,9 +9,8 @@ use lib.ListN.{get_or, drop, drop_of_length-le}
 use lib.Seq.{drop-cons}
 use lib.Dec.{eqb, ltb, leb}
 use borrow.Author.Tests.{ltb-true, ltb-false, leb-true, leb-false, eqb-true, lt-ltb, le-ltb, ne_eqb, eq-eqb}
-use Rattle.lines.specs.Input.{digit_of_lem, appended, on_digit, on_value}
-use Rattle.lines.specs.declared.input.Digit.TheVariants.{Is, Not}
-use Rattle.lines.specs.declared.input.Value.TheVariants as parsed
+use Rattle.lines.specs.Input.{digit_of_lem, appended, on_some}
+use Rattle.std.specs.Prelude.{Some, None}
 use Rattle.slotlist_core.specs.Words.{first, others, words, is_digit, digits, value, is_number, same, remove, said}
 use Rattle.slotlist_core.specs.Reading.{first_digit_lem, start_byte_lem, name_byte_lem, longer, gap_after_lem, number_byte_lem, byte_rule, end_rule, new_rule}
 use Rattle.slotlist_core.specs.declared.reading.Before.{Before}
@@ -125,8 +124,8 @@ goes_on v (b ∷ s) h =
 
 -- A byte is a digit, and then neither a space nor the letter r; or it is none.
 module _ (b : ℕ) where
-  digit_cases : {X : Type 0} → (digit_of_lem b ≡ Is (b - 48) → is_digit b ≡ true → eqb b 32 ≡ false → eqb b 114 ≡ false → b - 48 < 10 → X)
-      → (digit_of_lem b ≡ Not → is_digit b ≡ false → X) → X
+  digit_cases : {X : Type 0} → (digit_of_lem b ≡ Some (b - 48) → is_digit b ≡ true → eqb b 32 ≡ false → eqb b 114 ≡ false → b - 48 < 10 → X)
+      → (digit_of_lem b ≡ None → is_digit b ≡ false → X) → X
   unfolding digit_of_lem
   digit_cases {X = X} f g = go (leb 48 b) (leb b 57) refl refl
     where
@@ -205,7 +204,7 @@ module _ (b : ℕ) (s : List ℕ) where
   first_is g L e = ap (λ (l : Line). meaning l s) e
 
   gap_byte : (g : Before) → meaning (first_digit_lem g b) s ≡ rest (words (b ∷ s)) g
-  unfolding first_digit_lem on_digit
+  unfolding first_digit_lem on_some
   gap_byte g =
       digit_cases b
       (λ e d p r h. first_is g (Number g (b - 48)) (rw e) ∙ gap_digit g d h ∙ ap (λ (l : List (List ℕ)). rest l g) (sym (word_on p)))
@@ -267,7 +266,7 @@ module _ (b : ℕ) (s : List ℕ) where
 
   -- a byte after a number
   number_byte_law : (g : Before) (v : ℕ) → meaning (number_byte_lem g v b) s ≡ meaning (Number g v) (b ∷ s)
-  unfolding number_byte_lem on_digit longer appended on_value
+  unfolding number_byte_lem on_some longer appended
   number_byte_law g v = digit_cases b digit other
     where
       w : ℕ
@@ -282,16 +281,16 @@ module _ (b : ℕ) (s : List ℕ) where
       gap (Two a c) = refl
       gap Removal = refl
 
-      longer_is : (t : Bool) → meaning (on_value (cond t (parsed.Is w) parsed.Over) (λ x. Number g x) Wrong) s
+      longer_is : (t : Bool) → meaning (on_some (cond t (Some w) None) (λ x. Number g x) Wrong) s
           ≡ cond (t && goes w (first s)) (onward g (value w (first s)) (others s)) Other
       longer_is true = refl
       longer_is false = refl
 
-      digit : digit_of_lem b ≡ Is (b - 48) → is_digit b ≡ true → eqb b 32 ≡ false → eqb b 114 ≡ false → b - 48 < 10
+      digit : digit_of_lem b ≡ Some (b - 48) → is_digit b ≡ true → eqb b 32 ≡ false → eqb b 114 ≡ false → b - 48 < 10
           → meaning (number_byte_lem g v b) s ≡ meaning (Number g v) (b ∷ s)
       digit e d p r h = rw (e, p, d) (longer_is (ltb w 18446744073709551616))
 
-      other : digit_of_lem b ≡ Not → is_digit b ≡ false → meaning (number_byte_lem g v b) s ≡ meaning (Number g v) (b ∷ s)
+      other : digit_of_lem b ≡ None → is_digit b ≡ false → meaning (number_byte_lem g v b) s ≡ meaning (Number g v) (b ∷ s)
       other e d = rw e (go (eqb b 32))
         where
           go : (t : Bool) → meaning (cond t (gap_after_lem g v) Wrong) s ≡ on t
@@ -309,11 +308,11 @@ meaning_byte Wrong b s = refl
 
 -- after a byte the line is not new
 begun_line : (g : Before) (b : ℕ) → new_rule (first_digit_lem g b) ≡ false
-unfolding first_digit_lem on_digit
+unfolding first_digit_lem on_some
 begun_line g b = digit_cases b (λ e d p r h. rw e) (λ e d. rw e)
 
 pub not_new : (L : Line) (b : ℕ) → new_rule (byte_rule L b) ≡ false
-unfolding start_byte_lem name_byte_lem number_byte_lem on_digit longer appended on_value
+unfolding start_byte_lem name_byte_lem number_byte_lem on_some longer appended
 not_new Start b = go (eqb b 114)
   where
     go : (t : Bool) → new_rule (cond t (Name 1) (first_digit_lem Nothing b)) ≡ false
@@ -328,7 +327,7 @@ not_new (Name k) b = go (ltb k 6) (eqb b (get_or remove k 0)) (eqb b 32)
     go false u false = refl
 not_new (Number g v) b = digit_cases b (λ e d p r h. rw e (more (ltb (v * 10 + (b - 48)) 18446744073709551616))) (λ e d. rw e (go g (eqb b 32)))
   where
-    more : (t : Bool) → new_rule (on_value (cond t (parsed.Is (v * 10 + (b - 48))) parsed.Over) (λ x. Number g x) Wrong) ≡ false
+    more : (t : Bool) → new_rule (on_some (cond t (Some (v * 10 + (b - 48))) None) (λ x. Number g x) Wrong) ≡ false
     more true = refl
     more false = refl
 

@@ -1,19 +1,23 @@
 -- Texts one after the other.
-use mathlib.Core.Path.{◌≡◌, refl, sym, subst, ◌∙◌}
+use mathlib.Core.Path.{◌≡◌, sym, ap, subst, ◌∙◌}
 use mathlib.Core.Bool.{false}
 use mathlib.Core.List.{List, [], ◌∷◌, ◌++◌, foldl-append}
-use Prim.Native.Nat.{ℕ, zero, suc, ◌+◌, ◌-◌, ◌/◌, ◌%◌, ◌<◌, ◌≤◌, min}
+use Prim.Native.Nat.{ℕ, suc, ◌+◌, ◌-◌, ◌/◌, ◌^◌, ◌<◌, ◌≤◌, min}
 use native.Mathlib.Omega.{arith}
-use lib.ListN.{length, set}
+use lib.ListN.{length, take, set}
 use borrow.Author.Tests.{lt-ltb, le-ltb, eq-eqb, ne_eqb}
 use Rattle.iset.specs.declared.Map.{Map}
 use Rattle.words.specs.Ix.{U}
 use Rattle.words.specs.Layouts.{as_eight}
 use Rattle.words.specs.Nodes.{entry}
 use Rattle.words.specs.declared.node.Entry.{Entry}
-use Rattle.lines.specs.Output.{Page, page, decimal, number, next}
-use Rattle.slotlist_core.specs.Text.{root_text, head, row, rows, map_text, refusal_text}
+use Rattle.lines.specs.Output.{Page, page, number, next}
+use Rattle.slotlist_core.specs.Text.{root_text, refused_word, head, row, rows, map_text, refusal_text}
 use Rattle.slotlist_core.specs.Writing.{put_byte_lem, puts, checked_text, work_text}
+use Rattle.std.specs.Prelude.{Ok}
+use Rattle.io.specs.Digits.{last_digits, IsDigitCount}
+use Rattle.lines.proofs.Numbers.{spelled}
+use Rattle.slotlist_core.specs.Working.{job}
 use Rattle.slotlist_core.specs.declared.working.Work.{Work}
 
 -- a byte where there is room, and where there is none
@@ -53,28 +57,10 @@ pub in_five : (p q r m n o : Page) (s t u v : List ℕ) (b : ℕ) → q ≡ puts
 in_five p q r m n o s t u v b e f g h i =
     then p q o s (t ++ (u ++ (v ++ (b ∷ [])))) e (then q r o t (u ++ (v ++ (b ∷ []))) f (in_three r m n o u v b g h i))
 
--- a number's digits: none, one, or those before the last one and that
-module _ (p r : Page) (left n g : ℕ) where
-  pub digits_one : (left ≡ 0 → ⊥) → n < 10 → g ≡ 48 + n → r ≡ put_byte_lem p g → r ≡ puts p (decimal left n)
-  unfolding decimal
-  digits_one h k e f = go left h
-    where
-      go : (l : ℕ) → (l ≡ 0 → ⊥) → r ≡ puts p (decimal l n)
-      go zero z = absurd (z refl)
-      go (suc l) z = rw (lt-ltb n 10 k, ← e) (puts_byte p r g f)
-
-  pub digits_more : (left ≡ 0 → ⊥) → 10 ≤ n → (q : Page) → q ≡ puts p (decimal (left - 1) (n / 10)) → g ≡ 48 + n % 10 → r ≡ put_byte_lem q g
-      → r ≡ puts p (decimal left n)
-  unfolding decimal
-  digits_more h k q d e f = go left h d
-    where
-      go : (l : ℕ) → (l ≡ 0 → ⊥) → q ≡ puts p (decimal (l - 1) (n / 10)) → r ≡ puts p (decimal l n)
-      go zero z w = absurd (z refl)
-      go (suc l) z w = rw (le-ltb n 10 k, ← e) (let y : suc l - 1 ≡ l = omega arith in then_end p q r (decimal l (n / 10)) g (rw y at w) f)
-
-pub digits_none : (p : Page) (left n : ℕ) → left ≡ 0 → p ≡ puts p (decimal left n)
-unfolding decimal puts
-digits_none p left n e = rw e
+-- the digits of a number
+pub number_put : (p r : Page) (s : List ℕ) (k n : ℕ) → n < 10 ^ 20 → IsDigitCount 10 1 n k → take k s ≡ last_digits 10 k n → r ≡ puts p (take k s)
+    → r ≡ puts p (number n)
+number_put p r s k n h d e q = q ∙ ap (puts p) (e ∙ spelled 20 k n (omega arith) h d)
 
 -- the root's slot, or none
 module _ (p q : Page) (k : ℕ) where
@@ -85,6 +71,12 @@ module _ (p q : Page) (k : ℕ) where
   pub root_some : (k ≡ U → ⊥) → q ≡ puts p (number k) → q ≡ puts p (root_text k)
   unfolding root_text
   root_some e h = rw (ne_eqb k U e) h
+
+-- a refusal, by its number
+pub refusal_is : (why m : ℕ) (p q r o : Page) → m ≡ why → q ≡ puts p refused_word → r ≡ puts q (number m) → o ≡ put_byte_lem r 10
+    → o ≡ puts p (refusal_text why)
+unfolding refusal_text
+refusal_is why m p q r o d e f g = in_three p q r o refused_word (number why) 10 e (f ∙ ap (λ (k : ℕ). puts q (number k)) d) g
 
 -- the line of a slot, and the lines of all
 pub row_is : (W : List ℕ) (k : ℕ) (e : Entry) (p q r m n o : Page) → e ≡ entry (as_eight false W) k → q ≡ puts p (number k) → r ≡ puts q (next e.start)
@@ -122,5 +114,5 @@ module _ (m : Map) (W : List ℕ) (p r : Page) (k t : ℕ) (i : k ≡ length W /
   map_text_lem h q e f = rw (← i, ← j, le-ltb t m.count h) (then p q r (head m.count m.root) (rows W 0 m.count) e f)
 
 -- what is printed of work that was taken apart
-pub text_of : (w z : Work) (W : List ℕ) (p q : Page) → w ≡ z → q ≡ puts p (work_text z W) → q ≡ puts p (work_text w W)
+pub text_of : (w z : Work) (W : List ℕ) (p q : Page) → w ≡ z → q ≡ puts p (work_text (job (Ok z)) W) → q ≡ puts p (work_text (job (Ok w)) W)
 text_of w z W p q e h = rw e h

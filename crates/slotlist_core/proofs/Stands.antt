@@ -26,19 +26,18 @@ use Rattle.slotlist_core.specs.Working.{built_in, removal_in, settled_by, remove
 use Rattle.slotlist_core.specs.Feeding.{settled_desk}
 use Rattle.slotlist_core.specs.declared.reading.Said.{Said}
 use Rattle.slotlist_core.specs.declared.reading.Said.TheVariants.{Entry, Remove, Other}
-use Rattle.slotlist_core.specs.declared.working.Work.{Work}
-use Rattle.slotlist_core.specs.declared.working.Work.TheVariants.{Listing, Mapped, Refused}
+use Rattle.slotlist_core.specs.Working.{Job, Listing, Mapped, Refused}
 use Rattle.words.specs.Nodes.{Holds}
 
 -- what the lines led to, read off the work and its memory
-abbrev pub stand_of : Work → List ℕ → List ℕ → List ℕ → Stand
+abbrev pub stand_of : Job → List ℕ → List ℕ → List ℕ → Stand
 stand_of (Listing n) X K E = listed (listed_in n E)
 stand_of (Mapped m) X K E = mapped m X K
 stand_of (Refused why) X K E = refused why
 
 -- The work stands in memory that was W and C at first and is so while entries are listed; 256
 -- entries at most are listed and held.
-abbrev pub Kept : List ℕ → List ℕ → Work → List ℕ → List ℕ → Type 0
+abbrev pub Kept : List ℕ → List ℕ → Job → List ℕ → List ℕ → Type 0
 Kept W C (Listing n) X K = (n ≤ 256) × (X ≡ W) × (K ≡ C)
 Kept W C (Mapped m) X K = (m.count ≤ 256) × Holds X m.count
 Kept W C (Refused why) X K = Unit {0}
@@ -107,7 +106,7 @@ module _ (W C : List ℕ) where
       let r : Effect BuildAnswer = build_call empty_map W C S in
       call_left W C r.answer.no r.answer.map r.words r.colours E long (build_held W C S h)
 
-  settled_of : (w : Work) (X K E : List ℕ) → Kept W C w X K → 768 ≤ length E
+  settled_of : (w : Job) (X K E : List ℕ) → Kept W C w X K → 768 ≤ length E
       → Stands W C (on_desk (settled_by E w X K) E) (settled W C (stand_of w X K E))
   settled_of (Listing n) X K E p long =
       rw (p.1, p.2) (built_stands (listed_in n E) E (omega (arith, list_length n E p.0 long)) long)
@@ -121,13 +120,13 @@ module _ (W C : List ℕ) where
       let r : Effect RemoveAnswer = remove_call m X K k in
       call_left W C r.answer.no r.answer.map r.words r.colours E long (remove_mapped_lem m X K k h g)
 
-  removed_of : (k : ℕ) (w : Work) (X K E : List ℕ) → Kept W C w X K → 768 ≤ length E
+  removed_of : (k : ℕ) (w : Job) (X K E : List ℕ) → Kept W C w X K → 768 ≤ length E
       → Stands W C (on_desk (removed_by k w X K) E) (removed k (stand_of w X K E))
   removed_of k (Listing n) X K E p long = record { same = refl; kept = p; long = long }
   removed_of k (Mapped m) X K E p long = removal_stands m X K E k p.0 p.1 long
   removed_of k (Refused why) X K E p long = record { same = refl; kept = p; long = long }
 
-  entered_of : (a b c : ℕ) (w : Work) (X K E : List ℕ) → Kept W C w X K → 768 ≤ length E
+  entered_of : (a b c : ℕ) (w : Job) (X K E : List ℕ) → Kept W C w X K → 768 ≤ length E
       → Stands W C (desk (entered_work w (length E)) X K (entered_list w a b c E)) (entered a b c (stand_of w X K E))
   unfolding room_for
   entered_of a b c (Listing n) X K E p long =
@@ -150,7 +149,7 @@ module _ (W C : List ℕ) where
   entered_of a b c (Mapped m) X K E p long = record { same = refl; kept = tt; long = long }
   entered_of a b c (Refused why) X K E p long = record { same = refl; kept = tt; long = long }
 
-  wrong_of : (w : Work) (X K E : List ℕ) → Kept W C w X K → 768 ≤ length E
+  wrong_of : (w : Job) (X K E : List ℕ) → Kept W C w X K → 768 ≤ length E
       → Stands W C (desk (wrong_in w) X K E) (wrong (stand_of w X K E))
   wrong_of (Listing n) X K E p long = record { same = refl; kept = tt; long = long }
   wrong_of (Mapped m) X K E p long = record { same = refl; kept = tt; long = long }

@@ -16,8 +16,7 @@ use Rattle.slotlist_core.specs.Feeding.{Stage, stage, begun, lined, stepped, fed
 use Rattle.slotlist_core.specs.declared.reading.Line.{Line}
 use Rattle.slotlist_core.specs.declared.reading.Line.TheVariants.{Start}
 use Rattle.slotlist_core.specs.declared.reading.Said.{Said}
-use Rattle.slotlist_core.specs.declared.working.Work.{Work}
-use Rattle.slotlist_core.specs.declared.working.Work.TheVariants.{Listing, Mapped, Refused}
+use Rattle.slotlist_core.specs.Working.{Job, Listing, Mapped, Refused}
 use Rattle.slotlist_core.proofs.Meaning.{meaning, meaning_end, meaning_byte, not_new}
 use Rattle.slotlist_core.proofs.Stands.{Stands, Kept, stand_of, stands_settled, stands_line}
 use Rattle.slotlist_core.proofs.Lengths.{map_length, refusal_length, puts_all}
@@ -77,13 +76,13 @@ module _ (W C : List ℕ) where
       go false p q = rw (← from_byte L b (lines s) t) q
 
   -- what is printed of work in lent memory is the rule's text, and fits
-  text_of : (w : Work) (X K E : List ℕ) → Kept W C w X K → work_text w X ≡ text (stand_of w X K E)
+  text_of : (w : Job) (X K E : List ℕ) → Kept W C w X K → work_text w X ≡ text (stand_of w X K E)
   unfolding checked_text
   text_of (Listing n) X K E p = refl
   text_of (Mapped m) X K E p = rw (le-ltb (min (length X / 8) 65535) m.count (omega arith))
   text_of (Refused why) X K E p = refl
 
-  text_fits : (w : Work) (X K E : List ℕ) → Kept W C w X K → length (text (stand_of w X K E)) ≤ 21557
+  text_fits : (w : Job) (X K E : List ℕ) → Kept W C w X K → length (text (stand_of w X K E)) ≤ 21557
   text_fits (Listing n) X K E p = omega arith
   text_fits (Mapped m) X K E p = map_length m.count m.root X p.0
   text_fits (Refused why) X K E p = refusal_length why

@@ -1,12 +1,12 @@
 -- The input byte by byte.
 -- Letters: W words, C colours, s state or piece of the input, E entries (their numbers), b byte,
 --   d desk, t stage
-use Rattle.std.specs.Prelude.{cond, ℕ, eqb}
+use Rattle.std.specs.Prelude.{cond, Ok, ℕ, eqb}
 use mathlib.Core.List.{List, foldl}
 use Rattle.lines.specs.Output.{Page, page}
 use Rattle.iset.specs.Effects.{effect}
 use Rattle.slotlist_core.specs.Reading.{byte_rule, end_rule, new_rule}
-use Rattle.slotlist_core.specs.Working.{Desk, desk, line_in, settled_in, on_desk}
+use Rattle.slotlist_core.specs.Working.{Desk, desk, job, line_in, settled_in, on_desk}
 use Rattle.slotlist_core.specs.Writing.{puts, work_text}
 use Rattle.slotlist_core.specs.declared.State.{State}
 use Rattle.slotlist_core.specs.declared.reading.Line.{Line}
@@ -19,10 +19,10 @@ pub record Stage : Type 0 where
   pub desk : Desk
 
 abbrev pub stage : (state : State) (words colours entries : List ℕ) → Stage
-stage s W C E = record { line = s.line; desk = desk s.work W C E }
+stage s W C E = record { line = s.line; desk = desk (job s.work) W C E }
 
 abbrev pub begun : State
-begun = record { line = Start; work = Listing 0 }
+begun = record { line = Start; work = Ok (Listing 0) }
 
 -- a line is complete
 abbrev pub lined : (stage : Stage) → Desk

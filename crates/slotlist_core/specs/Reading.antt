@@ -2,7 +2,7 @@
 -- Letters: b byte or end, d digit, k letters so far, v value, w longer value, g before (what the
 --   line has so far), a start
 use Rattle.std.specs.Prelude.{Bool, true, false, cond, ℕ, ◌+◌, get_or, eqb, ltb}
-use Rattle.lines.specs.Input.{digit_of_lem, appended, on_digit, on_value}
+use Rattle.lines.specs.Input.{digit_of_lem, appended, on_some}
 use Rattle.slotlist_core.specs.Words.{remove}
 use Rattle.slotlist_core.specs.declared.reading.Before.{Before}
 use Rattle.slotlist_core.specs.declared.reading.Before.TheVariants.{Nothing, One, Two, Removal}
@@ -13,7 +13,7 @@ use Rattle.slotlist_core.specs.declared.reading.Said.TheVariants.{Entry, Remove,
 
 -- a byte where a number has to begin
 unfoldable pub first_digit_lem : (before : Before) (byte : ℕ) → Line
-first_digit_lem g b = on_digit (digit_of_lem b) (λ d. Number g d) Wrong
+first_digit_lem g b = on_some (digit_of_lem b) (λ d. Number g d) Wrong
 
 unfoldable pub start_byte_lem : (byte : ℕ) → Line
 start_byte_lem b = cond (eqb b 114) (Name 1) (first_digit_lem Nothing b)
@@ -27,7 +27,7 @@ name_byte_lem k b =
 
 -- one more digit
 unfoldable pub longer : (before : Before) (value digit : ℕ) → Line
-longer g v d = on_value (appended v d) (λ w. Number g w) Wrong
+longer g v d = on_some (appended v d) (λ w. Number g w) Wrong
 
 -- a space after a number
 abbrev pub gap_after_lem : (before : Before) (value : ℕ) → Line
@@ -37,7 +37,7 @@ gap_after_lem (Two a b) v = Wrong
 gap_after_lem Removal v = Wrong
 
 unfoldable pub number_byte_lem : (before : Before) (value byte : ℕ) → Line
-number_byte_lem g v b = on_digit (digit_of_lem b) (λ d. longer g v d) (cond (eqb b 32) (gap_after_lem g v) Wrong)
+number_byte_lem g v b = on_some (digit_of_lem b) (λ d. longer g v d) (cond (eqb b 32) (gap_after_lem g v) Wrong)
 
 abbrev pub byte_rule : (line : Line) (byte : ℕ) → Line
 byte_rule Start b = start_byte_lem b

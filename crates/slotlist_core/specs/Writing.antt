@@ -6,8 +6,7 @@ use Rattle.words.specs.Nodes.{slots_in_lem}
 use Rattle.iset.specs.declared.Map.{Map}
 use Rattle.lines.specs.Output.{Page, page}
 use Rattle.slotlist_core.specs.Text.{map_text, refusal_text}
-use Rattle.slotlist_core.specs.declared.working.Work.{Work}
-use Rattle.slotlist_core.specs.declared.working.Work.TheVariants.{Listing, Mapped, Refused}
+use Rattle.slotlist_core.specs.Working.{Job, Listing, Mapped, Refused}
 
 -- a byte, where there is room; a text
 unfoldable pub put_byte_lem : (page : Page) (byte : ℕ) → Page
@@ -21,7 +20,7 @@ unfoldable pub checked_text : (map : Map) (words : List ℕ) → List ℕ
 checked_text m W = cond (ltb (min (slots_in_lem (length W)) 65535) m.count) (refusal_text 1) (map_text m.count m.root W)
 
 -- what is printed at the end, with the map's words W
-abbrev pub work_text : (work : Work) (words : List ℕ) → List ℕ
+abbrev pub work_text : (work : Job) (words : List ℕ) → List ℕ
 work_text (Listing n) W = []
 work_text (Mapped m) W = checked_text m W
 work_text (Refused why) W = refusal_text why

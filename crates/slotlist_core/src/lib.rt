@@ -10,19 +10,21 @@ mod writing;
 
 ghost use Rattle.std.specs.Prelude.{◌≡◌};
 ghost use Rattle.slotlist_core.specs.Feeding.{stage, begun, stepped, fed, last_line_lem, ended, finished, finish};
-ghost use Rattle.slotlist_core.specs.Working.{desk};
+ghost use Rattle.slotlist_core.specs.Working.{desk, job};
 ghost use Rattle.slotlist_core.specs.Reading.{byte_rule};
 
+use iset::Refusal;
 use reading::Line;
-use working::Work;
+use working::{Work, take_line};
+use writing::put_refusal;
 
 const LINE_END: u8 = 10;
 
-// The line so far, and what the lines before it have led to.
+// The line so far, and what the lines before it have led to, or the first refusal.
 #[derive(Clone, Copy)]
 pub struct State {
     line: Line,
-    work: Work,
+    work: Result<Work, Refusal>,
 }
 
 impl State {
@@ -32,7 +34,7 @@ impl State {
     {
         State {
             line: Line::Start,
-            work: Work::Listing(0),
+            work: Ok(Work::Listing(0)),
         }
     }
 
@@ -43,7 +45,7 @@ impl State {
     {
         let line = self.line;
         let work = self.work;
-        let after = work.line(line.end(), nodes, colours, entries);
+        let after = take_line(work, line.end(), nodes, colours, entries);
         State {
             line: Line::Start,
             work: after,
@@ -86,18 +88,20 @@ impl State {
             ≡ fed (stage self nodes.old colours.old entries.old) piece.now }
     {
         let mut state = self;
-        let mut i = 0;
-        while i < piece.len() {
-            let b = piece[i];
-            i += 1;
+        for &b in piece {
             state = state.byte(b, nodes, colours, entries);
         }
         state
     }
 
     // Takes the last line, if its end is missing.
-    fn end_last(self, nodes: &mut [u64], colours: &mut [u8], entries: &mut [u64]) -> Work
-        ensures { desk result nodes.new colours.new entries.new
+    fn end_last(
+        self,
+        nodes: &mut [u64],
+        colours: &mut [u8],
+        entries: &mut [u64],
+    ) -> Result<Work, Refusal>
+        ensures { desk (job result) nodes.new colours.new entries.new
             ≡ last_line_lem (stage self nodes.old colours.old entries.old) }
     {
         let line = self.line;
@@ -105,16 +109,21 @@ impl State {
         if line.is_new() {
             work
         } else {
-            work.line(line.end(), nodes, colours, entries)
+            take_line(work, line.end(), nodes, colours, entries)
         }
     }
 
     // Ends the input.
-    fn settle(self, nodes: &mut [u64], colours: &mut [u8], entries: &mut [u64]) -> Work
-        ensures { desk result nodes.new colours.new entries.new
+    fn settle(
+        self,
+        nodes: &mut [u64],
+        colours: &mut [u8],
+        entries: &mut [u64],
+    ) -> Result<Work, Refusal>
+        ensures { desk (job result) nodes.new colours.new entries.new
             ≡ ended (stage self nodes.old colours.old entries.old) }
     {
-        let work = self.end_last(nodes, colours, entries);
+        let work = self.end_last(nodes, colours, entries)?;
         work.settle(nodes, colours, entries)
     }
 
@@ -130,7 +139,9 @@ impl State {
         ensures { finished result nodes.new colours.new entries.new out.new
             ≡ finish (stage self nodes.old colours.old entries.old) out.old }
     {
-        let work = self.settle(nodes, colours, entries);
-        work.put(nodes, out)
+        match self.settle(nodes, colours, entries) {
+            Ok(work) => work.put(nodes, out),
+            Err(why) => put_refusal(out, why),
+        }
     }
 }

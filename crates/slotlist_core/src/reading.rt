@@ -2,7 +2,7 @@
 ghost use Rattle.std.specs.Prelude.{◌≡◌};
 ghost use Rattle.slotlist_core.specs.Reading.{first_digit_lem, start_byte_lem, name_byte_lem, longer, gap_after_lem, number_byte_lem, byte_rule, complete, end_rule, new_rule};
 
-use lines::input::{Digit, Value, append_digit, digit_of};
+use lines::input::{append_digit, digit_of};
 
 const SPACE: u8 = 32;
 
@@ -38,8 +38,8 @@ fn first_digit(before: Before, b: u8) -> Line
     ensures { result ≡ first_digit_lem before b }
 {
     match digit_of(b) {
-        Digit::Is(d) => Line::Number(before, d),
-        Digit::Not => Line::Wrong,
+        Some(d) => Line::Number(before, d),
+        None => Line::Wrong,
     }
 }
 
@@ -75,8 +75,8 @@ fn longer(before: Before, value: u64, d: u64) -> Line
     ensures { result ≡ longer before value d }
 {
     match append_digit(value, d) {
-        Value::Is(v) => Line::Number(before, v),
-        Value::Over => Line::Wrong,
+        Some(v) => Line::Number(before, v),
+        None => Line::Wrong,
     }
 }
 
@@ -88,8 +88,7 @@ fn gap_after(before: Before, value: u64) -> Line
     match before {
         Before::Nothing => Line::Gap(Before::One(value)),
         Before::One(start) => Line::Gap(Before::Two { start, end: value }),
-        Before::Two { start: _, end: _ } => Line::Wrong,
-        Before::Removal => Line::Wrong,
+        Before::Two { start: _, end: _ } | Before::Removal => Line::Wrong,
     }
 }
 
@@ -97,8 +96,8 @@ fn number_byte(before: Before, value: u64, b: u8) -> Line
     ensures { result ≡ number_byte_lem before value b }
 {
     match digit_of(b) {
-        Digit::Is(d) => longer(before, value, d),
-        Digit::Not => if b == SPACE {
+        Some(d) => longer(before, value, d),
+        None => if b == SPACE {
             gap_after(before, value)
         } else {
             Line::Wrong
@@ -111,8 +110,7 @@ fn complete(before: Before, value: u64) -> Said
     ensures { result ≡ complete before value }
 {
     match before {
-        Before::Nothing => Said::Other,
-        Before::One(_) => Said::Other,
+        Before::Nothing | Before::One(_) => Said::Other,
         Before::Two { start, end } => Said::Entry { start, end, value },
         Before::Removal => Said::Remove(value),
     }
@@ -137,11 +135,8 @@ impl Line {
         ensures { result ≡ end_rule self }
     {
         match self {
-            Line::Start => Said::Other,
-            Line::Name(_) => Said::Other,
             Line::Number(before, value) => complete(before, value),
-            Line::Gap(_) => Said::Other,
-            Line::Wrong => Said::Other,
+            Line::Start | Line::Name(_) | Line::Gap(_) | Line::Wrong => Said::Other,
         }
     }
 
@@ -149,12 +144,6 @@ impl Line {
     pub(crate) fn is_new(self) -> bool
         ensures { result ≡ new_rule self }
     {
-        match self {
-            Line::Start => true,
-            Line::Name(_) => false,
-            Line::Number(_, _) => false,
-            Line::Gap(_) => false,
-            Line::Wrong => false,
-        }
+        matches!(self, Line::Start)
     }
 }

@@ -1,14 +1,15 @@
 // Writes what is printed, as text in a lent buffer. `at` is where the next byte goes. Each call
 // returns the place after what it wrote. If the buffer is full, nothing is written.
-ghost use Rattle.std.specs.Prelude.{◌≡◌, false, ◌+◌, ◌<◌};
-ghost use Rattle.lines.specs.Output.{page, decimal, number, next};
+ghost use Rattle.std.specs.Prelude.{◌≡◌, Ok, false};
+ghost use Rattle.lines.specs.Output.{page, number, next};
 ghost use Rattle.slotlist_core.specs.Text.{root_text, head, row, rows, refusal_text};
 ghost use Rattle.slotlist_core.specs.Writing.{put_byte_lem, puts, checked_text, work_text};
+ghost use Rattle.slotlist_core.specs.Working.{job};
 ghost use Rattle.words.specs.Layouts.{HasIn, HoldsIn};
+ghost use Rattle.words.specs.Refusals.{refusal_number};
 
 use crate::working::Work;
-use iset::Map;
-use words::interval::smaller;
+use iset::{Map, Refusal};
 use words::ix::U;
 use words::node::{Entry, entry_of, slots_in};
 
@@ -26,40 +27,18 @@ fn put_text(out: &mut [u8], at: usize, text: &[u8]) -> usize
     ensures { page result out.new ≡ puts (page at out.old) text.now }
 {
     let mut to = at;
-    let mut i = 0;
-    while i < text.len() {
-        let b = text[i];
-        i += 1;
+    for &b in text {
         to = put_byte(out, to, b);
     }
     to
 }
 
-fn glyph(d: u64) -> u8
-    requires { d < 10 }
-    ensures { result ≡ 48 + d }
-{
-    (48 + d) as u8
-}
-
-// Writes the last digits of a number, no more than `left` of them.
-fn put_digits(out: &mut [u8], at: usize, n: u64, left: u64) -> usize
-    ensures { page result out.new ≡ puts (page at out.old) (decimal left n) }
-{
-    if left == 0 {
-        return at;
-    }
-    if n < 10 {
-        return put_byte(out, at, glyph(n));
-    }
-    let to = put_digits(out, at, n / 10, left - 1);
-    put_byte(out, to, glyph(n % 10))
-}
-
 fn put_number(out: &mut [u8], at: usize, n: u64) -> usize
     ensures { page result out.new ≡ puts (page at out.old) (number n) }
 {
-    put_digits(out, at, n, 20)
+    let mut text = [0u8; 20];
+    let k = io::decimal(n, &mut text);
+    put_text(out, at, &text[..k])
 }
 
 // Writes a space and a number.
@@ -108,19 +87,17 @@ fn put_rows(out: &mut [u8], at: usize, nodes: &[u64], count: u64) -> usize
     ensures { page result out.new ≡ puts (page at out.old) (rows nodes.now 0 count) }
 {
     let mut to = at;
-    let mut slot = 0;
-    while slot < count {
+    for slot in 0..count {
         to = put_row(out, to, nodes, slot);
-        slot += 1;
     }
     to
 }
 
-fn put_refusal(out: &mut [u8], why: u64) -> usize
-    ensures { page result out.new ≡ puts (page 0 out.old) (refusal_text why) }
+pub(crate) fn put_refusal(out: &mut [u8], why: Refusal) -> usize
+    ensures { page result out.new ≡ puts (page 0 out.old) (refusal_text (refusal_number why)) }
 {
     let a = put_text(out, 0, b"refused ");
-    let b = put_number(out, a, why);
+    let b = put_number(out, a, why.number());
     put_byte(out, b, b'\n')
 }
 
@@ -129,8 +106,8 @@ fn put_map(out: &mut [u8], map: Map, nodes: &[u64]) -> usize
     ensures { page result out.new ≡ puts (page 0 out.old) (checked_text map nodes.now) }
 {
     let count = map.count;
-    if smaller(slots_in(nodes.len(), false), 65535) < count {
-        return put_refusal(out, 1);
+    if slots_in(nodes.len(), false).min(65535) < count {
+        return put_refusal(out, Refusal::NoRoom);
     }
     let to = put_head(out, map);
     put_rows(out, to, nodes, count)
@@ -139,12 +116,11 @@ fn put_map(out: &mut [u8], map: Map, nodes: &[u64]) -> usize
 impl Work {
     // Writes what is printed at the end.
     pub(crate) fn put(self, nodes: &[u64], out: &mut [u8]) -> usize
-        ensures { page result out.new ≡ puts (page 0 out.old) (work_text self nodes.now) }
+        ensures { page result out.new ≡ puts (page 0 out.old) (work_text (job (Ok self)) nodes.now) }
     {
         match self {
             Work::Listing(_) => 0,
             Work::Mapped(map) => put_map(out, map, nodes),
-            Work::Refused(why) => put_refusal(out, why),
         }
     }
 }

@@ -1,14 +1,25 @@
 // What a line asks for.
 use crate::asked;
-use slotshell_text::Range;
+use iset::{Entry, Interval, Span};
+use slotshell_text::help::Usage;
 
-// The commands without numbers.
+// The pictures of the map.
 #[derive(Clone, Copy)]
-pub enum Bare {
+pub(crate) enum Drawing {
     Tree,
     Slots,
     Svg,
     Dot,
+}
+
+// Nothing is an empty line or a comment. Misused is a command with other things after its name than
+// it takes.
+#[derive(Clone, Copy)]
+pub(crate) enum Command<'a> {
+    Nothing,
+    Unknown,
+    Misused(Usage),
+    Draw(Drawing),
     Check,
     Disjoint,
     Save,
@@ -17,220 +28,113 @@ pub enum Bare {
     Tidy,
     Help,
     Quit,
+    Find(Span),
+    Trace(Span),
+    Plain(Span),
+    Unload(Span),
+    Build(&'a [u64]),
+    Insert(Entry),
+    Remove(u64),
+    At(u64),
+    Exact(Interval),
+    Ticket(u64),
+    Read(u64),
+    Renumber(&'a [u64]),
+    Point(u64),
+    Fit(Entry),
 }
 
-// The commands with a range.
-#[derive(Clone, Copy)]
-pub enum Ranged {
-    Find,
-    Trace,
-    Plain,
-    Unload,
+// The command with a name that takes nothing after it.
+fn bare(name: &[u8]) -> Option<Command<'static>> {
+    Some(match name {
+        b"tree" => Command::Draw(Drawing::Tree),
+        b"slots" => Command::Draw(Drawing::Slots),
+        b"svg" => Command::Draw(Drawing::Svg),
+        b"dot" => Command::Draw(Drawing::Dot),
+        b"check" => Command::Check,
+        b"disjoint" => Command::Disjoint,
+        b"save" => Command::Save,
+        b"load" => Command::Load,
+        b"plan" => Command::Plan,
+        b"tidy" => Command::Tidy,
+        b"help" => Command::Help,
+        b"quit" => Command::Quit,
+        _ => return None,
+    })
 }
 
-// The commands with numbers.
-#[derive(Clone, Copy)]
-pub enum Numbered {
-    Build,
-    Insert,
-    Remove,
-    At,
-    Exact,
-    Ticket,
-    Read,
-    Renumber,
-    Point,
-    Fit,
+// How the command with a name is used that takes numbers after it.
+fn numbered(name: &[u8]) -> Option<Usage> {
+    Some(match name {
+        b"build" => Usage::Build,
+        b"insert" => Usage::Insert,
+        b"remove" => Usage::Remove,
+        b"at" => Usage::At,
+        b"exact" => Usage::Exact,
+        b"ticket" => Usage::Ticket,
+        b"read" => Usage::Read,
+        b"renumber" => Usage::Renumber,
+        b"point" => Usage::Point,
+        b"fit" => Usage::Fit,
+        _ => return None,
+    })
 }
 
-// Nothing is an empty line or a comment. Misused is a command with other things after its name than
-// it takes. Of a numbered command, the number is how many numbers there are.
-#[derive(Clone, Copy)]
-pub enum Command {
-    Nothing,
-    Unknown,
-    MisusedRanged(Ranged),
-    MisusedNumbered(Numbered),
-    Bare(Bare),
-    Ranged(Ranged, Range),
-    Numbered(Numbered, usize),
+// The command with a name that takes a range after it.
+fn ranged(name: &[u8], rest: &[u8]) -> Option<Command<'static>> {
+    Some(match (name, asked::range(rest)) {
+        (b"find", Some(range)) => Command::Find(range),
+        (b"trace", Some(range)) => Command::Trace(range),
+        (b"plain", Some(range)) => Command::Plain(range),
+        (b"unload", Some(range)) => Command::Unload(range),
+        (b"find" | b"trace" | b"plain" | b"unload", None) => Command::Misused(Usage::Range),
+        _ => return None,
+    })
 }
 
-fn bare_at(place: usize) -> Bare {
-    match place {
-        0 => Bare::Tree,
-        1 => Bare::Slots,
-        2 => Bare::Svg,
-        3 => Bare::Dot,
-        4 => Bare::Check,
-        5 => Bare::Disjoint,
-        6 => Bare::Save,
-        7 => Bare::Load,
-        8 => Bare::Plan,
-        9 => Bare::Tidy,
-        10 => Bare::Help,
-        _ => Bare::Quit,
+// The command of a use with its numbers.
+fn with_numbers(usage: Usage, list: &[u64]) -> Command<'_> {
+    match (usage, list) {
+        (Usage::Build, _) => Command::Build(list),
+        (Usage::Renumber, _) => Command::Renumber(list),
+        (Usage::Insert, &[start, end, value]) => Command::Insert(Entry { start, end, value }),
+        (Usage::Fit, &[start, end, value]) => Command::Fit(Entry { start, end, value }),
+        (Usage::Exact, &[start, end]) => Command::Exact(Interval { start, end }),
+        (Usage::Remove, &[slot]) => Command::Remove(slot),
+        (Usage::At, &[address]) => Command::At(address),
+        (Usage::Ticket, &[slot]) => Command::Ticket(slot),
+        (Usage::Read, &[number]) => Command::Read(number),
+        (Usage::Point, &[address]) => Command::Point(address),
+        _ => Command::Misused(usage),
     }
 }
 
-fn ranged_at(place: usize) -> Ranged {
-    match place {
-        0 => Ranged::Find,
-        1 => Ranged::Trace,
-        2 => Ranged::Plain,
-        _ => Ranged::Unload,
-    }
-}
-
-fn numbered_at(place: usize) -> Numbered {
-    match place {
-        0 => Numbered::Build,
-        1 => Numbered::Insert,
-        2 => Numbered::Remove,
-        3 => Numbered::At,
-        4 => Numbered::Exact,
-        5 => Numbered::Ticket,
-        6 => Numbered::Read,
-        7 => Numbered::Renumber,
-        8 => Numbered::Point,
-        _ => Numbered::Fit,
-    }
-}
-
-// Whether a command takes n numbers.
-fn takes(c: Numbered, n: usize) -> bool {
-    match c {
-        Numbered::Build => n < usize::MAX,
-        Numbered::Renumber => n < usize::MAX,
-        Numbered::Insert => n == 3,
-        Numbered::Fit => n == 3,
-        Numbered::Exact => n == 2,
-        _ => n == 1,
-    }
-}
-
-// Compares one more byte of a name in the list of names. Returns how many bytes of `name` are
-// matched then, or usize::MAX if they differ.
-fn matched(name: &[u8], k: usize, b: u8) -> usize {
-    if k < name.len() {
-        if name[k] == b {
-            return k + 1;
+// The command with a name, and with the rest of the line after it.
+fn named<'a>(name: &[u8], rest: &[u8], room: &'a mut [u64]) -> Command<'a> {
+    if let Some(command) = bare(name) {
+        if asked::skip_blanks(rest).is_empty() {
+            return command;
         }
+        return Command::Unknown;
     }
-    usize::MAX
-}
-
-fn next_match(name: &[u8], k: usize, b: u8) -> usize {
-    if b == b';' { 0 } else { matched(name, k, b) }
-}
-
-// How many names have ended, with one more byte.
-fn next_name(n: usize, b: u8) -> usize {
-    if b == b';' {
-        if n < usize::MAX {
-            return n + 1;
-        }
+    if let Some(command) = ranged(name, rest) {
+        return command;
     }
-    n
-}
-
-// Returns which of the names it is, or how many names there are if it is not one of them. Each of
-// `names` ends in a semicolon.
-fn which(name: &[u8], names: &[u8]) -> usize {
-    let mut n = 0;
-    let mut k = 0;
-    let mut i = 0;
-    while i < names.len() {
-        let b = names[i];
-        i += 1;
-        if b == b';' {
-            if k == name.len() {
-                return n;
-            }
-        }
-        n = next_name(n, b);
-        k = next_match(name, k, b);
-    }
-    n
-}
-
-// Each list of names has the order of its `.._at` above.
-fn bare_of(name: &[u8]) -> usize {
-    which(
-        name,
-        b"tree;slots;svg;dot;check;disjoint;save;load;plan;tidy;help;quit;",
-    )
-}
-
-fn ranged_of(name: &[u8]) -> usize {
-    which(name, b"find;trace;plain;unload;")
-}
-
-fn numbered_of(name: &[u8]) -> usize {
-    which(
-        name,
-        b"build;insert;remove;at;exact;ticket;read;renumber;point;fit;",
-    )
-}
-
-fn with_numbers(c: Numbered, line: &[u8], from: usize, numbers: &mut [u64]) -> Command {
-    let n = asked::numbers(line, from, numbers);
-    if takes(c, n) {
-        Command::Numbered(c, n)
-    } else {
-        Command::MisusedNumbered(c)
+    let Some(usage) = numbered(name) else {
+        return Command::Unknown;
+    };
+    match asked::numbers(rest, room) {
+        Some(list) => with_numbers(usage, list),
+        None => Command::Misused(usage),
     }
 }
 
-fn with_range(c: Ranged, line: &[u8], from: usize) -> Command {
-    let a = asked::range(line, from);
-    if a.fine {
-        let r = a.range;
-        Command::Ranged(c, r)
-    } else {
-        Command::MisusedRanged(c)
-    }
-}
-
-fn alone(c: Bare, line: &[u8], from: usize) -> Command {
-    if line.len() <= asked::skip(line, from) {
-        Command::Bare(c)
-    } else {
-        Command::Unknown
-    }
-}
-
-// The command with a name, of a line whose name ends at `end`.
-fn named(name: &[u8], line: &[u8], end: usize, numbers: &mut [u64]) -> Command {
-    let k = bare_of(name);
-    if k < 12 {
-        return alone(bare_at(k), line, end);
-    }
-    let k = ranged_of(name);
-    if k < 4 {
-        return with_range(ranged_at(k), line, end);
-    }
-    let k = numbered_of(name);
-    if k < 10 {
-        return with_numbers(numbered_at(k), line, end, numbers);
-    }
-    Command::Unknown
-}
-
-// What a line asks for. Its numbers are left in `numbers`.
-pub(crate) fn command_of(line: &[u8], numbers: &mut [u64]) -> Command {
-    let at = asked::skip(line, 0);
-    if line.len() <= at {
+// What a line asks for. A list of numbers in it is left in `room`.
+pub(crate) fn command_of<'a>(line: &[u8], room: &'a mut [u64]) -> Command<'a> {
+    let text = asked::skip_blanks(line);
+    if text.is_empty() || text.starts_with(b"#") {
         return Command::Nothing;
     }
-    if line[at] == b'#' {
-        return Command::Nothing;
-    }
-    let end = asked::word_end(line, at);
-    if at <= end {
-        if end <= line.len() {
-            return named(&line[at..end], line, end, numbers);
-        }
-    }
-    Command::Unknown
+    let (name, rest) = asked::word(text);
+    named(name, rest, room)
 }

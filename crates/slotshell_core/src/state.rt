@@ -1,102 +1,104 @@
 // What stays from line to line.
-use iset::{Interval, Map, Query};
+use crate::refused::Refused;
+use iset::ticket::Ticket;
+use iset::{Bound, Cursor, Drained, Entry, Map, Query, Refusal, Span};
 use lines::streams::Streams;
-use slotshell_draw::marks::Marks;
-use slotshell_text::refusal::say_refused;
-use words::ix::U;
+use slotshell_draw::marks::{Lookup, Marks};
+use slotshell_view::nodes::View;
 
-// The map, what a picture of it marks, how many tickets were taken, and how many bytes the saved
-// image has, 0 if none was saved.
-#[derive(Clone, Copy)]
-pub struct State {
+// The map and its store, with room for 256 entries; the saved image, and how many bytes it has, 0
+// if none was saved; the tickets that were taken; and what a picture marks.
+#[derive(Drop)]
+pub(crate) struct Shell<'a> {
+    pub streams: &'a Streams,
     pub map: Map,
-    pub marks: Marks,
-    pub tickets: usize,
+    pub nodes: [u64; 2048],
+    pub colours: [u8; 32],
+    pub image: [u8; 9292],
     pub saved: usize,
+    pub tickets: [Option<Ticket>; 256],
+    pub marks: Marks,
 }
 
-// Says a refusal, which changes nothing. The slot belongs to the words of some refusals.
-pub(crate) fn refused(streams: &Streams, s: State, number: u64, slot: u64) -> State {
-    say_refused(streams, number, slot, 0);
-    s
+// Room for the image of 256 entries.
+pub(crate) fn image_space() -> [u8; 9292] {
+    [0; 9292]
 }
 
-// The query of no lookup. Nothing is looked up by it.
-fn no_query() -> Query {
-    Query::Exact(Interval { start: 0, end: 0 })
+// The first places of a list.
+pub(crate) fn front(list: &[u64], places: u64) -> &[u64] {
+    let n = list.len().min(places as usize);
+    &list[..n]
 }
 
-// The marks after a change: there was no lookup yet.
-fn marks_of(moved: bool, added: u64) -> Marks {
-    let query = no_query();
-    Marks {
-        moved,
-        added,
-        from: U,
-        query,
-    }
-}
-
-impl State {
-    pub(crate) fn new() -> State {
-        let map = Map::new();
-        let marks = marks_of(false, U);
-        State {
-            map,
-            marks,
-            tickets: 0,
+impl<'a> Shell<'a> {
+    pub(crate) fn new(streams: &'a Streams) -> Shell<'a> {
+        Shell {
+            streams,
+            map: Map::new(),
+            nodes: [0; 2048],
+            colours: [0; 32],
+            image: image_space(),
             saved: 0,
+            tickets: [None; 256],
+            marks: Marks::new(),
         }
     }
 
-    // The state after a change of the map.
-    pub(crate) fn changed(self, map: Map, moved: bool, added: u64) -> State {
-        let marks = marks_of(moved, added);
-        State {
-            map,
-            marks,
-            tickets: self.tickets,
-            saved: self.saved,
+    // Notes a lookup. A link that leads to no slot starts no walk.
+    pub(crate) fn looked(&mut self, from: Option<u64>, query: Query) {
+        self.marks.lookup = from.map(|from| Lookup { from, query });
+    }
+
+    pub(crate) fn read(&self, ticket: Ticket) -> Result<Entry, Refusal> {
+        self.map.read(&self.nodes, &self.colours, ticket)
+    }
+
+    // The entry of a slot, read through a ticket. A refused reading, which cannot be below the
+    // count, gives zeros.
+    pub(crate) fn entry_at(&self, slot: u64) -> Entry {
+        self.read(self.map.ticket(slot)).unwrap_or(Entry {
+            start: 0,
+            end: 0,
+            value: 0,
+        })
+    }
+
+    // Drains a lookup, and returns the slots of its hits beside its work.
+    pub(crate) fn drain<'b>(
+        &self,
+        query: Query,
+        cursor: Cursor,
+        room: &'b mut [u64],
+    ) -> Result<(Drained, &'b [u64]), Refusal> {
+        let drained = self
+            .map
+            .drain(&self.nodes, &self.colours, query, cursor, 0, room)?;
+        Ok((drained, front(room, drained.hits)))
+    }
+
+    // The slots of all entries in tree order, as a plain lookup finds them.
+    pub(crate) fn in_order<'b>(&self, room: &'b mut [u64]) -> &'b [u64] {
+        let everything = Query::Overlap(Span {
+            lo: Bound::Unbounded,
+            hi: Bound::Unbounded,
+        });
+        let looked = self.map.plain(&self.nodes, &self.colours, everything, room);
+        match looked {
+            Ok(tally) => front(room, tally.hits),
+            Err(_) => &[],
         }
     }
 
-    // The state after a lookup that starts at a slot.
-    pub(crate) fn looked(self, from: u64, query: Query) -> State {
-        let map = self.map;
-        let old = self.marks;
-        let marks = Marks {
-            moved: old.moved,
-            added: old.added,
-            from,
-            query,
-        };
-        State {
-            map,
-            marks,
-            tickets: self.tickets,
-            saved: self.saved,
-        }
-    }
-
-    pub(crate) fn with_tickets(self, tickets: usize) -> State {
-        let map = self.map;
-        let marks = self.marks;
-        State {
-            map,
-            marks,
-            tickets,
-            saved: self.saved,
-        }
-    }
-
-    pub(crate) fn with_saved(self, saved: usize) -> State {
-        let map = self.map;
-        let marks = self.marks;
-        State {
-            map,
-            marks,
-            tickets: self.tickets,
-            saved,
+    // The view of the map in an image that is written now. A refusal, which the shell's map never
+    // meets, gives an empty image.
+    pub(crate) fn view<'b>(&self, room: &'b mut [u8]) -> View<'b> {
+        let written = self.map.write_image(&self.nodes, &self.colours, room);
+        let n = room.len().min(written.unwrap_or(0) as usize);
+        View {
+            image: &room[..n],
+            count: self.map.count,
+            root: self.map.root,
         }
     }
 }

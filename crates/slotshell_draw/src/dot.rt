@@ -1,74 +1,62 @@
 // The tree as a DOT picture.
-use crate::lists::slot_space;
-use crate::marks::{Marks, Note};
+use crate::depth::child;
+use crate::marks::Marks;
+use crate::picture::{Note, Picture};
 use lines::streams::Streams;
 use slotshell_text::dot;
-use slotshell_view::nodes::{child, entry_at, hull_at, is_red};
+use slotshell_view::nodes::View;
 
 fn say_note(streams: &Streams, note: Note) {
-    if note.is_changed() {
-        dot::say_change(streams, note.old, note.is_new);
+    if let Some(change) = note.change {
+        dot::say_change(streams, change);
     }
     if note.entered {
         dot::say_entered(streams);
     }
 }
 
-fn say_node(streams: &Streams, image: &[u8], count: u64, note: Note, slot: u64) {
-    let e = entry_at(image, count, slot);
-    let hull = hull_at(image, count, slot);
-    dot::say_label(streams, slot, e.start, e.end, e.value);
-    dot::say_hull(streams, hull.start, hull.end);
-    say_note(streams, note);
+fn say_node(p: Picture, slot: u64) {
+    let note = p.note_at(slot);
+    dot::say_label(p.streams, slot, p.view.entry_at(slot));
+    dot::say_hull(p.streams, p.view.hull_at(slot));
+    say_note(p.streams, note);
     dot::say_box(
-        streams,
-        is_red(image, count, slot),
-        note.is_changed(),
+        p.streams,
+        p.view.is_red(slot),
+        note.change.is_some(),
         note.entered,
     );
 }
 
-fn say_link(streams: &Streams, image: &[u8], count: u64, slot: u64, left_side: bool) {
-    let child = child(image, count, slot, left_side);
-    if child < count {
-        dot::say_edge(streams, slot, child);
-    } else {
-        dot::say_gap(streams, slot, left_side);
+fn say_link(p: Picture, slot: u64, left_side: bool) {
+    match child(p.view, slot, left_side) {
+        Some(child) => dot::say_edge(p.streams, slot, child),
+        None => dot::say_gap(p.streams, slot, left_side),
     }
 }
 
 // Writes the links of a slot that has a child.
-fn say_links(streams: &Streams, image: &[u8], count: u64, slot: u64) {
-    let left = child(image, count, slot, true);
-    let right = child(image, count, slot, false);
-    if (left < count) | (right < count) {
-        say_link(streams, image, count, slot, true);
-        dot::say_middle(streams, slot);
-        say_link(streams, image, count, slot, false);
-    }
-}
-
-fn say_all(
-    streams: &Streams,
-    image: &[u8],
-    count: u64,
-    was: &[u64],
-    marks: Marks,
-    entered: &[u64],
-) {
-    let mut slot = 0;
-    while slot < count {
-        say_node(streams, image, count, marks.at(was, entered, slot), slot);
-        say_links(streams, image, count, slot);
-        slot += 1;
+fn say_links(p: Picture, slot: u64) {
+    if child(p.view, slot, true).is_some() || child(p.view, slot, false).is_some() {
+        say_link(p, slot, true);
+        dot::say_middle(p.streams, slot);
+        say_link(p, slot, false);
     }
 }
 
 // Writes the tree as a DOT picture, with marks.
-pub fn say_dot(streams: &Streams, image: &[u8], count: u64, was: &[u64], marks: Marks) {
-    let mut entered = slot_space();
-    marks.put_entered(image, count, &mut entered);
+pub fn say_dot(streams: &Streams, view: View, marks: &Marks) {
+    let entered = marks.entered(view);
+    let p = Picture {
+        streams,
+        view,
+        marks,
+        entered: &entered,
+    };
     dot::say_head(streams);
-    say_all(streams, image, count, was, marks, &entered);
+    for slot in 0..view.count {
+        say_node(p, slot);
+        say_links(p, slot);
+    }
     dot::say_end(streams);
 }

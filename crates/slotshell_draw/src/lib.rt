@@ -1,7 +1,7 @@
 // The drawings of a map: the tree in text, as an SVG and as a DOT picture, a table of the slots,
-// the walk of a lookup, and its work. They are made from an image of the map (docs/IMAGE.md), which
-// crate slotshell_view reads, and from what the caller knows besides. Each of them is written to
-// standard output before its function returns.
+// the walk of a lookup, and its work. They are made from a view of the map (crate slotshell_view),
+// and from what the caller knows besides. Each of them is written to standard output before its
+// function returns.
 #![tactic(auto)]
 
 mod depth;
@@ -9,17 +9,9 @@ pub mod dot;
 pub mod lists;
 pub mod marks;
 mod measures;
-mod numbers;
 pub mod outline;
+mod picture;
 pub mod svg;
 pub mod table;
 pub mod walk;
 pub mod work;
-
-// A map's own numbers.
-#[derive(Clone, Copy)]
-pub struct Head {
-    pub count: u64,
-    pub root: u64,
-    pub version: u64,
-}

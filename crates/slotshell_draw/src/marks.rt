@@ -1,59 +1,66 @@
 // What a picture marks: the entries that the last change moved or added, and the nodes that a
 // lookup after it entered.
-use crate::lists::{is_in, number_of};
-use iter::rules::Query;
-use slotshell_view::lookups::trail_of;
-use words::ix::U;
+ghost use Rattle.std.specs.Prelude.{◌≡◌, None, get_or, replicate};
 
-// Whether the last change moved an entry, the slot of the entry that it added, or U, and the last
-// lookup: where its walk starts, or U if there was none, and its query. Two lists are beside it.
-// `was` has, at the place of each slot, the old slot of its entry, or U if the entry did not move.
-// `entered` has the nodes that the lookup entered.
+use crate::lists::slot_space;
+use iter::rules::Query;
+use slotshell_text::note::Change;
+use slotshell_view::nodes::View;
+
+// A lookup: the slot where its walk starts, and its query.
 #[derive(Clone, Copy)]
-pub struct Marks {
-    pub moved: bool,
-    pub added: u64,
+pub struct Lookup {
     pub from: u64,
     pub query: Query,
 }
 
-// What is marked at one slot: its entry's old slot or U, whether the entry is new, and whether the
-// node was entered.
+// At the place of each slot the old slot of its entry, if the last change moved it; the slot of the
+// entry that the change added; and the last lookup after it.
 #[derive(Clone, Copy)]
-pub struct Note {
-    pub old: u64,
-    pub is_new: bool,
-    pub entered: bool,
+pub struct Marks {
+    pub was: [Option<u64>; 256],
+    pub added: Option<u64>,
+    pub lookup: Option<Lookup>,
 }
 
 impl Marks {
-    // Writes the nodes that the last lookup entered.
-    pub(crate) fn put_entered(self, image: &[u8], count: u64, out: &mut [u64]) {
-        let query = self.query;
-        trail_of(image, count, query, self.from, out);
-    }
-
-    pub(crate) fn at(self, was: &[u64], entered: &[u64], slot: u64) -> Note {
-        Note {
-            old: number_of(was, slot),
-            is_new: self.added == slot,
-            entered: is_in(entered, slot),
+    // No marks.
+    pub fn new() -> Marks
+        ensures { result ≡ record { was = replicate 256 None; added = None; lookup = None } }
+    {
+        Marks {
+            was: [None; 256],
+            added: None,
+            lookup: None,
         }
     }
 
+    // The old slot of the entry in a slot, if the last change moved it.
+    pub fn old_slot(&self, slot: u64) -> Option<u64>
+        ensures { result ≡ get_or self.now.was slot None }
+    {
+        self.was.get(slot as usize).copied().flatten()
+    }
+
+    // What the last change did to the entry in a slot.
+    pub(crate) fn change_at(&self, slot: u64) -> Option<Change> {
+        if self.added == Some(slot) {
+            return Some(Change::New);
+        }
+        self.old_slot(slot).map(Change::From)
+    }
+
     // Whether anything is marked that a change did.
-    pub(crate) fn has_change(self) -> bool {
-        self.moved | (self.added != U)
+    pub(crate) fn has_change(&self) -> bool {
+        self.added.is_some() || self.was.iter().any(|old| old.is_some())
     }
 
-    pub(crate) fn has_lookup(self) -> bool {
-        self.from != U
-    }
-}
-
-impl Note {
-    // Whether a change moved or added the entry.
-    pub(crate) fn is_changed(self) -> bool {
-        (self.old != U) | self.is_new
+    // The nodes that the last lookup entered.
+    pub(crate) fn entered(&self, view: View) -> [u64; 256] {
+        let mut entered = slot_space();
+        if let Some(lookup) = self.lookup {
+            view.trail_of(lookup.query, lookup.from, &mut entered);
+        }
+        entered
     }
 }

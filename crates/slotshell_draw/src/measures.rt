@@ -1,37 +1,41 @@
 // How long the numbers of a map are in print.
-use crate::numbers::digits;
-use slotshell_view::nodes::{entry_at, hull_at};
-use words::interval::larger;
+ghost use Rattle.std.specs.Prelude.{◌≤◌};
 
-fn with_slot(longest: u64, image: &[u8], count: u64, slot: u64) -> u64 {
-    let e = entry_at(image, count, slot);
-    let hull = hull_at(image, count, slot);
-    let own = larger(digits(e.start), digits(e.end));
-    larger(
-        longest,
-        larger(own, larger(digits(hull.start), digits(hull.end))),
-    )
+use slotshell_view::nodes::View;
+
+// How many digits a number has.
+pub(crate) fn digits(x: u64) -> u64 {
+    x.checked_ilog10().map_or(1, |n| u64::from(n) + 1)
+}
+
+// The greatest address of a slot, or of its hull.
+fn address_at(view: View, slot: u64) -> u64 {
+    let e = view.entry_at(slot);
+    let hull = view.hull_at(slot);
+    e.start.max(e.end).max(hull.start).max(hull.end)
 }
 
 // How many digits the longest address has.
-pub(crate) fn longest_address(image: &[u8], count: u64) -> u64 {
-    let mut longest = 1;
-    let mut slot = 0;
-    while slot < count {
-        longest = with_slot(longest, image, count, slot);
-        slot += 1;
+pub(crate) fn longest_address(view: View) -> u64 {
+    let mut greatest = 0;
+    for slot in 0..view.count {
+        greatest = address_at(view, slot).max(greatest);
     }
-    longest
+    digits(greatest)
 }
 
 // How many digits the longest value has.
-pub(crate) fn longest_value(image: &[u8], count: u64) -> u64 {
-    let mut longest = 1;
-    let mut slot = 0;
-    while slot < count {
-        let e = entry_at(image, count, slot);
-        longest = larger(longest, digits(e.value));
-        slot += 1;
+pub(crate) fn longest_value(view: View) -> u64 {
+    let mut greatest = 0;
+    for slot in 0..view.count {
+        greatest = view.entry_at(slot).value.max(greatest);
     }
-    longest
+    digits(greatest)
+}
+
+// A number, or 0 if there is nothing to take room.
+pub(crate) fn if_there(there: bool, size: u64) -> u64
+    ensures { result ≤ size }
+{
+    if there { size } else { 0 }
 }

@@ -1,131 +1,110 @@
 // The walk of a lookup, one line a node: down to the left, then down to the right.
-use crate::Head;
-use crate::depth::{HIGHEST, is_left};
+use crate::depth::{HIGHEST, child, is_left, parent};
 use crate::lists::slot_space;
-use crate::numbers::times;
 use iter::rules::Query;
 use lines::streams::Streams;
-use slotshell_text::{Range, trace};
-use slotshell_view::lookups::{goes, trail_of};
-use slotshell_view::nodes::{child, entry_at, hull_at, parent};
-use words::interval::Span;
+use slotshell_text::trace;
+use slotshell_text::trace::Child;
+use slotshell_view::nodes::View;
+use words::interval::{Span, admits_start, passed_by, reached_by};
 use words::node::Entry;
 
-// Writes whether an entry is a hit.
-fn say_kind(streams: &Streams, range: Span, e: Entry) {
-    let lo = range.lo;
-    let hi = range.hi;
-    if hi.admits_start(e.start) {
-        if lo.passed_by(e.end) {
-            trace::say_hit(streams);
-            return;
-        }
-        if lo.reached_by(e.end) {
-            trace::say_touches(streams);
-            return;
-        }
-    }
-    trace::say_neither(streams);
+// A walk: the view of the map, the range that is looked up, and where its lines go.
+#[derive(Clone, Copy)]
+struct Walk<'a> {
+    streams: &'a Streams,
+    view: View<'a>,
+    range: Span,
 }
 
-// Writes why a node is entered.
-fn say_why(streams: &Streams, image: &[u8], count: u64, r: Range, slot: u64) {
-    let up = parent(image, count, slot);
-    if up < count {
-        let hull = hull_at(image, count, slot);
-        trace::say_why(
-            streams,
-            r,
-            is_left(image, count, slot),
-            up,
-            hull.start,
-            hull.end,
+impl Walk<'_> {
+    // Writes whether an entry is a hit.
+    fn say_kind(self, e: Entry) {
+        let starts = admits_start(self.range.hi, e.start);
+        if starts && passed_by(self.range.lo, e.end) {
+            trace::say_hit(self.streams);
+        } else if starts && reached_by(self.range.lo, e.end) {
+            trace::say_touches(self.streams);
+        } else {
+            trace::say_neither(self.streams);
+        }
+    }
+
+    // Writes why a node is entered.
+    fn say_why(self, slot: u64) {
+        match parent(self.view, slot) {
+            Some(parent) => trace::say_why(
+                self.streams,
+                self.range,
+                Child {
+                    parent,
+                    left_side: is_left(self.view, slot),
+                    hull: self.view.hull_at(slot),
+                },
+            ),
+            None => trace::say_root(self.streams),
+        }
+    }
+
+    fn say_entered(self, slot: u64, depth: u64) {
+        let e = self.view.entry_at(slot);
+        trace::say_node(self.streams, depth.saturating_mul(2), slot, e);
+        self.say_kind(e);
+        self.say_why(slot);
+    }
+
+    // Writes why a child is not entered.
+    fn say_shut(self, slot: u64, left_side: bool, child: u64, depth: u64) {
+        trace::say_slot(self.streams, depth.saturating_mul(2), child);
+        trace::say_shut(
+            self.streams,
+            self.range,
+            Child {
+                parent: slot,
+                left_side,
+                hull: self.view.hull_at(child),
+            },
         );
-    } else {
-        trace::say_root(streams);
     }
-}
 
-fn say_entered(
-    streams: &Streams,
-    image: &[u8],
-    count: u64,
-    r: Range,
-    range: Span,
-    slot: u64,
-    depth: u64,
-) {
-    let e = entry_at(image, count, slot);
-    trace::say_node(streams, times(depth, 2), slot, e.start, e.end, e.value);
-    say_kind(streams, range, e);
-    say_why(streams, image, count, r, slot);
-}
+    // Writes the walk on a side of a slot, or why the child there is not entered.
+    #[cycle(say_below_say_beside)]
+    fn say_beside(self, slot: u64, left_side: bool, depth: u64) {
+        let Some(child) = child(self.view, slot, left_side) else {
+            return;
+        };
+        if self.view.goes(Query::Overlap(self.range), slot, left_side) {
+            self.say_below(child, depth);
+        } else {
+            self.say_shut(slot, left_side, child, depth);
+        }
+    }
 
-// Writes why the child on a side is not entered, if there is one.
-fn say_shut(
-    streams: &Streams,
-    image: &[u8],
-    count: u64,
-    r: Range,
-    slot: u64,
-    left_side: bool,
-    depth: u64,
-) {
-    let child = child(image, count, slot, left_side);
-    if child < count {
-        let hull = hull_at(image, count, child);
-        trace::say_slot(streams, times(depth, 2), child);
-        trace::say_shut(streams, r, left_side, slot, hull.start, hull.end);
-    }
-}
-
-// Writes the walk from a slot on, which is `depth` links below the root: its line, and then for
-// each side the walk there, or why the child is not entered.
-fn say_below(
-    streams: &Streams,
-    image: &[u8],
-    count: u64,
-    r: Range,
-    range: Span,
-    slot: u64,
-    depth: u64,
-) {
-    if HIGHEST <= depth {
-        return;
-    }
-    if count <= slot {
-        return;
-    }
-    say_entered(streams, image, count, r, range, slot, depth);
-    if goes(image, count, Query::Overlap(range), slot, true) {
-        let left = child(image, count, slot, true);
-        say_below(streams, image, count, r, range, left, depth + 1);
-    } else {
-        say_shut(streams, image, count, r, slot, true, depth + 1);
-    }
-    if goes(image, count, Query::Overlap(range), slot, false) {
-        let right = child(image, count, slot, false);
-        say_below(streams, image, count, r, range, right, depth + 1);
-    } else {
-        say_shut(streams, image, count, r, slot, false, depth + 1);
+    // Writes the walk from a slot on, which is `depth` links below the root: its line, and then
+    // what is on each side.
+    #[cycle(say_below_say_beside)]
+    fn say_below(self, slot: u64, depth: u64) {
+        if depth < HIGHEST {
+            self.say_entered(slot, depth);
+            self.say_beside(slot, true, depth + 1);
+            self.say_beside(slot, false, depth + 1);
+        }
     }
 }
 
 // Writes each node that a lookup enters, why, and what it is; and each child that it does not
 // enter, with the rule that shuts it out. Then it writes hits and entered nodes as the call
 // returned them, and how many nodes this walk entered.
-pub fn say_walk(
-    streams: &Streams,
-    image: &[u8],
-    head: Head,
-    r: Range,
-    range: Span,
-    hits: u64,
-    entered: u64,
-) {
+pub fn say_walk(streams: &Streams, view: View, range: Span, hits: u64, entered: u64) {
+    let walk = Walk {
+        streams,
+        view,
+        range,
+    };
     let mut trail = slot_space();
-    let query = Query::Overlap(range);
-    let n = trail_of(image, head.count, query, head.root, &mut trail);
-    say_below(streams, image, head.count, r, range, head.root, 0);
+    let n = view.trail_of(Query::Overlap(range), view.root, &mut trail);
+    if view.root < view.count {
+        walk.say_below(view.root, 0);
+    }
     trace::say_count(streams, hits, entered, n as u64);
 }

@@ -1,29 +1,13 @@
--- A loop over a text with numbers is the rule of the text; and what a byte takes.
+-- A loop over a text with numbers is the rule of the text.
 use mathlib.Core.Path.{◌≡◌, refl, sym, ap, ◌∙◌}
 use mathlib.Core.List.{List, ◌∷◌}
 use Prim.Native.Nat.{ℕ, ◌+◌, ◌<◌, ◌≤◌}
 use native.Mathlib.Numerals.{add-one}
 use native.Mathlib.Omega.{arith}
-use lib.ListN.{length, get_or, drop, drop_of_length-le, get_or-eq_default}
+use lib.ListN.{length, get_or, drop, drop_of_length-le}
 use lib.Seq.{drop-cons, drop-drop, get_or-drop}
 use Rattle.lines.specs.Output.{Page}
-use Rattle.words.proofs.Tests.{equal, unequal}
 use Rattle.slotshell_say.specs.Said.{out_piece, taken, out_said}
-
-pub past : (l : List ℕ) (k : ℕ) → length l ≤ k → 0 ≡ get_or l k 0
-past l k h = sym (get_or-eq_default l 0 h)
-
-pub takes_number : (b : ℕ) → b ≡ 37 → 1 ≡ taken b
-unfolding taken
-takes_number b h = equal b 37 1 1 _ h refl
-
-pub takes_link : (b : ℕ) → (b ≡ 37 → ⊥) → b ≡ 64 → 1 ≡ taken b
-unfolding taken
-takes_link b g h = unequal b 37 1 1 _ g (equal b 64 1 1 0 h refl)
-
-pub takes_none : (b : ℕ) → (b ≡ 37 → ⊥) → (b ≡ 64 → ⊥) → 0 ≡ taken b
-unfolding taken
-takes_none b g h = unequal b 37 0 1 _ g (unequal b 64 0 1 0 h refl)
 
 -- one byte more
 step : (p : Page) (b : ℕ) (s n : List ℕ) → out_said p (b ∷ s) n ≡ out_said (out_piece p b (get_or n 0 0)) s (drop (taken b) n)

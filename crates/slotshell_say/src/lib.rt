@@ -1,11 +1,11 @@
 // A text with numbers in it, on standard output. Each public function writes before it returns, and
-// returns nothing. If a write fails, standard output is closed, and nothing is written after the
-// missing part (lines::output).
-#![tactic(auto)]
+// returns nothing. After a failed write nothing more is written, so that nothing follows the
+// missing part (lines::streams).
+#![tactic(auto, unfolding(crate::specs::Said::out_link, crate::specs::Said::out_piece, crate::specs::Said::out_other, crate::specs::Said::taken))]
 
 ghost use Rattle.std.specs.Prelude.{◌≡◌, ◌≤◌, length, get_or};
 ghost use Rattle.lines.specs.Output.{page};
-ghost use Rattle.slotshell_say.specs.Said.{out_link, out_other, out_piece, taken, out_said};
+ghost use Rattle.slotshell_say.specs.Said.{out_link, out_piece, taken, out_said};
 
 use lines::output;
 use lines::streams::Streams;
@@ -18,13 +18,11 @@ fn space() -> [u8; 256]
     [0; 256]
 }
 
+// The number at a place, or 0 if there is none.
 fn number_at(numbers: &[u64], k: usize) -> u64
     ensures { result ≡ get_or numbers.now k 0 }
 {
-    if k < numbers.len() {
-        return numbers[k];
-    }
-    0
+    numbers.get(k).copied().unwrap_or(0)
 }
 
 // Writes a link: `-` if it leads nowhere.
@@ -38,24 +36,14 @@ fn put_link(streams: &Streams, out: &mut [u8], at: usize, x: u64) -> usize
     }
 }
 
-fn put_other(streams: &Streams, out: &mut [u8], at: usize, b: u8, x: u64) -> usize
-    ensures { page result out.new ≡ out_other (page at out.old) b x }
-{
-    if b == b'@' {
-        put_link(streams, out, at, x)
-    } else {
-        output::put_byte(streams, out, at, b)
-    }
-}
-
 // Writes a byte of a text. `%` stands for the number x, and `@` for x as a link.
 fn put(streams: &Streams, out: &mut [u8], at: usize, b: u8, x: u64) -> usize
     ensures { page result out.new ≡ out_piece (page at out.old) b x }
 {
-    if b == b'%' {
-        output::put_number(streams, out, at, x)
-    } else {
-        put_other(streams, out, at, b, x)
+    match b {
+        b'%' => output::put_number(streams, out, at, x),
+        b'@' => put_link(streams, out, at, x),
+        _ => output::put_byte(streams, out, at, b),
     }
 }
 
@@ -63,13 +51,7 @@ fn put(streams: &Streams, out: &mut [u8], at: usize, b: u8, x: u64) -> usize
 fn taken_by(b: u8) -> usize
     ensures { (result ≡ taken b) × (result ≤ 1) }
 {
-    if b == b'%' {
-        return 1;
-    }
-    if b == b'@' {
-        return 1;
-    }
-    0
+    usize::from(matches!(b, b'%' | b'@'))
 }
 
 fn put_all(streams: &Streams, out: &mut [u8], text: &[u8], numbers: &[u64]) -> usize
@@ -77,13 +59,9 @@ fn put_all(streams: &Streams, out: &mut [u8], text: &[u8], numbers: &[u64]) -> u
 {
     let mut to = 0;
     let mut k = 0;
-    let mut i = 0;
-    while i < text.len() {
-        let b = text[i];
-        let x = number_at(numbers, k);
-        k = k + taken_by(b);
-        i += 1;
-        to = put(streams, out, to, b, x);
+    for &b in text {
+        to = put(streams, out, to, b, number_at(numbers, k));
+        k += taken_by(b);
     }
     to
 }
@@ -98,9 +76,7 @@ pub fn say(streams: &Streams, text: &[u8], numbers: &[u64]) {
 
 // Writes n spaces.
 pub fn indent(streams: &Streams, n: u64) {
-    let mut left = n;
-    while 0 < left {
-        left -= 1;
+    for _ in 0..n {
         output::send(streams, b" ");
     }
 }

@@ -1,9 +1,11 @@
 // The pieces of a DOT picture. A missing child is a node that is not drawn, and another one is
 // right below its parent, so that a child is drawn on its own side.
-use crate::note;
+use crate::note::Change;
 use lines::output::send;
 use lines::streams::Streams;
 use slotshell_say::say;
+use words::interval::Interval;
+use words::node::Entry;
 
 pub fn say_head(streams: &Streams) {
     send(streams, b"digraph map {\n  graph [ordering=out];\n");
@@ -14,21 +16,21 @@ pub fn say_head(streams: &Streams) {
 }
 
 // The beginning of a node: its label, which is still open.
-pub fn say_label(streams: &Streams, slot: u64, start: u64, end: u64, value: u64) {
+pub fn say_label(streams: &Streams, slot: u64, e: Entry) {
     say(
         streams,
         b"  s% [label=\"slot %\\n[%,%)\\nvalue %",
-        &[slot, slot, start, end, value],
+        &[slot, slot, e.start, e.end, e.value],
     );
 }
 
-pub fn say_hull(streams: &Streams, low: u64, high: u64) {
-    say(streams, b"\\nhull [%,%)", &[low, high]);
+pub fn say_hull(streams: &Streams, hull: Interval) {
+    say(streams, b"\\nhull [%,%)", &[hull.start, hull.end]);
 }
 
-pub fn say_change(streams: &Streams, old: u64, is_new: bool) {
+pub fn say_change(streams: &Streams, change: Change) {
     send(streams, b"\\n");
-    note::say_change(streams, old, is_new);
+    change.say(streams);
 }
 
 pub fn say_entered(streams: &Streams) {

@@ -3,11 +3,19 @@ use lines::output::send;
 use lines::streams::Streams;
 use slotshell_say::say;
 
-// Writes that an entry is new, or its old slot.
-pub fn say_change(streams: &Streams, old: u64, is_new: bool) {
-    if is_new {
-        send(streams, b"new");
-    } else {
-        say(streams, b"was slot %", &[old]);
+// The entry is new, or it moved from another slot.
+#[derive(Clone, Copy)]
+pub enum Change {
+    New,
+    From(u64),
+}
+
+impl Change {
+    // Writes that an entry is new, or its old slot.
+    pub(crate) fn say(self, streams: &Streams) {
+        match self {
+            Change::New => send(streams, b"new"),
+            Change::From(slot) => say(streams, b"was slot %", &[slot]),
+        }
     }
 }

@@ -1,8 +1,10 @@
 // The pieces of a tree in text.
-use crate::note;
+use crate::note::Change;
 use lines::output::send;
 use lines::streams::Streams;
 use slotshell_say::say;
+use words::interval::Interval;
+use words::node::Entry;
 
 pub fn say_empty(streams: &Streams) {
     send(streams, b"no entries\n");
@@ -34,17 +36,17 @@ pub fn say_slot(streams: &Streams, slot: u64, red: bool) {
     }
 }
 
-pub fn say_entry(streams: &Streams, start: u64, end: u64, value: u64) {
-    say(streams, b"[%,%) %", &[start, end, value]);
+pub fn say_entry(streams: &Streams, e: Entry) {
+    say(streams, b"[%,%) %", &[e.start, e.end, e.value]);
 }
 
-pub fn say_hull(streams: &Streams, low: u64, high: u64) {
-    say(streams, b"  hull [%,%)", &[low, high]);
+pub fn say_hull(streams: &Streams, hull: Interval) {
+    say(streams, b"  hull [%,%)", &[hull.start, hull.end]);
 }
 
-pub fn say_change(streams: &Streams, old: u64, is_new: bool) {
+pub fn say_change(streams: &Streams, change: Change) {
     send(streams, b"  ");
-    note::say_change(streams, old, is_new);
+    change.say(streams);
 }
 
 pub fn say_entered(streams: &Streams) {

@@ -2,7 +2,7 @@
 use lines::output::send;
 use lines::streams::Streams;
 use slotshell_say::{indent, say};
-use words::ix::U;
+use words::interval::Interval;
 
 // The names of the columns. The numbers are the blanks before start, end, value and hull.
 pub fn say_head(streams: &Streams, start: u64, end: u64, value: u64, hull: u64) {
@@ -22,14 +22,10 @@ pub fn say_cell(streams: &Streams, blanks: u64, x: u64) {
     say(streams, b"%", &[x]);
 }
 
-// A link, which is `-` if it leads nowhere, at the right of a column.
-pub fn say_link(streams: &Streams, blanks: u64, width: u64, x: u64) {
-    if x == U {
-        indent(streams, width);
-        send(streams, b"-");
-    } else {
-        say_cell(streams, blanks, x);
-    }
+// The cell of a link that leads nowhere.
+pub fn say_no_link(streams: &Streams, blanks: u64) {
+    indent(streams, blanks);
+    send(streams, b"-");
 }
 
 pub fn say_colour(streams: &Streams, red: bool) {
@@ -40,9 +36,9 @@ pub fn say_colour(streams: &Streams, red: bool) {
     }
 }
 
-pub fn say_hull(streams: &Streams, blanks: u64, low: u64, high: u64) {
+pub fn say_hull(streams: &Streams, blanks: u64, hull: Interval) {
     indent(streams, blanks);
-    say(streams, b"[%,%)", &[low, high]);
+    say(streams, b"[%,%)", &[hull.start, hull.end]);
 }
 
 pub fn say_end(streams: &Streams) {

@@ -1,13 +1,18 @@
 // The lines of a trace.
-use crate::Range;
 use lines::output::send;
 use lines::streams::Streams;
 use slotshell_say::{indent, say};
+use words::interval::{Bound, Interval, Span};
+use words::node::Entry;
 
 // An entered node, and whether it is a hit, touches only, or is neither.
-pub fn say_node(streams: &Streams, blanks: u64, slot: u64, start: u64, end: u64, value: u64) {
+pub fn say_node(streams: &Streams, blanks: u64, slot: u64, e: Entry) {
     indent(streams, blanks);
-    say(streams, b"slot %  [%,%) %", &[slot, start, end, value]);
+    say(
+        streams,
+        b"slot %  [%,%) %",
+        &[slot, e.start, e.end, e.value],
+    );
 }
 
 pub fn say_hit(streams: &Streams) {
@@ -26,60 +31,80 @@ pub fn say_root(streams: &Streams) {
     send(streams, b"; entered as the root\n");
 }
 
-fn say_side(streams: &Streams, left_side: bool) {
-    if left_side {
-        send(streams, b"left");
-    } else {
-        send(streams, b"right");
+// A child's side of its parent, and its hull.
+#[derive(Clone, Copy)]
+pub struct Child {
+    pub parent: u64,
+    pub left_side: bool,
+    pub hull: Interval,
+}
+
+impl Child {
+    fn say(self, streams: &Streams) {
+        if self.left_side {
+            send(streams, b"left");
+        } else {
+            send(streams, b"right");
+        }
+        say(
+            streams,
+            b" of %: hull [%,%)",
+            &[self.parent, self.hull.start, self.hull.end],
+        );
     }
 }
 
-fn say_left(streams: &Streams, r: Range) {
-    if r.lo_kind == 2 {
-        send(streams, b", and there is no lower bound\n");
-    } else {
-        say(streams, b" ends at % or after\n", &[r.lo]);
+fn say_left(streams: &Streams, lo: Bound<u64>) {
+    match lo {
+        Bound::Included(x) | Bound::Excluded(x) => say(streams, b" ends at % or after\n", &[x]),
+        Bound::Unbounded => send(streams, b", and there is no lower bound\n"),
     }
 }
 
-fn say_right(streams: &Streams, r: Range) {
-    if r.hi_kind == 2 {
-        send(streams, b", and there is no upper bound\n");
-    } else if r.hi_kind == 1 {
-        say(streams, b" starts before %\n", &[r.hi]);
-    } else {
-        say(streams, b" starts at % or before\n", &[r.hi]);
+fn say_right(streams: &Streams, hi: Bound<u64>) {
+    match hi {
+        Bound::Included(x) => say(streams, b" starts at % or before\n", &[x]),
+        Bound::Excluded(x) => say(streams, b" starts before %\n", &[x]),
+        Bound::Unbounded => send(streams, b", and there is no upper bound\n"),
     }
 }
 
 // Why a child is entered: by its hull and the bound of its side.
-pub fn say_why(streams: &Streams, r: Range, left_side: bool, parent: u64, low: u64, high: u64) {
+pub fn say_why(streams: &Streams, range: Span, child: Child) {
     send(streams, b"; entered, ");
-    say_side(streams, left_side);
-    say(streams, b" of %: hull [%,%)", &[parent, low, high]);
-    if left_side {
-        say_left(streams, r);
+    child.say(streams);
+    if child.left_side {
+        say_left(streams, range.lo);
     } else {
-        say_right(streams, r);
+        say_right(streams, range.hi);
     }
 }
 
-fn say_bound(streams: &Streams, r: Range, left_side: bool) {
-    if left_side {
-        say(streams, b" ends before %\n", &[r.lo]);
-    } else if r.hi_kind == 1 {
-        say(streams, b" does not start before %\n", &[r.hi]);
-    } else {
-        say(streams, b" starts after %\n", &[r.hi]);
+// No child is shut out by a bound that is not there.
+fn say_before(streams: &Streams, lo: Bound<u64>) {
+    match lo {
+        Bound::Included(x) | Bound::Excluded(x) => say(streams, b" ends before %\n", &[x]),
+        Bound::Unbounded => send(streams, b"\n"),
+    }
+}
+
+fn say_after(streams: &Streams, hi: Bound<u64>) {
+    match hi {
+        Bound::Included(x) => say(streams, b" starts after %\n", &[x]),
+        Bound::Excluded(x) => say(streams, b" does not start before %\n", &[x]),
+        Bound::Unbounded => send(streams, b"\n"),
     }
 }
 
 // A child that is not entered, and the rule that shuts it out.
-pub fn say_shut(streams: &Streams, r: Range, left_side: bool, parent: u64, low: u64, high: u64) {
+pub fn say_shut(streams: &Streams, range: Span, child: Child) {
     send(streams, b": not entered, ");
-    say_side(streams, left_side);
-    say(streams, b" of %: hull [%,%)", &[parent, low, high]);
-    say_bound(streams, r, left_side);
+    child.say(streams);
+    if child.left_side {
+        say_before(streams, range.lo);
+    } else {
+        say_after(streams, range.hi);
+    }
 }
 
 pub fn say_slot(streams: &Streams, blanks: u64, slot: u64) {

@@ -6,33 +6,16 @@ ghost use Rattle.slotshell_view.specs.View.{shows, entry_shown, child_shown, par
 
 use image::layout::image_length;
 use image::stored::{entry_in, interval_in, link_in, red_in};
-use words::interval::{Interval, larger};
+use words::interval::Interval;
 use words::ix::U;
 use words::node::Entry;
 
-// Whether the bytes have the slots below the count, and this one is below it.
-pub(crate) fn has(image: &[u8], count: u64, slot: u64) -> bool
-    ensures { result ≡ shows image.now count slot }
-{
-    if slot < count {
-        if count <= 65535 {
-            return image_length(count) <= image.len() as u64;
-        }
-    }
-    false
-}
-
-pub fn entry_at(image: &[u8], count: u64, slot: u64) -> Entry
-    ensures { result ≡ entry_shown image.now count slot }
-{
-    if has(image, count, slot) {
-        return entry_in(image, count, slot);
-    }
-    Entry {
-        start: 0,
-        end: 0,
-        value: 0,
-    }
+// A view of a map: an image of it, how many entries it holds, and the slot of its root, or U.
+#[derive(Clone, Copy)]
+pub struct View<'a> {
+    pub image: &'a [u8],
+    pub count: u64,
+    pub root: u64,
 }
 
 // Which of a slot's links is that to its child on a side.
@@ -42,101 +25,128 @@ fn place_of(left_side: bool) -> u64
     if left_side { 0 } else { 1 }
 }
 
-pub(crate) fn child_in(image: &[u8], count: u64, slot: u64, left_side: bool) -> u64
-    requires { Bodies image.now count × (slot < count) }
-    ensures { result ≡ child_in_lem image.now count left_side slot }
-{
-    link_in(image, count, slot, place_of(left_side))
-}
+impl View<'_> {
+    // Whether the bytes have the slots below the count, and this one is below it.
+    pub(crate) fn has(self, slot: u64) -> bool
+        ensures shown { result ≡ shows self.entry.image.now self.entry.count slot }
+        ensures there { result ≡ true → Bodies self.entry.image.now self.entry.count × (slot < self.entry.count) }
+    {
+        slot < self.count
+            && self.count <= 65535
+            && image_length(self.count) <= self.image.len() as u64
+    }
 
-pub fn child(image: &[u8], count: u64, slot: u64, left_side: bool) -> u64
-    ensures { result ≡ child_shown image.now count left_side slot }
-{
-    if has(image, count, slot) {
-        return child_in(image, count, slot, left_side);
+    pub fn entry_at(self, slot: u64) -> Entry
+        ensures { result ≡ entry_shown self.entry.image.now self.entry.count slot }
+    {
+        if self.has(slot) {
+            entry_in(self.image, self.count, slot)
+        } else {
+            Entry {
+                start: 0,
+                end: 0,
+                value: 0,
+            }
+        }
     }
-    U
-}
 
-pub fn parent(image: &[u8], count: u64, slot: u64) -> u64
-    ensures { result ≡ parent_shown image.now count slot }
-{
-    if has(image, count, slot) {
-        return link_in(image, count, slot, 2);
+    pub(crate) fn child_in(self, slot: u64, left_side: bool) -> u64
+        requires { Bodies self.image.now self.count × (slot < self.count) }
+        ensures { result ≡ child_in_lem self.entry.image.now self.entry.count left_side slot }
+    {
+        link_in(self.image, self.count, slot, place_of(left_side))
     }
-    U
-}
 
-pub fn is_red(image: &[u8], count: u64, slot: u64) -> bool
-    ensures { result ≡ red_shown image.now count slot }
-{
-    if has(image, count, slot) {
-        return red_in(image, count, slot);
+    pub fn child(self, slot: u64, left_side: bool) -> u64
+        ensures { result ≡ child_shown self.entry.image.now self.entry.count left_side slot }
+    {
+        if self.has(slot) {
+            self.child_in(slot, left_side)
+        } else {
+            U
+        }
     }
-    false
-}
 
-// Returns the hull of the subtree at a link, or `none` if the link leads to no slot. No more than
-// `height` levels are looked at.
-fn hull_below(image: &[u8], count: u64, link: u64, none: Interval, height: u64) -> Interval
-    requires { Bodies image.now count }
-    ensures { result ≡ hull_below_lem image.now count height link none }
-{
-    if height == 0 {
-        return none;
+    pub fn parent(self, slot: u64) -> u64
+        ensures { result ≡ parent_shown self.entry.image.now self.entry.count slot }
+    {
+        if self.has(slot) {
+            link_in(self.image, self.count, slot, 2)
+        } else {
+            U
+        }
     }
-    if count <= link {
-        return none;
-    }
-    let own = interval_in(image, count, link);
-    let left = child_in(image, count, link, true);
-    let right = child_in(image, count, link, false);
-    let l = hull_below(image, count, left, own, height - 1);
-    let r = hull_below(image, count, right, own, height - 1);
-    own.extend(l).extend(r)
-}
 
-pub(crate) fn hull_in(image: &[u8], count: u64, slot: u64) -> Interval
-    requires { Bodies image.now count × (slot < count) }
-    ensures { result ≡ hull_in_lem image.now count slot }
-{
-    let own = interval_in(image, count, slot);
-    hull_below(image, count, slot, own, 32)
-}
+    pub fn is_red(self, slot: u64) -> bool
+        ensures { result ≡ red_shown self.entry.image.now self.entry.count slot }
+    {
+        self.has(slot) && red_in(self.image, self.count, slot)
+    }
 
-pub fn hull_at(image: &[u8], count: u64, slot: u64) -> Interval
-    ensures { result ≡ hull_shown image.now count slot }
-{
-    if has(image, count, slot) {
-        return hull_in(image, count, slot);
+    // Returns the hull of the subtree at a link, or `none` if the link leads to no slot. No more
+    // than `height` levels are looked at.
+    fn hull_below(self, link: u64, none: Interval, height: u64) -> Interval
+        requires { Bodies self.image.now self.count }
+        ensures { result ≡ hull_below_lem self.entry.image.now self.entry.count height link none }
+    {
+        if height == 0 {
+            return none;
+        }
+        if self.count <= link {
+            return none;
+        }
+        let own = interval_in(self.image, self.count, link);
+        let left = self.child_in(link, true);
+        let right = self.child_in(link, false);
+        let l = self.hull_below(left, own, height - 1);
+        let r = self.hull_below(right, own, height - 1);
+        own.extend(l).extend(r)
     }
-    Interval { start: 0, end: 0 }
-}
 
-// Returns how many nodes the longest way down from a link has, of at most `height`.
-fn height_below(image: &[u8], count: u64, link: u64, height: u64) -> u64
-    requires { Bodies image.now count }
-    ensures { (result ≡ height_below_lem image.now count height link) × (result ≤ height) }
-{
-    if height == 0 {
-        return 0;
+    pub(crate) fn hull_in(self, slot: u64) -> Interval
+        requires { Bodies self.image.now self.count × (slot < self.count) }
+        ensures { result ≡ hull_in_lem self.entry.image.now self.entry.count slot }
+    {
+        let own = interval_in(self.image, self.count, slot);
+        self.hull_below(slot, own, 32)
     }
-    if count <= link {
-        return 0;
-    }
-    let left = child_in(image, count, link, true);
-    let right = child_in(image, count, link, false);
-    let l = height_below(image, count, left, height - 1);
-    let r = height_below(image, count, right, height - 1);
-    larger(l, r) + 1
-}
 
-// Returns how many nodes the longest way down from the root has.
-pub fn height_of(image: &[u8], count: u64, root: u64) -> u64
-    ensures { result ≡ height_shown image.now count root }
-{
-    if has(image, count, root) {
-        return height_below(image, count, root, 32);
+    pub fn hull_at(self, slot: u64) -> Interval
+        ensures { result ≡ hull_shown self.entry.image.now self.entry.count slot }
+    {
+        if self.has(slot) {
+            self.hull_in(slot)
+        } else {
+            Interval { start: 0, end: 0 }
+        }
     }
-    0
+
+    // Returns how many nodes the longest way down from a link has, of at most `height`.
+    fn height_below(self, link: u64, height: u64) -> u64
+        requires { Bodies self.image.now self.count }
+        ensures { (result ≡ height_below_lem self.entry.image.now self.entry.count height link) × (result ≤ height) }
+    {
+        if height == 0 {
+            return 0;
+        }
+        if self.count <= link {
+            return 0;
+        }
+        let left = self.child_in(link, true);
+        let right = self.child_in(link, false);
+        let l = self.height_below(left, height - 1);
+        let r = self.height_below(right, height - 1);
+        l.max(r) + 1
+    }
+
+    // Returns how many nodes the longest way down from the root has.
+    pub fn height(self) -> u64
+        ensures { result ≡ height_shown self.entry.image.now self.entry.count self.entry.root }
+    {
+        if self.has(self.root) {
+            self.height_below(self.root, 32)
+        } else {
+            0
+        }
+    }
 }

@@ -3,10 +3,11 @@
 // bit read, the length, and the three bytes afterwards.
 #![tactic(auto)]
 
-use bitvec::{Answer, BitVec};
+ghost use Rattle.std.specs.Prelude.{◌≤◌};
+
+use bitvec::BitVec;
 use lines::output;
 use lines::streams::Streams;
-use words::numbers::wide;
 use words::refusal::Refusal;
 
 // The bytes that each call starts from: their bits, from bit 0 on, are 10100101 01011010 11110000.
@@ -20,11 +21,7 @@ fn number(streams: &Streams, x: u64) {
 }
 
 fn bit(streams: &Streams, v: bool) {
-    if v {
-        number(streams, 1);
-    } else {
-        number(streams, 0);
-    }
+    number(streams, u64::from(v));
 }
 
 fn finish(streams: &Streams, no: u64, v: bool, len: usize, bytes: &[u8]) {
@@ -33,68 +30,16 @@ fn finish(streams: &Streams, no: u64, v: bool, len: usize, bytes: &[u8]) {
     bit(streams, v);
     number(streams, len as u64);
     output::send(streams, b" @");
-    let mut j = 0;
-    while j < bytes.len() {
-        number(streams, wide(bytes[j]));
-        j += 1;
+    for &b in bytes {
+        number(streams, u64::from(b));
     }
     output::send(streams, b"\n");
 }
 
-fn show(streams: &Streams, a: Answer, given: usize, bytes: &[u8]) {
+fn show(streams: &Streams, a: Result<(bool, BitVec), Refusal>, given: usize, bytes: &[u8]) {
     match a {
-        Answer::Done(v, now) => finish(streams, 0, v, now.len, bytes),
-        Answer::Refused(why) => finish(streams, why.number(), false, given, bytes),
-    }
-}
-
-// Makes the call with the first n bytes lent to it, if there are that many. The next five functions
-// do the same for the other calls.
-fn get_of(bytes: &[u8], n: usize, v: BitVec, i: usize) -> Answer {
-    if n <= bytes.len() {
-        v.get(&bytes[..n], i)
-    } else {
-        Answer::Refused(Refusal::ShortOutput)
-    }
-}
-
-fn set_of(bytes: &mut [u8], n: usize, v: BitVec, i: usize, value: bool) -> Answer {
-    if n <= bytes.len() {
-        v.set(&mut bytes[..n], i, value)
-    } else {
-        Answer::Refused(Refusal::ShortOutput)
-    }
-}
-
-fn push_of(bytes: &mut [u8], n: usize, v: BitVec, value: bool) -> Answer {
-    if n <= bytes.len() {
-        v.push(&mut bytes[..n], value)
-    } else {
-        Answer::Refused(Refusal::ShortOutput)
-    }
-}
-
-fn pop_of(bytes: &[u8], n: usize, v: BitVec) -> Answer {
-    if n <= bytes.len() {
-        v.pop(&bytes[..n])
-    } else {
-        Answer::Refused(Refusal::ShortOutput)
-    }
-}
-
-fn swap_remove_of(bytes: &mut [u8], n: usize, v: BitVec, i: usize) -> Answer {
-    if n <= bytes.len() {
-        v.swap_remove(&mut bytes[..n], i)
-    } else {
-        Answer::Refused(Refusal::ShortOutput)
-    }
-}
-
-fn from_elem_of(bytes: &mut [u8], n: usize, len: usize, elem: bool) -> Answer {
-    if n <= bytes.len() {
-        BitVec::from_elem(&mut bytes[..n], len, elem)
-    } else {
-        Answer::Refused(Refusal::ShortOutput)
+        Ok((v, now)) => finish(streams, 0, v, now.len, bytes),
+        Err(why) => finish(streams, why.number(), false, given, bytes),
     }
 }
 
@@ -104,67 +49,83 @@ fn call(streams: &Streams, n: usize, name: &[u8], len: usize) {
     number(streams, len as u64);
 }
 
-fn get(streams: &Streams, n: usize, len: usize, i: usize) {
+// Makes the call with the first n bytes lent to it. The next five functions do the same for the
+// other calls.
+fn get(streams: &Streams, n: usize, len: usize, i: usize)
+    requires { n ≤ 3 }
+{
     let bytes = pattern();
     call(streams, n, b" get", len);
     number(streams, i as u64);
-    let a = get_of(&bytes, n, BitVec { len }, i);
+    let a = BitVec { len }.get(&bytes[..n], i);
     show(streams, a, len, &bytes);
 }
 
-fn set(streams: &Streams, n: usize, len: usize, i: usize, v: bool) {
+fn set(streams: &Streams, n: usize, len: usize, i: usize, v: bool)
+    requires { n ≤ 3 }
+{
     let mut bytes = pattern();
     call(streams, n, b" set", len);
     number(streams, i as u64);
     bit(streams, v);
-    let a = set_of(&mut bytes, n, BitVec { len }, i, v);
+    let a = BitVec { len }.set(&mut bytes[..n], i, v);
     show(streams, a, len, &bytes);
 }
 
-fn push(streams: &Streams, n: usize, len: usize, v: bool) {
+fn push(streams: &Streams, n: usize, len: usize, v: bool)
+    requires { n ≤ 3 }
+{
     let mut bytes = pattern();
     call(streams, n, b" push", len);
     bit(streams, v);
-    let a = push_of(&mut bytes, n, BitVec { len }, v);
+    let a = BitVec { len }.push(&mut bytes[..n], v);
     show(streams, a, len, &bytes);
 }
 
-fn pop(streams: &Streams, n: usize, len: usize) {
+fn pop(streams: &Streams, n: usize, len: usize)
+    requires { n ≤ 3 }
+{
     let bytes = pattern();
     call(streams, n, b" pop", len);
-    let a = pop_of(&bytes, n, BitVec { len });
+    let a = BitVec { len }.pop(&bytes[..n]);
     show(streams, a, len, &bytes);
 }
 
-fn swap_remove(streams: &Streams, n: usize, len: usize, i: usize) {
+fn swap_remove(streams: &Streams, n: usize, len: usize, i: usize)
+    requires { n ≤ 3 }
+{
     let mut bytes = pattern();
     call(streams, n, b" swap_remove", len);
     number(streams, i as u64);
-    let a = swap_remove_of(&mut bytes, n, BitVec { len }, i);
+    let a = BitVec { len }.swap_remove(&mut bytes[..n], i);
     show(streams, a, len, &bytes);
 }
 
-fn from_elem(streams: &Streams, n: usize, len: usize, v: bool) {
+fn from_elem(streams: &Streams, n: usize, len: usize, v: bool)
+    requires { n ≤ 3 }
+{
     let mut bytes = pattern();
     call(streams, n, b" from_elem", len);
     bit(streams, v);
-    let a = from_elem_of(&mut bytes, n, len, v);
+    let a = BitVec::from_elem(&mut bytes[..n], len, v);
     show(streams, a, 0, &bytes);
 }
 
 // Reads every place of a vector of len bits in n bytes, and the one past the last.
-fn places(streams: &Streams, n: usize, len: usize) {
-    let mut i = 0;
-    while i < len {
+fn places(streams: &Streams, n: usize, len: usize)
+    requires { n ≤ 3 }
+{
+    for i in 0..len {
         get(streams, n, len, i);
-        i += 1;
     }
     get(streams, n, len, len);
 }
 
 // Makes the other calls on a vector of len bits in n bytes, at its first bit, its last bit and the
 // place past the last.
-fn edges(streams: &Streams, n: usize, len: usize) {
+fn edges(streams: &Streams, n: usize, len: usize)
+    requires { n ≤ 3 }
+{
     push(streams, n, len, false);
     push(streams, n, len, true);
     pop(streams, n, len);

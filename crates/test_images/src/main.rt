@@ -7,7 +7,7 @@
 // memory to read into has room for 64 entries.
 #![tactic(auto)]
 
-ghost use Rattle.std.specs.Prelude.{◌≡◌, true, false, ◌+◌, ◌≤◌, ◌<◌, length};
+ghost use Rattle.std.specs.Prelude.{◌≡◌, true, false, ◌+◌, ◌≤◌, ◌<◌, length, IfSome};
 ghost use Rattle.words.specs.Layouts.{HoldsIn};
 ghost use Rattle.words.specs.Nodes.{HoldsBits};
 ghost use Rattle.image_rule.specs.Layout.{count_in_lem, laid_out_lem};
@@ -21,7 +21,7 @@ use lines::output;
 use lines::streams::Streams;
 use lines::whole::read_all;
 use words::node::capacity;
-use words::numbers::{least, wide};
+use words::refusal::Refusal;
 
 // Room for the whole input.
 fn input_space() -> [u8; 65536]
@@ -38,7 +38,7 @@ fn image_space() -> [u8; 4096]
 }
 
 // What became of a number of damaged images.
-#[derive(Clone, Copy)]
+#[derive(Clone, Copy, Default)]
 struct Tally {
     layout: u64,
     room: u64,
@@ -52,126 +52,84 @@ fn up(x: u64) -> u64 {
     if x < 1000000 { x + 1 } else { x }
 }
 
-fn counted(t: Tally, what: u64) -> Tally {
+// Counts what became of one more image: its refusal, or whether it was written back to the same
+// bytes.
+fn counted(t: Tally, what: Result<bool, Refusal>) -> Tally {
     match what {
-        12 => Tally {
+        Err(Refusal::BadImage) => Tally {
             layout: up(t.layout),
-            room: t.room,
-            broken: t.broken,
-            same: t.same,
-            other: t.other,
+            ..t
         },
-        1 => Tally {
-            layout: t.layout,
+        Err(Refusal::NoRoom) => Tally {
             room: up(t.room),
-            broken: t.broken,
-            same: t.same,
-            other: t.other,
+            ..t
         },
-        2 => Tally {
-            layout: t.layout,
-            room: t.room,
+        Err(_) => Tally {
             broken: up(t.broken),
-            same: t.same,
-            other: t.other,
+            ..t
         },
-        0 => Tally {
-            layout: t.layout,
-            room: t.room,
-            broken: t.broken,
+        Ok(true) => Tally {
             same: up(t.same),
-            other: t.other,
+            ..t
         },
-        _ => Tally {
-            layout: t.layout,
-            room: t.room,
-            broken: t.broken,
-            same: t.same,
+        Ok(false) => Tally {
             other: up(t.other),
+            ..t
         },
-    }
-}
-
-fn no_tally() -> Tally {
-    Tally {
-        layout: 0,
-        room: 0,
-        broken: 0,
-        same: 0,
-        other: 0,
     }
 }
 
 fn show_tally(streams: &Streams, t: Tally) {
-    output::send(streams, b" ");
-    output::send_number(streams, t.layout);
-    output::send(streams, b" ");
-    output::send_number(streams, t.room);
-    output::send(streams, b" ");
-    output::send_number(streams, t.broken);
-    output::send(streams, b" ");
-    output::send_number(streams, t.same);
-    output::send(streams, b" ");
-    output::send_number(streams, t.other);
+    for x in [t.layout, t.room, t.broken, t.same, t.other] {
+        output::send(streams, b" ");
+        output::send_number(streams, x);
+    }
 }
 
-// Whether the bytes of an image are the first of `out`.
-fn is_same(image: &[u8], out: &[u8]) -> bool {
-    if out.len() < image.len() {
-        return false;
-    }
-    let mut i = 0;
-    while i < image.len() {
-        if image[i] != out[i] {
-            return false;
-        }
-        i += 1;
-    }
-    true
-}
-
-// Reads an image that was accepted, and writes it again. Returns 0 if the bytes are the same, else
-// 99.
-fn read_and_write(image: &[u8], nodes: &mut [u64], colours: &mut [u8], out: &mut [u8]) -> u64
+// Reads an image that was accepted, and writes it again. Returns whether the bytes are the same.
+fn read_and_write(image: &[u8], nodes: &mut [u64], colours: &mut [u8], out: &mut [u8]) -> bool
     requires { (laid_out_lem image.now ≡ true) × HoldsIn false nodes.old (count_in_lem image.now) × HoldsBits colours.old (count_in_lem image.now) }
 {
     let count = count_in(image);
     let root = root_in(image);
     load(nodes, false, colours, image);
-    if image_length(count) <= out.len() as u64 {
-        write(nodes, false, colours, count, root, out);
-        if is_same(image, out) {
-            return 0;
-        }
+    if (out.len() as u64) < image_length(count) {
+        return false;
     }
-    99
+    write(nodes, false, colours, count, root, out);
+    out.starts_with(image)
 }
 
-// Returns the number of the refusal of an image, or what became of it.
-fn read(image: &[u8], nodes: &mut [u64], colours: &mut [u8], out: &mut [u8]) -> u64 {
+// Reads an image, if it is accepted, and writes it again. Returns whether the bytes are the same.
+fn read(
+    image: &[u8],
+    nodes: &mut [u64],
+    colours: &mut [u8],
+    out: &mut [u8],
+) -> Result<bool, Refusal> {
     if has_layout(image) {
         if capacity(nodes.len(), false, colours.len()) < count_in(image) {
-            1
+            Err(Refusal::NoRoom)
         } else if judge(image) {
-            read_and_write(image, nodes, colours, out)
+            Ok(read_and_write(image, nodes, colours, out))
         } else {
-            2
+            Err(Refusal::Broken)
         }
     } else {
-        12
+        Err(Refusal::BadImage)
     }
 }
 
 // Reads an image into memory of its own.
-fn outcome(image: &[u8]) -> u64 {
+fn outcome(image: &[u8]) -> Result<bool, Refusal> {
     let mut nodes = [7u64; 512];
     let mut colours = [165u8; 8];
     let mut out = image_space();
     read(image, &mut nodes, &mut colours, &mut out)
 }
 
-fn part_outcome(bytes: &[u8], n: usize) -> u64 {
-    outcome(&bytes[..least(n, bytes.len())])
+fn part_outcome(bytes: &[u8], n: usize) -> Result<bool, Refusal> {
+    outcome(&bytes[..n.min(bytes.len())])
 }
 
 fn flip(bytes: &mut [u8], k: usize) {
@@ -185,14 +143,12 @@ fn flip(bytes: &mut [u8], k: usize) {
 fn flips(bytes: &mut [u8], n: usize) -> Tally
     requires { n < 4096 }
 {
-    let mut t = no_tally();
-    let mut k = 0;
-    while k < n * 8 {
+    let mut t = Tally::default();
+    for k in 0..n * 8 {
         flip(bytes, k);
         let what = part_outcome(bytes, n);
         flip(bytes, k);
         t = counted(t, what);
-        k += 1;
     }
     t
 }
@@ -201,12 +157,10 @@ fn flips(bytes: &mut [u8], n: usize) -> Tally
 fn cuts(bytes: &[u8], n: usize) -> Tally
     requires { n < 4096 }
 {
-    let mut t = no_tally();
-    let mut k = 0;
-    while k < n + 2 {
+    let mut t = Tally::default();
+    for k in 0..n + 2 {
         let what = part_outcome(bytes, k);
         t = counted(t, what);
-        k += 1;
     }
     t
 }
@@ -220,33 +174,22 @@ fn show(streams: &Streams, bytes: &mut [u8], n: usize)
     output::send(streams, b"\n");
 }
 
-// Returns the value of a hexadecimal digit, and 16 for any other byte.
-fn hex_of(b: u8) -> u8
-    ensures { result ≤ 16 }
+// Returns the value of a hexadecimal digit.
+fn hex_of(b: u8) -> Option<u8>
+    ensures { IfSome result (λ d. d < 16) }
 {
-    if b < b'0' {
-        16
-    } else if b <= b'9' {
-        b - b'0'
-    } else if b < b'a' {
-        16
-    } else if b <= b'f' {
-        b - b'a' + 10
-    } else {
-        16
+    match b {
+        b'0'..=b'9' => Some(b - b'0'),
+        b'a'..=b'f' => Some(b - b'a' + 10),
+        _ => None,
     }
 }
 
-// Returns the byte of two digits, and 256 if one of them is none.
-fn byte_of(high: u8, low: u8) -> u64
-    ensures { result ≤ 256 }
-{
-    if high < 16 {
-        if low < 16 {
-            return wide(high) * 16 + wide(low);
-        }
-    }
-    256
+// Returns the byte of two digits.
+fn byte_of(high: u8, low: u8) -> Option<u8> {
+    let high = hex_of(high)?;
+    let low = hex_of(low)?;
+    Some(high * 16 + low)
 }
 
 // How many bytes were decoded, and the place after the line.
@@ -265,20 +208,19 @@ fn decode(input: &[u8], at: usize, image: &mut [u8]) -> Line
     let mut i = at;
     let mut n = 0;
     while i < last {
-        let b = byte_of(hex_of(input[i]), hex_of(input[i + 1]));
-        if 255 < b {
+        let Some(b) = byte_of(input[i], input[i + 1]) else {
             return Line {
                 bytes: n,
                 after: i + 1,
             };
-        }
+        };
         if n == 4095 {
             return Line {
                 bytes: n,
                 after: i + 1,
             };
         }
-        image[n] = b as u8;
+        image[n] = b;
         n += 1;
         i += 2;
     }
@@ -309,16 +251,13 @@ fn all_lines(streams: &Streams, input: &[u8]) {
 // Whether the input has ended. After a failed read the next read fails too.
 fn is_read(streams: &Streams) -> bool {
     let mut more = [0u8; 1];
-    let got = streams.read(&mut more);
-    (got.len == 0) & !got.failed
+    matches!(streams.read(&mut more), Ok(0))
 }
 
 fn read_lines(streams: &Streams, input: &mut [u8]) {
-    let got = read_all(streams, input);
-    if is_read(streams) {
-        all_lines(streams, &input[..got.len]);
-    } else {
-        output::complain(streams, b"test_images", b"read all of its input");
+    match read_all(streams, input) {
+        Ok(n) if is_read(streams) => all_lines(streams, &input[..n]),
+        _ => output::complain(streams, b"test_images", b"read all of its input"),
     }
 }
 

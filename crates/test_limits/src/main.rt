@@ -15,16 +15,13 @@
 ghost use Rattle.std.specs.Prelude.{◌≡◌, true, ◌*◌, ◌<◌, ◌≤◌, length};
 ghost use Rattle.words.specs.Layouts.{HoldsIn, kid_fits};
 
-use iset::Map;
-use iset::build::Built;
-use iset::tidy::Renumbering;
-use iset::unload::Unloading;
+use iset::unload::Unloaded;
+use iset::{Map, Refusal, number_of};
 use lines::output;
 use lines::streams::Streams;
-use words::interval::{Bound, Interval, Span, smaller};
+use words::interval::{Bound, Interval, Span};
 use words::ix::U;
 use words::node::{Entry, capacity, put_node};
-use words::numbers::least;
 
 fn words_space() -> [u64; 524288]
     ensures { 524288 ≡ length result }
@@ -60,10 +57,8 @@ fn put_triple(list: &mut [u64], k: usize) {
 }
 
 fn put_triples(list: &mut [u64], n: usize) {
-    let mut k = 0;
-    while k < n {
+    for k in 0..n {
         put_triple(list, k);
-        k += 1;
     }
 }
 
@@ -79,19 +74,31 @@ fn show_map(streams: &Streams, m: Map, nodes: &[u64], narrow: bool, colours: &[u
     number(streams, 0);
     number(streams, m.count);
     number(streams, m.root);
-    number(streams, m.check_in(nodes, narrow, colours).number());
+    number(streams, number_of(m.check_in(nodes, narrow, colours)));
 }
 
-fn show_built(streams: &Streams, a: Built, nodes: &[u64], narrow: bool, colours: &[u8]) {
+fn show_built(
+    streams: &Streams,
+    a: Result<Map, Refusal>,
+    nodes: &[u64],
+    narrow: bool,
+    colours: &[u8],
+) {
     match a {
-        Built::Refused(why) => number(streams, why.number()),
-        Built::Done(m) => show_map(streams, m, nodes, narrow, colours),
+        Err(why) => number(streams, why.number()),
+        Ok(m) => show_map(streams, m, nodes, narrow, colours),
     }
 }
 
 // Builds the map of the first k numbers of the list.
-fn built(k: usize, list: &[u64], nodes: &mut [u64], narrow: bool, colours: &mut [u8]) -> Built {
-    let n = least(k, list.len());
+fn built(
+    k: usize,
+    list: &[u64],
+    nodes: &mut [u64],
+    narrow: bool,
+    colours: &mut [u8],
+) -> Result<Map, Refusal> {
+    let n = k.min(list.len());
     Map::new().build_in(nodes, narrow, colours, &list[..n])
 }
 
@@ -173,10 +180,8 @@ fn put_link(nodes: &mut [u64], narrow: bool, n: u64, k: u64)
 fn put_chain(nodes: &mut [u64], narrow: bool, n: u64)
     requires { HoldsIn narrow nodes.old n }
 {
-    let mut k = 0;
-    while k < n {
+    for k in 0..n {
         put_link(nodes, narrow, n, k);
-        k += 1;
     }
 }
 
@@ -184,13 +189,13 @@ fn put_chain(nodes: &mut [u64], narrow: bool, n: u64)
 // words hold.
 fn check_chain(streams: &Streams, count: u64, nodes: &mut [u64], narrow: bool, colours: &[u8]) {
     let room = capacity(nodes.len(), narrow, colours.len());
-    put_chain(nodes, narrow, smaller(count, room));
+    put_chain(nodes, narrow, count.min(room));
     let m = Map {
         count,
         root: 0,
         version: 0,
     };
-    number(streams, m.check_in(nodes, narrow, colours).number());
+    number(streams, number_of(m.check_in(nodes, narrow, colours)));
     output::send(streams, b"\n");
 }
 
@@ -229,10 +234,8 @@ fn size(k: u64) -> usize
 fn builds(streams: &Streams, list: &mut [u64], nodes: &mut [u64], narrow: bool, colours: &mut [u8])
     requires { 524288 ≤ length nodes.old }
 {
-    let mut k = 0;
-    while k < 5 {
+    for k in 0..5 {
         let n = size(k);
-        k += 1;
         build_both(streams, n, list, nodes, narrow, colours);
     }
 }
@@ -247,10 +250,16 @@ fn chains(streams: &Streams, nodes: &mut [u64], narrow: bool, colours: &[u8])
     chain_both(streams, 65536, nodes, narrow, colours);
 }
 
-fn show_unloaded(streams: &Streams, a: Unloading, nodes: &[u64], narrow: bool, colours: &[u8]) {
+fn show_unloaded(
+    streams: &Streams,
+    a: Result<Unloaded, Refusal>,
+    nodes: &[u64],
+    narrow: bool,
+    colours: &[u8],
+) {
     match a {
-        Unloading::Refused(why) => number(streams, why.number()),
-        Unloading::Done(left) => {
+        Err(why) => number(streams, why.number()),
+        Ok(left) => {
             number(streams, left.gone);
             show_map(streams, left.map, nodes, narrow, colours);
         }
@@ -267,10 +276,16 @@ fn unload_all(streams: &Streams, m: Map, nodes: &mut [u64], narrow: bool, colour
     show_unloaded(streams, a, nodes, narrow, colours);
 }
 
-fn unload_built(streams: &Streams, a: Built, nodes: &mut [u64], narrow: bool, colours: &mut [u8]) {
+fn unload_built(
+    streams: &Streams,
+    a: Result<Map, Refusal>,
+    nodes: &mut [u64],
+    narrow: bool,
+    colours: &mut [u8],
+) {
     match a {
-        Built::Refused(why) => number(streams, why.number()),
-        Built::Done(m) => unload_all(streams, m, nodes, narrow, colours),
+        Err(why) => number(streams, why.number()),
+        Ok(m) => unload_all(streams, m, nodes, narrow, colours),
     }
 }
 
@@ -309,10 +324,8 @@ fn put_slot(plan: &mut [u64], k: usize, shift: bool) {
 }
 
 fn put_plan(plan: &mut [u64], n: usize, shift: bool) {
-    let mut k = 0;
-    while k < n {
+    for k in 0..n {
         put_slot(plan, k, shift);
-        k += 1;
     }
 }
 
@@ -331,20 +344,15 @@ fn stays(plan: &[u64], k: usize) -> u64
 // How many of n slots it leaves where they are.
 fn at_home(plan: &[u64], n: usize) -> u64 {
     let mut found: u64 = 0;
-    let mut k = 0;
-    while k < n {
+    for k in 0..n {
         found += stays(plan, k);
-        k += 1;
     }
     found
 }
 
 // The map after a renumbering, or as it was if that is refused.
 fn renumbered(m: Map, nodes: &mut [u64], narrow: bool, colours: &mut [u8], plan: &[u64]) -> Map {
-    match m.renumber_in(nodes, narrow, colours, plan) {
-        Renumbering::Done(new) => new,
-        Renumbering::Refused(_) => m,
-    }
+    m.renumber_in(nodes, narrow, colours, plan).unwrap_or(m)
 }
 
 // Renumbers by a plan, which the next proposal then replaces.
@@ -360,7 +368,7 @@ fn move_all(
     show_map(streams, new, nodes, narrow, colours);
     number(
         streams,
-        new.propose_in(nodes, narrow, colours, plan).number(),
+        number_of(new.propose_in(nodes, narrow, colours, plan)),
     );
     new
 }
@@ -381,22 +389,22 @@ fn tidy(
 
 fn tidy_built(
     streams: &Streams,
-    a: Built,
+    a: Result<Map, Refusal>,
     nodes: &mut [u64],
     narrow: bool,
     colours: &mut [u8],
     plan: &mut [u64],
 ) {
     match a {
-        Built::Refused(why) => number(streams, why.number()),
-        Built::Done(m) => tidy(streams, m, nodes, narrow, colours, plan),
+        Err(why) => number(streams, why.number()),
+        Ok(m) => tidy(streams, m, nodes, narrow, colours, plan),
     }
 }
 
 // Renumbers a map that was built, by a plan for as many slots as the list has places.
 fn tidy_by(
     streams: &Streams,
-    a: Built,
+    a: Result<Map, Refusal>,
     plan: &mut [u64],
     shift: bool,
     nodes: &mut [u64],
@@ -420,7 +428,7 @@ fn renumber(
 ) {
     put_triples(list, 65535);
     let a = built(196605, list, nodes, narrow, colours);
-    let n = least(65535, list.len());
+    let n = list.len().min(65535);
     tidy_by(streams, a, &mut list[..n], shift, nodes, narrow, colours);
 }
 

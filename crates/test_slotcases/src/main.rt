@@ -4,12 +4,11 @@
 
 ghost use Rattle.std.specs.Prelude.{◌≡◌, ◌<◌, ◌≤◌, length};
 
-use lines::input::{Digit, digit_of};
+use lines::input::digit_of;
 use lines::output;
 use lines::streams::Streams;
 use lines::whole::read_all;
 use slotlist_core::{State, memory};
-use words::numbers::least;
 
 const MOST: usize = 131072;
 
@@ -33,7 +32,7 @@ fn longer(value: usize, d: u64) -> usize
 {
     if value < MOST {
         if d < 10 {
-            return least(value * 10 + d as usize, MOST);
+            return (value * 10 + d as usize).min(MOST);
         }
     }
     MOST
@@ -43,12 +42,12 @@ fn read_number(input: &[u8], at: usize) -> Number
     ensures { result.after ≤ length input.now }
 {
     let mut value = 0;
-    let mut i = at;
-    while i < input.len() {
-        let b = input[i];
-        i += 1;
-        let Digit::Is(d) = digit_of(b) else {
-            return Number { value, after: i };
+    for i in at..input.len() {
+        let Some(d) = digit_of(input[i]) else {
+            return Number {
+                value,
+                after: i + 1,
+            };
         };
         value = longer(value, d);
     }
@@ -65,14 +64,12 @@ fn feed_pieces(
     nodes: &mut [u64],
     colours: &mut [u8],
     entries: &mut [u64],
-) -> State {
+) -> State
+    requires { 0 < size }
+{
     let mut state = State::new();
-    let mut i = 0;
-    while i < input.len() {
-        let from = i;
-        let n = least(input.len() - i - 1, size);
-        i += n + 1;
-        state = state.feed(&input[from..i], nodes, colours, entries);
+    for piece in input.chunks(size) {
+        state = state.feed(piece, nodes, colours, entries);
     }
     state
 }
@@ -85,14 +82,18 @@ fn run(
     colours: &mut [u8],
     entries: &mut [u64],
     out: &mut [u8],
-) {
+)
+    requires { 0 < size }
+{
     let state = feed_pieces(input, size, nodes, colours, entries);
     let n = state.finish(nodes, colours, entries, out);
     output::flush(streams, out, n);
 }
 
-// Runs one case, in memory that no other case uses. `size` is one less than the bytes of a piece.
-fn case(streams: &Streams, input: &[u8], size: usize) {
+// Runs one case, in memory that no other case uses, in pieces of `size` bytes.
+fn case(streams: &Streams, input: &[u8], size: usize)
+    requires { 0 < size }
+{
     let mut nodes = memory::node_words();
     let mut colours = memory::colour_bytes();
     let mut entries = memory::entry_numbers();
@@ -108,10 +109,6 @@ fn case(streams: &Streams, input: &[u8], size: usize) {
     );
 }
 
-fn below(size: usize) -> usize {
-    if size == 0 { 0 } else { size - 1 }
-}
-
 // Runs the case at a place, and returns the place after it.
 fn case_at(streams: &Streams, cases: &[u8], at: usize) -> usize
     ensures { result ≤ length cases.now }
@@ -119,8 +116,8 @@ fn case_at(streams: &Streams, cases: &[u8], at: usize) -> usize
     let len = read_number(cases, at);
     let size = read_number(cases, len.after);
     let from = size.after;
-    let to = from + least(len.value, cases.len() - from);
-    case(streams, &cases[from..to], below(size.value));
+    let to = from + len.value.min(cases.len() - from);
+    case(streams, &cases[from..to], size.value.max(1));
     to
 }
 
@@ -140,16 +137,13 @@ fn all_cases(streams: &Streams, cases: &[u8]) {
 // Whether the input has ended. After a failed read the next read fails too.
 fn is_read(streams: &Streams) -> bool {
     let mut more = [0u8; 1];
-    let got = streams.read(&mut more);
-    (got.len == 0) & !got.failed
+    matches!(streams.read(&mut more), Ok(0))
 }
 
 fn read_cases(streams: &Streams, cases: &mut [u8]) {
-    let got = read_all(streams, cases);
-    if is_read(streams) {
-        all_cases(streams, &cases[..got.len]);
-    } else {
-        output::complain(streams, b"test_slotcases", b"read all of its input");
+    match read_all(streams, cases) {
+        Ok(n) if is_read(streams) => all_cases(streams, &cases[..n]),
+        _ => output::complain(streams, b"test_slotcases", b"read all of its input"),
     }
 }
 

@@ -3,61 +3,41 @@
 #![tactic(auto)]
 
 use image_text::memory;
-use image_text::reading::{Outcome, State};
+use image_text::reading::State;
 use image_text::writing::put_refusal;
 use lines::output;
 use lines::streams::Streams;
 
-// What was read, and whether a read failed.
-#[derive(Clone, Copy)]
-struct Fed {
-    state: State,
-    failed: bool,
-}
-
 // Reads to the end of the input. The loop is bounded by 2^64 rounds, so that the proof can show
 // that it ends.
-fn feed_all(streams: &Streams, input: &mut [u8], image: &mut [u8]) -> Fed {
+fn feed_all(streams: &Streams, input: &mut [u8], image: &mut [u8]) -> std::io::Result<State> {
     let mut state = State::new();
-    let mut turns = u64::MAX;
-    while 0 < turns {
-        turns -= 1;
-        let got = streams.read(input);
-        let n = got.len;
+    for _ in 0..u64::MAX {
+        let n = streams.read(input)?;
         if n == 0 {
-            return Fed {
-                state,
-                failed: got.failed,
-            };
+            break;
         }
         state = state.feed(&input[..n], image);
     }
-    Fed {
-        state,
-        failed: false,
-    }
-}
-
-fn refuse(streams: &Streams, why: u64, out: &mut [u8]) {
-    let end = put_refusal(streams, out, why);
-    output::flush(streams, out, end);
+    Ok(state)
 }
 
 fn print(streams: &Streams, state: State, image: &mut [u8], out: &mut [u8]) {
     match state.finish(image) {
-        Outcome::Done(n) => {
+        Ok(n) => {
             output::flush(streams, image, n);
         }
-        Outcome::Refused(why) => refuse(streams, why, out),
+        Err(why) => {
+            let end = put_refusal(streams, out, why.number());
+            output::flush(streams, out, end);
+        }
     }
 }
 
 fn run(streams: &Streams, input: &mut [u8], image: &mut [u8]) {
-    let fed = feed_all(streams, input, image);
-    if fed.failed {
-        output::complain(streams, b"textimage", b"read");
-    } else {
-        print(streams, fed.state, image, input);
+    match feed_all(streams, input, image) {
+        Ok(state) => print(streams, state, image, input),
+        Err(_) => output::complain(streams, b"textimage", b"read"),
     }
 }
 

@@ -4,15 +4,11 @@
 #![tactic(auto)]
 
 ghost use Rattle.std.specs.Prelude.{◌≤◌, length};
-ghost use Rattle.io.specs.Counts.{IsPrefixLen};
 
-use iset::Map;
-use iset::build::Built;
-use iset::save::Written;
-use iset::tidy::Renumbering;
+use iset::{Map, Refusal};
 use lines::output;
 use lines::streams::Streams;
-use lines::whole::{Got, read_all};
+use lines::whole::read_all;
 use plan_text::memory;
 use plan_text::reading::{Flaw, State};
 use plan_text::refusing::refuse_image;
@@ -22,50 +18,24 @@ use std::fs::File;
 use std::io::{Error, ErrorKind, Read};
 use std::rt::Env;
 use std::str;
-use words::numbers::least;
-
-// What was read of the plan, and whether a read failed.
-#[derive(Clone, Copy)]
-struct Fed {
-    state: State,
-    failed: bool,
-}
-
-// Reads once from the plan, to the front of the space. No byte is read at the end of the plan, and
-// if the read failed.
-fn read_some(file: &mut File, space: &mut [u8]) -> Got
-    ensures { IsPrefixLen result.len space.new }
-{
-    match file.read(space) {
-        Ok(len) => Got { len, failed: false },
-        Err(_) => Got {
-            len: 0,
-            failed: true,
-        },
-    }
-}
 
 // Reads the plan to its end. The loop is bounded by 2^64 rounds, so that the proof can show that it
 // ends.
-fn feed_all(file: &mut File, input: &mut [u8], plan: &mut [u64], lines: &mut [u64]) -> Fed {
+fn feed_all(
+    file: &mut File,
+    input: &mut [u8],
+    plan: &mut [u64],
+    lines: &mut [u64],
+) -> Result<State, Error> {
     let mut state = State::new();
-    let mut turns = u64::MAX;
-    while 0 < turns {
-        turns -= 1;
-        let got = read_some(file, input);
-        let n = got.len;
+    for _ in 0..u64::MAX {
+        let n = file.read(input)?;
         if n == 0 {
-            return Fed {
-                state,
-                failed: got.failed,
-            };
+            break;
         }
         state = state.feed(&input[..n], plan, lines);
     }
-    Fed {
-        state,
-        failed: false,
-    }
+    Ok(state)
 }
 
 // The system's number of the error that a name is too long.
@@ -86,7 +56,7 @@ fn open_plan(rt: &HostRuntime) -> Result<File, Error> {
 
 // Says what is wrong with the plan, through a buffer that holds any such text.
 fn tell(streams: &Streams, flaw: Flaw, out: &mut [u8]) {
-    let n = put_flaw(streams, out, flaw);
+    let n = put_flaw(streams, out, Err(flaw));
     if n <= out.len() {
         output::complain(streams, b"tidyapply", &out[..n]);
     }
@@ -100,12 +70,12 @@ fn is_accepted(
     lines: &mut [u64],
     out: &mut [u8],
 ) -> bool {
-    let flaw = state.finish(plan, lines);
-    if flaw.is_nothing() {
-        true
-    } else {
-        tell(streams, flaw, out);
-        false
+    match state.finish(plan, lines) {
+        Ok(()) => true,
+        Err(flaw) => {
+            tell(streams, flaw, out);
+            false
+        }
     }
 }
 
@@ -118,13 +88,12 @@ fn read_plan(
     lines: &mut [u64],
 ) -> bool {
     let mut file = file;
-    let fed = feed_all(&mut file, input, plan, lines);
-    let state = fed.state;
-    if fed.failed {
-        output::complain(streams, b"tidyapply", b"read the plan");
-        false
-    } else {
-        is_accepted(streams, state, plan, lines, input)
+    match feed_all(&mut file, input, plan, lines) {
+        Ok(state) => is_accepted(streams, state, plan, lines, input),
+        Err(_) => {
+            output::complain(streams, b"tidyapply", b"read the plan");
+            false
+        }
     }
 }
 
@@ -166,10 +135,10 @@ fn take_plan(
 // Writes the image of the new map.
 fn save(streams: &Streams, map: Map, nodes: &[u64], colours: &[u8], image: &mut [u8]) {
     match map.write_image_in(nodes, true, colours, image) {
-        Written::Done(n) => {
+        Ok(n) => {
             output::flush(streams, image, n as usize);
         }
-        Written::Refused(_) => output::complain(streams, b"tidyapply", b"write the image"),
+        Err(_) => output::complain(streams, b"tidyapply", b"write the image"),
     }
 }
 
@@ -183,8 +152,8 @@ fn apply(
     plan: &[u64],
 ) {
     match map.renumber_in(nodes, true, colours, plan) {
-        Renumbering::Done(tidy) => save(streams, tidy, nodes, colours, image),
-        Renumbering::Refused(_) => output::complain(streams, b"tidyapply", b"renumber the map"),
+        Ok(tidy) => save(streams, tidy, nodes, colours, image),
+        Err(_) => output::complain(streams, b"tidyapply", b"renumber the map"),
     }
 }
 
@@ -200,7 +169,7 @@ fn follow(
     lines: &mut [u64],
     input: &mut [u8],
 ) {
-    let n = least(least(map.count as usize, plan.len()), lines.len());
+    let n = (map.count as usize).min(plan.len()).min(lines.len());
     if take_plan(rt, streams, input, &mut plan[..n], &mut lines[..n]) {
         apply(streams, map, image, nodes, colours, &plan[..n]);
     }
@@ -221,8 +190,8 @@ fn load(
     requires { n ≤ length image.old }
 {
     match Map::new().read_image_in(nodes, true, colours, &image[..n]) {
-        Built::Done(map) => follow(rt, streams, map, image, nodes, colours, plan, lines, input),
-        Built::Refused(why) => refuse_image(streams, b"tidyapply", why.number()),
+        Ok(map) => follow(rt, streams, map, image, nodes, colours, plan, lines, input),
+        Err(why) => refuse_image(streams, b"tidyapply", why),
     }
 }
 
@@ -237,14 +206,12 @@ fn run(
     lines: &mut [u64],
     input: &mut [u8],
 ) {
-    let got = read_all(streams, image);
-    let n = got.len;
-    if got.failed {
-        output::complain(streams, b"tidyapply", b"read");
-    } else if n < image.len() {
-        load(rt, streams, n, image, nodes, colours, plan, lines, input);
-    } else {
-        refuse_image(streams, b"tidyapply", 1);
+    match read_all(streams, image) {
+        Ok(n) if n < image.len() => {
+            load(rt, streams, n, image, nodes, colours, plan, lines, input);
+        }
+        Ok(_) => refuse_image(streams, b"tidyapply", Refusal::NoRoom),
+        Err(_) => output::complain(streams, b"tidyapply", b"read"),
     }
 }
 
@@ -274,11 +241,7 @@ fn has_plan(rt: &HostRuntime) -> bool {
 }
 
 fn is_absent(arg: Result<usize, FillError>) -> bool {
-    match arg {
-        Ok(_) => false,
-        Err(FillError::TooLong) => false,
-        Err(FillError::NotPresent) => true,
-    }
+    matches!(arg, Err(FillError::NotPresent))
 }
 
 fn main(rt: HostRuntime) {

@@ -3,35 +3,30 @@
 // which is the most that a map can have.
 #![tactic(auto)]
 
-use iset::build::Built;
-use iset::{Checked, Map};
+use iset::{Map, Refusal};
 use lines::output;
 use lines::streams::Streams;
 use lines::whole::read_all;
 use plan_text::memory;
 use plan_text::refusing::refuse_image;
 use plan_text::writing::put_plan;
-use words::numbers::least;
 
 fn print(streams: &Streams, count: u64, plan: &[u64], out: &mut [u8]) {
-    let n = least(count as usize, plan.len());
+    let n = (count as usize).min(plan.len());
     let end = put_plan(streams, out, &plan[..n]);
     output::flush(streams, out, end);
 }
 
-// Prints the plan of a map that was read.
+// Writes a plan for the map of an image, and returns the map.
 fn propose(
-    streams: &Streams,
-    map: Map,
-    nodes: &[u64],
-    colours: &[u8],
+    image: &[u8],
+    nodes: &mut [u64],
+    colours: &mut [u8],
     plan: &mut [u64],
-    out: &mut [u8],
-) {
-    match map.propose_in(nodes, true, colours, plan) {
-        Checked::Sound => print(streams, map.count, plan, out),
-        Checked::Refused(why) => refuse_image(streams, b"tidyplan", why.number()),
-    }
+) -> Result<Map, Refusal> {
+    let map = Map::new().read_image_in(nodes, true, colours, image)?;
+    map.propose_in(nodes, true, colours, plan)?;
+    Ok(map)
 }
 
 // Prints the plan of an image.
@@ -43,9 +38,9 @@ fn load(
     plan: &mut [u64],
     out: &mut [u8],
 ) {
-    match Map::new().read_image_in(nodes, true, colours, image) {
-        Built::Done(map) => propose(streams, map, nodes, colours, plan, out),
-        Built::Refused(why) => refuse_image(streams, b"tidyplan", why.number()),
+    match propose(image, nodes, colours, plan) {
+        Ok(map) => print(streams, map.count, plan, out),
+        Err(why) => refuse_image(streams, b"tidyplan", why),
     }
 }
 
@@ -58,14 +53,10 @@ fn run(
     plan: &mut [u64],
     out: &mut [u8],
 ) {
-    let got = read_all(streams, input);
-    let n = got.len;
-    if got.failed {
-        output::complain(streams, b"tidyplan", b"read");
-    } else if n < input.len() {
-        load(streams, &input[..n], nodes, colours, plan, out);
-    } else {
-        refuse_image(streams, b"tidyplan", 1);
+    match read_all(streams, input) {
+        Ok(n) if n < input.len() => load(streams, &input[..n], nodes, colours, plan, out),
+        Ok(_) => refuse_image(streams, b"tidyplan", Refusal::NoRoom),
+        Err(_) => output::complain(streams, b"tidyplan", b"read"),
     }
 }
 

@@ -1,36 +1,20 @@
 // `fresh QUERY`: the cursor that a lookup begins with.
-use crate::lookups::query;
-use crate::lookups::query::Kind;
-use crate::lookups::reply::Reply;
-use iset::Map;
-use iset::lookup::Started;
+use crate::answer::Output;
+use crate::room::Store;
 use iter::Cursor;
+use iter::rules::Query;
 
-fn reply(no: u64, c: Cursor) -> Reply {
-    Reply {
-        no,
-        numbers: [c.slot, c.levels, c.bits, 0, 0],
-    }
+fn put(no: u64, c: Cursor, out: &mut Output) {
+    out.numbers(no, &[c.slot, c.levels, c.bits]);
 }
 
 // A refused lookup shows the ended cursor.
-fn reply_of(a: Started) -> Reply {
-    match a {
-        Started::Done(c) => reply(0, c),
-        Started::Refused(why) => reply(why.number(), Cursor::ended()),
-    }
-}
-
-pub(crate) fn fresh(
-    m: Map,
-    kind: Kind,
-    numbers: &[u64],
-    nodes: &[u64],
-    narrow: bool,
-    colours: &[u8],
-) -> Reply {
-    match kind {
-        Kind::Exact => reply_of(m.fresh_exact_in(nodes, narrow, colours, query::interval(numbers))),
-        _ => reply(0, m.fresh()),
+pub(crate) fn fresh(s: &Store, query: Query, out: &mut Output) {
+    let Query::Exact(interval) = query else {
+        return put(0, s.map.fresh(), out);
+    };
+    match s.map.fresh_exact_in(s.nodes, s.narrow, s.colours, interval) {
+        Ok(c) => put(0, c, out),
+        Err(why) => put(why.number(), Cursor::ended(), out),
     }
 }

@@ -1,77 +1,69 @@
 // The requests on the store as a map in which no two ranges overlap: `checkd`, `point`, `insertd`
 // and `removed`.
-use crate::given;
+use crate::answer::Output;
 use crate::map::reply::Reply;
 use crate::map::{point, remove};
+use crate::room::Store;
 use disjoint::DisjointMap;
-use disjoint::insert::Placement;
-use iset::Map;
+use iset::{Entry, number_of};
 
 #[derive(Clone, Copy)]
 pub enum Call {
     Check,
-    Point,
-    Insert,
-    Remove,
+    Point(u64),
+    Insert(Entry),
+    Remove(u64),
 }
 
-// The calls in the order of their names (crate::call).
-pub(crate) fn call_at(place: usize) -> Call {
-    match place {
-        0 => Call::Check,
-        1 => Call::Point,
-        2 => Call::Insert,
-        _ => Call::Remove,
+// The call with the name and the numbers.
+pub(crate) fn named(name: &[u8], numbers: &[u64]) -> Option<Call> {
+    match (name, numbers) {
+        (b"checkd", []) => Some(Call::Check),
+        (b"point ", [address]) => Some(Call::Point(*address)),
+        (b"insertd ", [start, end, value]) => Some(Call::Insert(Entry {
+            start: *start,
+            end: *end,
+            value: *value,
+        })),
+        (b"removed ", [slot]) => Some(Call::Remove(*slot)),
+        _ => None,
     }
 }
 
-pub(crate) fn fits(call: Call, numbers: &[u64]) -> bool {
-    match call {
-        Call::Check => numbers.len() == 0,
-        Call::Insert => numbers.len() == 3,
-        _ => numbers.len() == 1,
-    }
-}
-
-fn check(m: Map, nodes: &[u64], narrow: bool, colours: &[u8]) -> Reply {
-    let d = DisjointMap { map: m };
-    let checked = d.check_in(nodes, narrow, colours);
-    Reply::new(checked.number(), m, 0, 0, 0)
+fn check(s: &Store, out: &mut Output) -> Reply {
+    let checked = DisjointMap { map: s.map }.check_in(s.nodes, s.narrow, s.colours);
+    out.numbers(number_of(checked), &[]);
+    Reply::new(s.map, 0)
 }
 
 // A refused insertion shows the map as given, and the slot that the refusal names.
-fn placed(a: Placement, m: Map) -> Reply {
-    match a {
-        Placement::Done(added) => Reply::new(0, added.map, added.slot, added.reach, 3),
-        Placement::Refused(why, slot) => Reply::new(why.number(), m, slot, 0, 3),
+fn insert(s: &mut Store, e: Entry, out: &mut Output) -> Reply {
+    let m = s.map;
+    match (DisjointMap { map: m }).insert_in(
+        s.nodes, s.narrow, s.colours, e.start, e.end, e.value,
+    ) {
+        Ok(added) => {
+            out.numbers(0, &[added.map.count, added.map.root, added.slot]);
+            Reply::new(added.map, added.reach)
+        }
+        Err(blocked) => {
+            out.numbers(blocked.why.number(), &[m.count, m.root, blocked.slot]);
+            Reply::new(m, 0)
+        }
     }
 }
 
-fn insert(m: Map, numbers: &[u64], nodes: &mut [u64], narrow: bool, colours: &mut [u8]) -> Reply {
-    let d = DisjointMap { map: m };
-    let start = given::number(numbers, 0);
-    let end = given::number(numbers, 1);
-    let value = given::number(numbers, 2);
-    placed(d.insert_in(nodes, narrow, colours, start, end, value), m)
+fn remove(s: &mut Store, slot: u64, out: &mut Output) -> Reply {
+    let m = s.map;
+    let a = DisjointMap { map: m }.remove_in(s.nodes, s.narrow, s.colours, slot);
+    remove::reply_of(a, m, out)
 }
 
-fn remove(m: Map, slot: u64, nodes: &mut [u64], narrow: bool, colours: &mut [u8]) -> Reply {
-    let d = DisjointMap { map: m };
-    remove::reply_of(d.remove_in(nodes, narrow, colours, slot), m)
-}
-
-pub(crate) fn done(
-    call: Call,
-    m: Map,
-    numbers: &[u64],
-    nodes: &mut [u64],
-    narrow: bool,
-    colours: &mut [u8],
-) -> Reply {
+pub(crate) fn answer(call: Call, s: &mut Store, out: &mut Output) -> Reply {
     match call {
-        Call::Check => check(m, nodes, narrow, colours),
-        Call::Point => point::point(m, given::number(numbers, 0), nodes, narrow, colours),
-        Call::Insert => insert(m, numbers, nodes, narrow, colours),
-        Call::Remove => remove(m, given::number(numbers, 0), nodes, narrow, colours),
+        Call::Check => check(s, out),
+        Call::Point(address) => point::point(s, address, out),
+        Call::Insert(e) => insert(s, e, out),
+        Call::Remove(slot) => remove(s, slot, out),
     }
 }

@@ -1,31 +1,29 @@
 // `build LIST`: builds a map into the slices of the store.
+use crate::answer::Output;
 use crate::map::reply::Reply;
-use iset::Map;
-use iset::build::Built;
+use crate::room::Store;
+use iset::{Map, Refusal};
 use words::ix::U;
 
-// A reply that prints the first n of the count, the root and the version. A refused build shows the
-// map of no entries, with the version of the map that it was to replace.
-pub(crate) fn reply_of(a: Built, m: Map, n: usize) -> Reply {
+// The refusal's number, and the map that a build returns. A refused build returns the map of no
+// entries, with the version of the map that it was to replace.
+pub(crate) fn built(a: Result<Map, Refusal>, version: u32) -> (u64, Map) {
     match a {
-        Built::Done(map) => Reply::new(0, map, map.version as u64, 0, n),
-        Built::Refused(why) => {
+        Ok(map) => (0, map),
+        Err(why) => {
             let none = Map {
                 count: 0,
                 root: U,
-                version: m.version,
+                version,
             };
-            Reply::new(why.number(), none, none.version as u64, 0, n)
+            (why.number(), none)
         }
     }
 }
 
-pub(crate) fn build(
-    m: Map,
-    list: &[u64],
-    nodes: &mut [u64],
-    narrow: bool,
-    colours: &mut [u8],
-) -> Reply {
-    reply_of(m.build_in(nodes, narrow, colours, list), m, 2)
+pub(crate) fn build(s: &mut Store, list: &[u64], out: &mut Output) -> Reply {
+    let a = s.map.build_in(s.nodes, s.narrow, s.colours, list);
+    let (no, map) = built(a, s.map.version);
+    out.numbers(no, &[map.count, map.root]);
+    Reply::new(map, 0)
 }

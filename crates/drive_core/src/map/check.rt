@@ -1,8 +1,11 @@
 // `check`: makes the store check alone.
+use crate::answer::Output;
 use crate::map::reply::Reply;
-use iset::Map;
+use crate::room::Store;
+use iset::number_of;
 
-pub(crate) fn check(m: Map, nodes: &[u64], narrow: bool, colours: &[u8]) -> Reply {
-    let checked = m.check_in(nodes, narrow, colours);
-    Reply::new(checked.number(), m, 0, 0, 0)
+pub(crate) fn check(s: &Store, out: &mut Output) -> Reply {
+    let checked = s.map.check_in(s.nodes, s.narrow, s.colours);
+    out.numbers(number_of(checked), &[]);
+    Reply::new(s.map, 0)
 }

@@ -1,16 +1,15 @@
 // `chost ADDRESS K`: the three calls that look an address up in the image that `bytes` gave.
-use crate::given;
+use crate::answer::Output;
 use crate::map::reply::Reply;
 use image_host::{image_count, image_refusal, image_value};
 use iset::Map;
 
 // What the calls return, in their order. The refusal's number is that of the third, so it is
 // printed last, and the count in its place.
-pub(crate) fn host(m: Map, numbers: &[u64], image: &[u8]) -> Reply {
-    let address = given::number(numbers, 0);
-    let k = given::number(numbers, 1);
+pub(crate) fn host(m: Map, address: u64, k: u64, image: &[u8], out: &mut Output) -> Reply {
     let count = image_count(image, address);
     let value = image_value(image, address, k);
     let no = image_refusal(image, address, k);
-    Reply::same(count, m, value, no, 0, 2)
+    out.numbers(count, &[value, no]);
+    Reply::new(m, 0)
 }

@@ -1,27 +1,21 @@
 // `insert START END VALUE`: adds one entry.
-use crate::given;
+use crate::answer::Output;
 use crate::map::reply::Reply;
-use iset::Map;
-use iset::insert::Insertion;
+use crate::room::Store;
+use iset::Entry;
 use words::ix::U;
 
 // A refused insertion shows the map as given, and no slot.
-fn reply_of(a: Insertion, m: Map) -> Reply {
-    match a {
-        Insertion::Done(added) => Reply::new(0, added.map, added.slot, added.reach, 3),
-        Insertion::Refused(why) => Reply::new(why.number(), m, U, 0, 3),
+pub(crate) fn insert(s: &mut Store, e: Entry, out: &mut Output) -> Reply {
+    let m = s.map;
+    match m.insert_in(s.nodes, s.narrow, s.colours, e.start, e.end, e.value) {
+        Ok(added) => {
+            out.numbers(0, &[added.map.count, added.map.root, added.slot]);
+            Reply::new(added.map, added.reach)
+        }
+        Err(why) => {
+            out.numbers(why.number(), &[m.count, m.root, U]);
+            Reply::new(m, 0)
+        }
     }
-}
-
-pub(crate) fn insert(
-    m: Map,
-    numbers: &[u64],
-    nodes: &mut [u64],
-    narrow: bool,
-    colours: &mut [u8],
-) -> Reply {
-    let start = given::number(numbers, 0);
-    let end = given::number(numbers, 1);
-    let value = given::number(numbers, 2);
-    reply_of(m.insert_in(nodes, narrow, colours, start, end, value), m)
 }

@@ -1,27 +1,21 @@
 // `load VERSION`: reads the image that `bytes` gave into the slices of the store, in the place of a
 // map of that version.
-use crate::given;
+use crate::answer::Output;
 use crate::map::build;
 use crate::map::reply::Reply;
+use crate::room::Store;
 use iset::Map;
 use words::ix::U;
 
-pub(crate) fn fits(numbers: &[u64]) -> bool {
-    (numbers.len() == 1) & given::is_version(numbers, 0)
-}
-
 // Of the map that is replaced only the version is read.
-pub(crate) fn load(
-    version: u32,
-    nodes: &mut [u64],
-    narrow: bool,
-    colours: &mut [u8],
-    image: &[u8],
-) -> Reply {
-    let m = Map {
+pub(crate) fn load(version: u32, s: &mut Store, image: &[u8], out: &mut Output) -> Reply {
+    let old = Map {
         count: 0,
         root: U,
         version,
     };
-    build::reply_of(m.read_image_in(nodes, narrow, colours, image), m, 3)
+    let a = old.read_image_in(s.nodes, s.narrow, s.colours, image);
+    let (no, map) = build::built(a, version);
+    out.numbers(no, &[map.count, map.root, map.version as u64]);
+    Reply::new(map, 0)
 }

@@ -1,7 +1,9 @@
 // `remove SLOT`: removes one entry.
+use crate::answer::Output;
 use crate::map::reply::Reply;
-use iset::Map;
-use iset::remove::{Removal, Removed};
+use crate::room::Store;
+use iset::remove::Removed;
+use iset::{Map, Refusal};
 use words::ix::U;
 
 // The value, the map and the pairs, as numbers.
@@ -17,42 +19,21 @@ fn numbers_of(g: Removed) -> [u64; 9] {
     ]
 }
 
-fn removed(g: Removed) -> Reply {
-    let m = g.map;
-    Reply {
-        no: 0,
-        map: m,
-        reach: g.reach,
-        numbers: numbers_of(g),
-        n: 9,
-    }
-}
-
-// A refused removal shows value 0, the map as given, no pairs, and no changed hulls. A slot's hull
-// is the least range that holds all entries of its subtree.
-fn refused(no: u64, m: Map) -> Reply {
-    Reply {
-        no,
-        map: m,
-        reach: 0,
-        numbers: [0, m.count, m.root, U, U, U, U, U, U],
-        n: 9,
-    }
-}
-
-pub(crate) fn reply_of(a: Removal, m: Map) -> Reply {
+// A refused removal shows value 0, the map as given and no pairs.
+pub(crate) fn reply_of(a: Result<Removed, Refusal>, m: Map, out: &mut Output) -> Reply {
     match a {
-        Removal::Done(answer) => removed(answer),
-        Removal::Refused(why) => refused(why.number(), m),
+        Ok(g) => {
+            out.numbers(0, &numbers_of(g));
+            Reply::new(g.map, g.reach)
+        }
+        Err(why) => {
+            out.numbers(why.number(), &[0, m.count, m.root, U, U, U, U, U, U]);
+            Reply::new(m, 0)
+        }
     }
 }
 
-pub(crate) fn remove(
-    m: Map,
-    slot: u64,
-    nodes: &mut [u64],
-    narrow: bool,
-    colours: &mut [u8],
-) -> Reply {
-    reply_of(m.remove_in(nodes, narrow, colours, slot), m)
+pub(crate) fn remove(s: &mut Store, slot: u64, out: &mut Output) -> Reply {
+    let a = s.map.remove_in(s.nodes, s.narrow, s.colours, slot);
+    reply_of(a, s.map, out)
 }

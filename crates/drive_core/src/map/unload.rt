@@ -1,33 +1,28 @@
 // `unload o BOUND BOUND` and `unload r RULE BOUND BOUND`: removes every entry that intersects a
 // range.
+use crate::answer::Output;
 use crate::lookups::query;
-use crate::lookups::query::Kind;
 use crate::map::reply::Reply;
-use iset::Map;
-use iset::unload::Unloading;
+use crate::map::store::Call;
+use crate::room::Store;
+use iset::Span;
+use iter::rules::Query;
 
-// Whether the numbers are those of the query.
-pub(crate) fn fits(kind: Kind, numbers: &[u64]) -> bool {
-    (numbers.len() == query::size(kind)) & query::fits(kind, numbers)
-}
-
-// A refused unloading shows the map as given, and that no entry is gone.
-fn reply_of(a: Unloading, m: Map) -> Reply {
-    match a {
-        Unloading::Done(left) => Reply::new(0, left.map, left.gone, 0, 3),
-        Unloading::Refused(why) => Reply::new(why.number(), m, 0, 0, 3),
+// The call whose numbers are a query. A query that names no rule goes by rule 1.
+pub(crate) fn unloading<'a>(kind: &[u8], numbers: &'a [u64]) -> Option<Call<'a>> {
+    match query::split(kind, numbers)? {
+        (Query::Overlap(range), []) => Some(Call::Unload(1, range)),
+        (Query::Ruled(rule, range), []) => Some(Call::Unload(rule, range)),
+        _ => None,
     }
 }
 
-pub(crate) fn unload(
-    m: Map,
-    kind: Kind,
-    numbers: &[u64],
-    nodes: &mut [u64],
-    narrow: bool,
-    colours: &mut [u8],
-) -> Reply {
-    let rule = query::rule(kind, numbers);
-    let range = query::range(kind, numbers);
-    reply_of(m.unload_in(nodes, narrow, colours, rule, range), m)
+// A refused unloading shows the map as given, and that no entry is gone.
+pub(crate) fn unload(s: &mut Store, rule: u64, range: Span, out: &mut Output) -> Reply {
+    let (no, map, gone) = match s.map.unload_in(s.nodes, s.narrow, s.colours, rule, range) {
+        Ok(left) => (0, left.map, left.gone),
+        Err(why) => (why.number(), s.map, 0),
+    };
+    out.numbers(no, &[map.count, map.root, gone]);
+    Reply::new(map, 0)
 }

@@ -1,28 +1,20 @@
 // `write ROOM`: writes the store as an image into an output of ROOM bytes.
-use crate::given;
+use crate::answer::Output;
 use crate::map::reply::Reply;
-use iset::Map;
-use iset::save::Written;
+use crate::room::Store;
 
-// Whether there is a number of places, at most 16,384.
-pub(crate) fn fits(numbers: &[u64]) -> bool {
-    (numbers.len() == 1) & (given::number(numbers, 0) <= 16384)
-}
-
-// A refused call shows the length 0.
-fn reply_of(a: Written, m: Map) -> Reply {
-    match a {
-        Written::Done(length) => Reply::same(0, m, length, 0, 0, 1),
-        Written::Refused(why) => Reply::same(why.number(), m, 0, 0, 0, 1),
+// At first each place of the output holds a number that shows whether the call left it unchanged.
+// After the numbers the whole output is printed. A refused call shows the length 0.
+pub(crate) fn write(s: &Store, image: &mut [u8], out: &mut Output) -> Reply {
+    image.fill(238);
+    let (no, length) = match s.map.write_image_in(s.nodes, s.narrow, s.colours, image) {
+        Ok(length) => (0, Some(length)),
+        Err(why) => (why.number(), None),
+    };
+    out.numbers(no, &[length.unwrap_or(0)]);
+    out.list(image);
+    Reply {
+        image: length.map(|n| n as usize),
+        ..Reply::new(s.map, 0)
     }
-}
-
-pub(crate) fn write(
-    m: Map,
-    nodes: &[u64],
-    narrow: bool,
-    colours: &[u8],
-    image: &mut [u8],
-) -> Reply {
-    reply_of(m.write_image_in(nodes, narrow, colours, image), m)
 }

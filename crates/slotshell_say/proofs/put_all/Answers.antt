@@ -1,13 +1,9 @@
-use mathlib.Core.Path.{refl}
 use native.Mathlib.Omega.{arith}
 use Rattle.slotshell_say.proofs.Laws.{said_on, said_end}
 use Rattle.slotshell_say.proofs.put_all.Goals as goal
 
-pub loop-i-init : goal.loop-i-init
-loop-i-init c = (omega arith, omega arith, refl, refl)
-
-pub loop-i-preserved : goal.loop-i-preserved
-loop-i-preserved c = (omega arith, omega arith, omega arith, search said_on)
+pub loop-b-preserved : goal.loop-b-preserved
+loop-b-preserved c = (omega arith, omega arith, search said_on)
 
 pub returns : goal.returns
 returns c = search said_end

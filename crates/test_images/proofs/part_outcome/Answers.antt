@@ -1,6 +1,5 @@
 use native.Mathlib.Omega.{arith}
 use lib.ListN.{length-take}
-use borrow.Author.Rules.{rules}
 use Rattle.test_images.proofs.part_outcome.Goals as goal
 
 pub slice_bounds-outcome-end : goal.slice_bounds-outcome-end

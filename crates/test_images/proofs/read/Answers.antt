@@ -1,6 +1,5 @@
 use native.Mathlib.Omega.{arith}
 use Rattle.test_images.proofs.Laws.{said}
-use borrow.Author.Rules.{rules}
 use Rattle.test_images.proofs.read.Goals as goal
 
 pub count_in-requires : goal.count_in-requires

@@ -1,6 +1,5 @@
 use Prim.Native.Nat.{◌≤◌, ◌-◌}
 use lib.ListN.{length}
-use native.Mathlib.Omega.{arith}
 use Rattle.test_slotcases.proofs.all_cases.Given as goal
 
 abbrev pub invariant-loop-at : goal.invariant-loop-at

@@ -1,6 +1,5 @@
 use native.Mathlib.Omega.{arith}
 use lib.ListN.{length-take}
-use borrow.Author.Rules.{rules}
 use Rattle.tidyapply.proofs.follow.Goals as goal
 
 pub slice_bounds-take_plan-end-2 : goal.slice_bounds-take_plan-end-2

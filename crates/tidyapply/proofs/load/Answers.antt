@@ -1,6 +1,5 @@
 use native.Mathlib.Omega.{arith}
 use lib.ListN.{length-take}
-use borrow.Author.Rules.{rules}
 use Rattle.tidyapply.proofs.load.Goals as goal
 
 pub slice_bounds-read_image_in-end-2 : goal.slice_bounds-read_image_in-end-2

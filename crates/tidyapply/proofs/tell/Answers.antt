@@ -1,6 +1,5 @@
 use native.Mathlib.Omega.{arith}
 use lib.ListN.{length-take}
-use borrow.Author.Rules.{rules}
 use Rattle.tidyapply.proofs.tell.Goals as goal
 
 pub slice_bounds-complain-end-then-n-out-2 : goal.slice_bounds-complain-end-then-n-out-2

@@ -1,6 +1,5 @@
 use native.Mathlib.Omega.{arith}
 use lib.ListN.{length-take}
-use borrow.Author.Rules.{rules}
 use Rattle.tidyplan.proofs.print.Goals as goal
 
 pub slice_bounds-put_plan-end : goal.slice_bounds-put_plan-end

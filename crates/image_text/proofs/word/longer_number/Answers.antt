@@ -1,8 +1,8 @@
-use Rattle.lines.proofs.Laws.{value_is, value_over}
+use Rattle.lines.proofs.Laws.{number_found, number_missing}
 use Rattle.image_text.proofs.word.longer_number.Goals as goal
 
-pub returns-in-Is : goal.returns-in-Is
-returns-in-Is c = search value_is
+pub returns-in-Some : goal.returns-in-Some
+returns-in-Some c = search number_found
 
-pub returns-in-Over : goal.returns-in-Over
-returns-in-Over c = search value_over
+pub returns-in-None : goal.returns-in-None
+returns-in-None c = search number_missing

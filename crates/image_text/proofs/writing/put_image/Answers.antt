@@ -5,8 +5,8 @@ use Rattle.image_text.proofs.writing.put_image.Goals as goal
 pub put_map-requires : goal.put_map-requires
 put_map-requires c = (search number_laid, search number_count)
 
-pub returns-then-why-eq0 : goal.returns-then-why-eq0
-returns-then-why-eq0 c = search image_shown
+pub returns-in-Ok : goal.returns-in-Ok
+returns-in-Ok c = search image_shown
 
-pub returns-else-why-eq0 : goal.returns-else-why-eq0
-returns-else-why-eq0 c = search image_refused
+pub returns-in-Err : goal.returns-in-Err
+returns-in-Err c = search image_refused

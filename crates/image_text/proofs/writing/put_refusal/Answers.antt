@@ -1,19 +1,6 @@
 use Rattle.image_text.specs.Text.{refusal_text}
 use Rattle.image_text.proofs.Pages.{in_three_end}
-use borrow.Author.Rules.{rules}
 use Rattle.image_text.proofs.writing.put_refusal.Goals as goal
-
-pub put_text-a-requires : goal.put_text-a-requires
-unfolding refusal_text
-put_text-a-requires c = search rules
-
-pub put_number-b-requires : goal.put_number-b-requires
-unfolding refusal_text
-put_number-b-requires c = search rules
-
-pub put_byte-requires : goal.put_byte-requires
-unfolding refusal_text
-put_byte-requires c = search rules
 
 pub returns : goal.returns
 unfolding refusal_text

@@ -1,13 +1,9 @@
-use mathlib.Core.Path.{refl}
 use native.Mathlib.Omega.{arith}
-use Rattle.image_text.proofs.Pages.{rows_start, rows_on, rows_end}
+use Rattle.image_text.proofs.Pages.{rows_on, rows_end}
 use Rattle.image_text.proofs.writing.put_rows.Goals as goal
 
-pub loop-slot-init : goal.loop-slot-init
-loop-slot-init c = (omega arith, refl, search rows_start)
-
 pub loop-slot-preserved : goal.loop-slot-preserved
-loop-slot-preserved c = (omega arith, omega arith, search rows_on)
+loop-slot-preserved c = (omega arith, search rows_on)
 
 pub returns : goal.returns
 returns c = search rows_end

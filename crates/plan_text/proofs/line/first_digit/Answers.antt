@@ -1,16 +1,11 @@
-use Rattle.lines.proofs.Laws.{digit_taken, digit_missed}
+use Rattle.lines.proofs.Laws.{number_found, number_missing}
 use Rattle.plan_text.specs.Line.{first_digit_lem}
-use borrow.Author.Rules.{rules}
 use Rattle.plan_text.proofs.line.first_digit.Goals as goal
 
-pub digit_of-requires : goal.digit_of-requires
+pub returns-in-Some : goal.returns-in-Some
 unfolding first_digit_lem
-digit_of-requires c = search rules
+returns-in-Some c = search number_found
 
-pub returns-in-Is : goal.returns-in-Is
+pub returns-in-None : goal.returns-in-None
 unfolding first_digit_lem
-returns-in-Is c = search digit_taken
-
-pub returns-in-Not : goal.returns-in-Not
-unfolding first_digit_lem
-returns-in-Not c = search digit_missed
+returns-in-None c = search number_missing

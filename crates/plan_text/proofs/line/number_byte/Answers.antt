@@ -1,29 +1,16 @@
-use Rattle.lines.proofs.Laws.{digit_taken, digit_missed}
+use Rattle.lines.proofs.Laws.{number_found, number_missing}
 use Rattle.words.proofs.Tests.{equal, unequal}
 use Rattle.plan_text.specs.Line.{number_byte_lem}
-use borrow.Author.Rules.{rules}
 use Rattle.plan_text.proofs.line.number_byte.Goals as goal
 
-pub digit_of-requires : goal.digit_of-requires
+pub returns-in-Some : goal.returns-in-Some
 unfolding number_byte_lem
-digit_of-requires c = search rules
-
-pub longer-requires : goal.longer-requires
-unfolding number_byte_lem
-longer-requires c = search rules
-
-pub gap_after-requires : goal.gap_after-requires
-unfolding number_byte_lem
-gap_after-requires c = search rules
-
-pub returns-in-Is : goal.returns-in-Is
-unfolding number_byte_lem
-returns-in-Is c = search digit_taken
+returns-in-Some c = search number_found
 
 pub returns-then-b-eq-SPACE : goal.returns-then-b-eq-SPACE
 unfolding number_byte_lem
-returns-then-b-eq-SPACE c = search (digit_missed, equal)
+returns-then-b-eq-SPACE c = search (number_missing, equal)
 
 pub returns-else-b-eq-SPACE : goal.returns-else-b-eq-SPACE
 unfolding number_byte_lem
-returns-else-b-eq-SPACE c = search (digit_missed, unequal)
+returns-else-b-eq-SPACE c = search (number_missing, unequal)

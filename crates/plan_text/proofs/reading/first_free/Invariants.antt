@@ -1,13 +1,8 @@
 use mathlib.Core.Path.{◌≡◌}
-use Prim.Native.Nat.{◌≤◌, ◌-◌}
-use lib.ListN.{length, drop}
+use lib.ListN.{drop}
 use Rattle.plan_text.specs.Reading.{first_free_lem}
 use Rattle.plan_text.proofs.reading.first_free.Given as goal
 
 abbrev pub invariant-loop-i : goal.invariant-loop-i
 invariant-loop-i l =
-    (l.i ≤ length l.plan) × (first_free_lem 0 l.plan ≡ first_free_lem l.i (drop l.i l.plan))
-
-abbrev pub decreases-loop-i : goal.decreases-loop-i
-decreases-loop-i l =
-    length l.plan - l.i
+    (first_free_lem 0 l.plan ≡ first_free_lem l.i (drop l.i l.plan))

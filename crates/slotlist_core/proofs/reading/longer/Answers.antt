@@ -1,16 +1,11 @@
-use Rattle.lines.proofs.Laws.{value_is, value_over}
+use Rattle.lines.proofs.Laws.{number_found, number_missing}
 use Rattle.slotlist_core.specs.Reading.{longer}
-use borrow.Author.Rules.{rules}
 use Rattle.slotlist_core.proofs.reading.longer.Goals as goal
 
-pub append_digit-requires : goal.append_digit-requires
+pub returns-in-Some : goal.returns-in-Some
 unfolding longer
-append_digit-requires c = search rules
+returns-in-Some c = search number_found
 
-pub returns-in-Is : goal.returns-in-Is
+pub returns-in-None : goal.returns-in-None
 unfolding longer
-returns-in-Is c = search value_is
-
-pub returns-in-Over : goal.returns-in-Over
-unfolding longer
-returns-in-Over c = search value_over
+returns-in-None c = search number_missing

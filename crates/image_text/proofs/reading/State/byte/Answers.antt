@@ -7,5 +7,5 @@ returns-then-b-end_of c = search byte_item
 pub returns-else-b-end_of : goal.returns-else-b-end_of
 returns-else-b-end_of c = search byte_more
 
-pub returns-else-self-eq0 : goal.returns-else-self-eq0
-returns-else-self-eq0 c = search byte_refused
+pub returns-else-is_ok : goal.returns-else-is_ok
+returns-else-is_ok c = search byte_refused

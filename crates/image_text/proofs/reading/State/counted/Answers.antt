@@ -1,8 +1,8 @@
 use Rattle.image_text.proofs.Arms.{counted_on, counted_off}
 use Rattle.image_text.proofs.reading.State.counted.Goals as goal
 
-pub returns-then-n-lt-NONE : goal.returns-then-n-lt-NONE
-returns-then-n-lt-NONE c = search counted_on
+pub returns-in-Some : goal.returns-in-Some
+returns-in-Some c = search counted_on
 
-pub returns-else-n-lt-NONE : goal.returns-else-n-lt-NONE
-returns-else-n-lt-NONE c = search counted_off
+pub returns-in-None : goal.returns-in-None
+returns-in-None c = search counted_off

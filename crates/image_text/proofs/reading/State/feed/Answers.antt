@@ -1,16 +1,11 @@
-use mathlib.Core.Path.{refl}
 use native.Mathlib.Omega.{arith}
 use Rattle.image_text.specs.Reading.{fed}
 use Rattle.lines.proofs.Folds.{fold_on, fold_end}
 use Rattle.image_text.proofs.reading.State.feed.Goals as goal
 
-pub loop-i-init : goal.loop-i-init
+pub loop-b-preserved : goal.loop-b-preserved
 unfolding fed
-loop-i-init c = (omega arith, refl, refl)
-
-pub loop-i-preserved : goal.loop-i-preserved
-unfolding fed
-loop-i-preserved c = (omega arith, omega arith, search fold_on)
+loop-b-preserved c = (omega arith, search fold_on)
 
 pub returns : goal.returns
 unfolding fed

@@ -1,24 +1,7 @@
 use Rattle.image_text.specs.Reading.{field}
 use Rattle.words.proofs.Tests.{equal, unequal, less, not_less}
 use Rattle.image_text.proofs.Arms.{staged}
-use borrow.Author.Rules.{rules}
 use Rattle.image_text.proofs.reading.State.field.Goals as goal
-
-pub numbered-requires : goal.numbered-requires
-unfolding field
-numbered-requires c = search rules
-
-pub entry_field-requires : goal.entry_field-requires
-unfolding field
-entry_field-requires c = search rules
-
-pub link_field-requires : goal.link_field-requires
-unfolding field
-link_field-requires c = search rules
-
-pub colour_field-requires : goal.colour_field-requires
-unfolding field
-colour_field-requires c = search rules
 
 pub returns-then-j-eq0 : goal.returns-then-j-eq0
 unfolding field

@@ -1,24 +1,11 @@
 use Rattle.image_text.specs.Reading.{framed_in}
 use Rattle.words.proofs.Tests.{picked, passed}
 use Rattle.image_text.proofs.Arms.{room_few, room_fits, staged}
-use borrow.Author.Rules.{rules}
 use Rattle.image_text.proofs.reading.State.framed.Goals as goal
-
-pub has_room-requires : goal.has_room-requires
-unfolding framed_in
-has_room-requires c = search rules
 
 pub frame-requires : goal.frame-requires
 unfolding framed_in
 frame-requires c = (search room_few, search room_fits)
-
-pub next-requires : goal.next-requires
-unfolding framed_in
-next-requires c = search rules
-
-pub refuse-requires : goal.refuse-requires
-unfolding framed_in
-refuse-requires c = search rules
 
 pub returns-then-has_room : goal.returns-then-has_room
 unfolding framed_in

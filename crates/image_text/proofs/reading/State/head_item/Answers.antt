@@ -1,24 +1,7 @@
 use Rattle.image_text.specs.Reading.{head_item_lem}
 use Rattle.words.proofs.Tests.{equal, unequal}
 use Rattle.image_text.proofs.Arms.{staged}
-use borrow.Author.Rules.{rules}
 use Rattle.image_text.proofs.reading.State.head_item.Goals as goal
-
-pub named-requires : goal.named-requires
-unfolding head_item_lem
-named-requires c = search rules
-
-pub counted-requires : goal.counted-requires
-unfolding head_item_lem
-counted-requires c = search rules
-
-pub named-requires-then-self-eq2 : goal.named-requires-then-self-eq2
-unfolding head_item_lem
-named-requires-then-self-eq2 c = search rules
-
-pub rooted-requires : goal.rooted-requires
-unfolding head_item_lem
-rooted-requires c = search rules
 
 pub returns-then-self-eq0 : goal.returns-then-self-eq0
 unfolding head_item_lem

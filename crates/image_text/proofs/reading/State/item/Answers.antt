@@ -1,15 +1,6 @@
 use Rattle.image_text.specs.Reading.{item}
 use Rattle.words.proofs.Tests.{less, not_less}
-use borrow.Author.Rules.{rules}
 use Rattle.image_text.proofs.reading.State.item.Goals as goal
-
-pub head_item-requires : goal.head_item-requires
-unfolding item
-head_item-requires c = search rules
-
-pub row_item-requires : goal.row_item-requires
-unfolding item
-row_item-requires c = search rules
 
 pub returns-then-self-lt4 : goal.returns-then-self-lt4
 unfolding item

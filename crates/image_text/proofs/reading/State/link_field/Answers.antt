@@ -1,8 +1,8 @@
-use Rattle.image_text.proofs.Arms.{link_on, link_off}
+use Rattle.image_text.proofs.Arms.{link_off, link_on}
 use Rattle.image_text.proofs.reading.State.link_field.Goals as goal
 
-pub returns-then-link-lt-NONE : goal.returns-then-link-lt-NONE
-returns-then-link-lt-NONE c = search link_on
+pub returns-in_default : goal.returns-in_default
+returns-in_default c = search link_off
 
-pub returns-else-link-lt-NONE : goal.returns-else-link-lt-NONE
-returns-else-link-lt-NONE c = search link_off
+pub returns : goal.returns
+returns c = search link_on

@@ -5,21 +5,9 @@ use Rattle.image_text.proofs.Arms.{room_few, room_fits, room_place, staged}
 use borrow.Author.Rules.{rules}
 use Rattle.image_text.proofs.reading.State.row_item.Goals as goal
 
-pub has_room-requires : goal.has_room-requires
-unfolding row_item_lem
-has_room-requires c = search rules
-
 pub field-requires : goal.field-requires
 unfolding row_item_lem
 field-requires c = (search room_place, omega arith, search rules, search room_few, search room_fits)
-
-pub refuse-requires : goal.refuse-requires
-unfolding row_item_lem
-refuse-requires c = search rules
-
-pub refuse-requires-else-has_room : goal.refuse-requires-else-has_room
-unfolding row_item_lem
-refuse-requires-else-has_room c = search rules
 
 pub returns-then-slot-count : goal.returns-then-slot-count
 unfolding row_item_lem

@@ -1,15 +1,6 @@
 use Rattle.image_text.specs.Words.{link_said}
 use Rattle.words.proofs.Tests.{picked, passed}
-use borrow.Author.Rules.{rules}
 use Rattle.image_text.proofs.word.Word.link.Goals as goal
-
-pub is_name-requires : goal.is_name-requires
-unfolding link_said
-is_name-requires c = search rules
-
-pub small-requires : goal.small-requires
-unfolding link_said
-small-requires c = search rules
 
 pub returns-then-is_name : goal.returns-then-is_name
 unfolding link_said

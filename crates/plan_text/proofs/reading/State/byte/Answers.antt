@@ -7,5 +7,5 @@ returns-then-b-eq-LINE_END c = search byte_end
 pub returns-else-b-eq-LINE_END : goal.returns-else-b-eq-LINE_END
 returns-else-b-eq-LINE_END c = search byte_more
 
-pub returns-else-is_nothing : goal.returns-else-is_nothing
-returns-else-is_nothing c = search byte_flawed
+pub returns-else-is_ok : goal.returns-else-is_ok
+returns-else-is_ok c = search byte_flawed

@@ -1,4 +1,0 @@
-use Rattle.slotshell_view.proofs.lookups.+touching_below.Given as goal
-
-abbrev pub decreases-touching_below : goal.decreases-touching_below
-decreases-touching_below l = l.height

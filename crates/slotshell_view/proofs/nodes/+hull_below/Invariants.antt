@@ -1,4 +1,0 @@
-use Rattle.slotshell_view.proofs.nodes.+hull_below.Given as goal
-
-abbrev pub decreases-hull_below : goal.decreases-hull_below
-decreases-hull_below l = l.height

@@ -1,7 +1,0 @@
-use native.Mathlib.Omega.{arith}
-use lib.ListN.{length-take}
-use borrow.Author.Rules.{rules}
-use Rattle.test_bits.proofs.push_of.Goals as goal
-
-pub slice_bounds-push-end-then-n-bytes : goal.slice_bounds-push-end-then-n-bytes
-slice_bounds-push-end-then-n-bytes c = simp length-take (omega arith)
