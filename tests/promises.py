@@ -34,7 +34,7 @@ BODIES, EXPORTS, NARROW = {'iset_c', 'iset_c_open', 'iset_c_disjoint', 'iset_c_r
 FACES = {face: face.removesuffix('_c') for face in ('iset_c_c', 'iset_c_open_c', 'iset_c_disjoint_c', 'iset_c_ruled_c')}
 # Here the public calls are those that return one of these types, and `new`. The others are inner
 # functions, as in all other crates.
-ANSWERS = {'bitvec': {'Answer'}, 'stack': {'Answer', 'Outcome', 'After'}}
+ANSWERS = {'bitvec': {'Result'}, 'stack': {'Result', 'After'}}
 # What these return and leave is what the system gives them, so no rule can say it. Their promise is
 # a bound. docs/DECISIONS.md lists them too.
 GIVEN = {('lines', 'read_all')}
@@ -66,7 +66,7 @@ class Function:
 
     def is_call(self):
         if self.crate in ANSWERS:
-            return self.result in ANSWERS[self.crate] or self.name == 'new'
+            return str(self.result).split('<')[0] in ANSWERS[self.crate] or self.name == 'new'
         return self.crate in CALLS and (self.crate, self.place[0]) not in INNER and not self.is_body()
 
     def says_what(self, other):

@@ -158,18 +158,18 @@ MEANINGS = {
     'unload_rule': """
         W words; C colours; n count; r root; s slot that goes next; S store; R:Sweep sweep; q range;
         g test (which entries go); e entry; l:[Entry] entries; l slots that go later""",
-    'image_text': 'I image (its bytes); n count; r root; s slot; m slots to print; k link; v red (whether the slot is)',
+    'image_text': 'I image (its bytes); n count; r root; s slot; m slots to print; k link; v red (whether the slot is); x nothing',
     'image_text/Text': 'a left link; b right link; c parent; e entry',
     'image_text/Words': """
         w:Word word; d digit; b byte; v value; x longer value or other name; o name; s bytes""",
     'image_text/Reading': """
         s:State state; s:[ℕ] text; t stage; i place of a word in the text; o name; k slot;
-        j place of the word among the slot's; b byte""",
+        j place of the word among the slot's; b byte; v number; y refusal""",
     'plan_text': 's old slot; v new slot; P plan; n line (its number); b byte; f flaw',
     'plan_text/Line': """
         d digit; v value; w longer value; g before (what the line has so far)""",
     'plan_text/Reading': """
-        s:State state; L lines; i place; t stage; h shelf; c text; c:ℕ number of a slot or line""",
+        s:State state; m move; L lines; i place; t stage; h shelf; c text; c:ℕ number of a slot or line""",
     'plan_text/Text': 'c count; b before (the line that came first); w which (old or new)',
     'iset': """
         S:[ℕ] triples; s slot; e entry; x interval; q:Query query; q:Span range; q range; c cursor;
@@ -221,7 +221,7 @@ MEANINGS = {
         c:[Frame] way up; c cursor; t tree; k slot""",
     'iter_laws/Place': 'q state; bs sides; c:Cursor cursor',
     'lines/Input': """
-        b byte; d digit; l line; p part; v value; s slice; f found (for the number); z otherwise (if
+        n number; b byte; d digit; l line; p part; v value; s slice; f found (for the number); z otherwise (if
         there is none)""",
     'lines/Output': 'b byte; p page; s text; f digits at most; n number',
     'slotshell_view': """
@@ -262,7 +262,7 @@ MEANINGS = {
     'tree_in_laws/Insert': 'x new slot',
     'tree_in_laws/Sequence': 'x change; l changes; m capacity in slots; s slot; e entry; S store',
     'tree_rm/Answers': 'a answer',
-    'tree_rm_repair/Answers': 'ix slot; k hulls that changed',
+    'tree_rm_repair/Answers': 'ix slot; k hulls that changed; d what the repair made; s where it goes on',
     'tree_rm_laws': """
         s slot asked for; x vacated slot; y child of x; v emptied slot; z last slot; g above v; k link;
         ix slot of the loop; b side (true: left); P:ℕ parent; S:ℕ sibling; c:ℕ close nephew;
