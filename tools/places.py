@@ -11,7 +11,7 @@ layout that `rt fmt` gives. What is counted:
               after nothing or a refusal; structs that hold a bool beside other fields; functions
               with two arms or more between a number and a value (`3 => ..`, `.. => 3`)
   2 twins     functions of 20 words or more whose text is that of another but for names, numbers
-              and types (tests' programs and the thin crates of exports are counted apart)
+              and types (those of the crates of exports and of tests are marked)
   3 loops     `while` and `loop`
   4 by hand   functions that list a bool for each variant; functions named after an order, an
               equality or a conversion that std has (eq, le, cmp, smaller, larger, least, wide ..)
@@ -34,7 +34,7 @@ TOP = pathlib.Path(__file__).resolve().parent.parent
 THIN = re.compile(r'^(iset_c.*|test_.*)$')
 NONE_LIKE = {'Nothing', 'None', 'Nil', 'Not', 'Over', 'Refused', 'Sound'}
 BY_HAND = {'eq', 'ne', 'le', 'lt', 'ge', 'gt', 'cmp', 'same', 'smaller', 'larger', 'least', 'most', 'wide', 'plus', 'minus', 'times'}
-PLACES = {'at', 'n', 'len', 'count', 'size', 'to', 'from', 'k', 'i', 'k', 'place', 'places'}
+PLACES = {'at', 'n', 'len', 'count', 'size', 'to', 'from', 'k', 'i', 'place', 'places'}
 
 
 class Function:

@@ -17,7 +17,6 @@ use Rattle.iter.specs.Cursors.{ended}
 use Rattle.iter.specs.Drains.{filled}
 use Rattle.iter.specs.declared.Cursor.{Cursor}
 use Rattle.iter.specs.declared.rules.Query.{Query}
-use Rattle.iter.specs.declared.rules.Query.TheVariants.{Overlap}
 use Rattle.iter.specs.declared.seek.Step.{Step}
 use Rattle.iter.specs.declared.seek.Step.TheVariants.{Hit, End}
 use Rattle.iset.specs.Effects.{Effect, effect, Output, output}
@@ -128,6 +127,3 @@ module _ (s : Step) (A X : List ℕ) (c : Cursor) (e : ℕ) where
 
 pub span_made : (l h lo hi : Bound ℕ) → l ≡ lo → h ≡ hi → ◌≡◌ {A = Span} (record { lo = l; hi = h }) (record { lo = lo; hi = hi })
 span_made l h lo hi p q = rw (p, q)
-
-pub range_made : (made range : Span) → made ≡ range → Overlap made ≡ Overlap range
-range_made made range p = ap Overlap p

@@ -18,7 +18,7 @@ use Rattle.iset.specs.Maps.{empty_map}
 use Rattle.iset.specs.declared.Map.{Map}
 use Rattle.iset.specs.declared.remove.Removed.{Removed}
 use Rattle.slotlist_core.specs.Reading.{byte_rule, end_rule, new_rule}
-use Rattle.slotlist_core.specs.Working.{Job, Listing, Mapped, Refused, job, Desk, desk, room_for, entered_work, entered_list, listed_in, work_left, build_left, remove_left}
+use Rattle.slotlist_core.specs.Working.{Job, Mapped, Refused, job, Desk, desk, room_for, entered_work, entered_list, listed_in, work_left, build_left, remove_left}
 use Rattle.slotlist_core.specs.Working.{built_in, removal_in, settled_in, removed_in, wrong_in, on_desk, line_in}
 use Rattle.slotlist_core.specs.Feeding.{Stage, stage, stepped, lined, last_line_lem}
 use Rattle.slotlist_core.specs.declared.State.{State}
@@ -38,9 +38,6 @@ module _ (n len : ℕ) (t : Bool) (e : t ≡ room_for n len) (q : t ≡ true) wh
       go true true g z = leb-true (n * 3 + 3) len g
       go true false g z = let y : ◌≡◌ {A = ℕ} 0 1 = cc in absurd (omega arith)
       go false b g z = let y : ◌≡◌ {A = ℕ} 0 1 = cc in absurd (omega arith)
-
-pub listing : (k n : ℕ) → k ≡ n + 1 → Listing k ≡ Listing (n + 1)
-listing k n e = rw e
 
 -- what a call leads to where it is done, and where it is refused
 work_refused : (y : Refusal) (m : Map) → work_left (refusal_number y) m ≡ Refused (refusal_number y)
@@ -98,9 +95,6 @@ line_none (Remove j) k W C E = refl
 line_none Other k W C E = refl
 
 module _ (said : Said) (w : Result Work Refusal) (W C E : List ℕ) where
-  pub taken_line : (z : Work) (d : Desk) → w ≡ Ok z → d ≡ line_in said (desk (job (Ok z)) W C E) → d ≡ line_in said (desk (job w) W C E)
-  taken_line z d e p = rw e p
-
   pub taken_none : (y : Refusal) → w ≡ Err y → desk (job (Err y)) W C E ≡ line_in said (desk (job w) W C E)
   taken_none y e = rw e (line_none said (refusal_number y) W C E)
 
@@ -116,9 +110,6 @@ module _ (s r : State) (W C E : List ℕ) where
   pub byte_more : (b : ℕ) → (b ≡ 10 → ⊥) → r.line ≡ byte_rule s.line b → r.work ≡ s.work → stage r W C E ≡ stepped (stage s W C E) b
   unfolding stepped
   byte_more b n l q = rw (ne_eqb b 10 n) (λ i. record { line = l i; desk = desk (job (q i)) W C E })
-
-pub byte_ten : (b : ℕ) (t T : Stage) → b ≡ 10 → T ≡ stepped t 10 → T ≡ stepped t b
-byte_ten b t T e h = rw e h
 
 -- the end of the input
 module _ (s : State) (r : Result Work Refusal) (W C E : List ℕ) where
