@@ -2,14 +2,17 @@
 """promises.py: every public function has a promise (docs/DECISIONS.md, 'What is a public
 function').
 
-A public function is a `pub fn` or a `pub extern "C" fn`: another crate, or a host, can call it.
-This reads the sources and the proofs. Each public function must have an `ensures` that says what it
+A public function is a `pub fn`, a `pub extern "C" fn` or a function of a public trait: another
+crate, or a host, can call it. What a trait promises holds of each type that implements it, by the
+type's own ghost members. It is an inner function, and what its promise determines is said of the
+functions that go through it. This reads the sources and the proofs. Each public function must have an `ensures` that says what it
 returns, and what it leaves at its exit in all that is lent to it by `&mut`. Either these are
 equations, of the answer and of each lent thing by itself, or a theorem NAME-determined says that
 the promise leaves one choice. An equation of the eight-word form of node words, `as_eight narrow`,
 is one of the words: `eight_injective` of words/proofs/Layouts. A public call has no `requires`, and
 always has that theorem. An inner function may have premises. A function that returns nothing and is
-lent nothing by `&mut` has nothing to promise.
+lent nothing by `&mut` has nothing to promise. `From` is std's trait: a type that implements it owes
+the ghost member that says what `from` gives.
 
 The static libraries of FACES only give the exports of a library their C names. Each of their
 functions states the clauses of the library's function of its name, word for word, so that
@@ -54,6 +57,7 @@ class Function:
         # stands.
         self.place = ([impl] if impl else [p for p in file if p != 'lib']) + [self.name]
         self.below_type = bool(impl)
+        self.below_trait = False
         self.requires = any(c.startswith('requires') for c in clauses)
         self.ensures = [re.sub(r'\s+', ' ', c) for c in clauses if c.startswith('ensures')]
         self.lent = re.findall(r"(\w+): &(?:'\w+ )?mut ", code)
@@ -67,7 +71,7 @@ class Function:
     def is_call(self):
         if self.crate in ANSWERS:
             return str(self.result).split('<')[0] in ANSWERS[self.crate] or self.name == 'new'
-        return self.crate in CALLS and (self.crate, self.place[0]) not in INNER and not self.is_body()
+        return self.crate in CALLS and (self.crate, self.place[0]) not in INNER and not self.is_body() and not self.below_trait
 
     def says_what(self, other):
         """Whether the other function has this one's name, parameters and clauses."""
@@ -108,6 +112,26 @@ def left_alike(text):
     return len(re.findall(r"s'(?:\.\d+)+\.now\b", text))
 
 
+def trait_functions(crate, path, text):
+    """The functions of the public traits of a file. Only a trait's function has no body."""
+    found = []
+    for name, body in re.findall(r'^pub trait (\w+)[^{]*\{\n((?:.*\n)*?)\}', text, re.M):
+        for head in re.findall(r'^    fn ((?:.|\n)*?);\n', body, re.M):
+            found.append(Function(crate.name, path, name, head))
+            found[-1].below_trait = True
+    return found
+
+
+def unsaid_from(crate):
+    """The public types that implement std's `From` and do not say what `from` gives."""
+    for file in sorted(crate.glob('src/**/*.rt')):
+        text = file.read_text()
+        public = re.findall(r'^pub (?:struct|enum) (\w+)', text, re.M)
+        for name, body in re.findall(r'^impl From<[^\n]*> for (\w+) \{\n((?:.*\n)*?)\}', text, re.M):
+            if name in public and not re.search(r'^    ghost from_gives = \{', body, re.M):
+                yield name
+
+
 def functions(crate):
     found = []
     for file in sorted(crate.glob('src/**/*.rt')):
@@ -119,6 +143,7 @@ def functions(crate):
                 found.append(Function(crate.name, path, impl, m[3]))
             else:
                 impl = m[1]
+        found += trait_functions(crate, path, text)
     return found
 
 
@@ -158,6 +183,8 @@ def main():
 
     for crate in crates:
         proved += len(told[crate.name])
+        for name in unsaid_from(crate):
+            wrong('%s: no promise of what `from` gives for %s' % (crate.name, name))
         for f in found[crate.name]:
             count += 1
             if (f.crate, f.place[0]) in SYSTEM:
@@ -171,6 +198,8 @@ def main():
             calls += f.is_call()
             if f.unsaid():
                 wrong('%s: no promise about %s' % (f, ', '.join('what it returns' if x == 'result' else x for x in f.unsaid())))
+            elif f.below_trait:
+                continue
             elif (f.is_call() or f.is_body()) and f.requires:
                 wrong('%s: a public call has a premise' % f)
             elif f.is_body():

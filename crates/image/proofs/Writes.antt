@@ -5,10 +5,8 @@ use mathlib.Core.List.{List, [], ◌∷◌, ◌++◌, append-nil, append_assoc}
 use Prim.Native.Nat.{ℕ, ◌+◌, ◌*◌, ◌/◌, ◌%◌, ◌^◌, ◌<◌, ◌≤◌}
 use native.Mathlib.Omega.{arith}
 use native.Mathlib.Numerals.{add-one}
-use lib.ListN.{length, get_or, set, take, drop}
-use lib.Seq.{sets, length-take-le, drop-drop}
-use borrow.Rule.Slice.PartMut.{put_mid}
-use Rattle.std.proofs.lemmas.List.Edits.{sets-eq}
+use lib.ListN.{length, get_or, set, take}
+use lib.Seq.{sets, take-suc, length-take-le}
 use lib.Pow.{pow_pos}
 use lib.Dec.{eqb}
 use borrow.Author.Tests.{eq-eqb, ne_eqb}
@@ -110,11 +108,14 @@ module _ (W s t : List ℕ) (m : ℕ) where
       e ∙ ap (λ (l : List ℕ). sets s (links_at_lem n) l) f
 
 -- the colours: whole bytes, and the bits that are left
-pub bytes_copied : (C s ys : List ℕ) (i k n : ℕ) → n ≤ length C → i + n ≤ length s → k ≡ n → ys ≡ take n C → put_mid i k s ys ≡ sets s i (take n C)
-bytes_copied C s ys i k n h room e f =
-    let l : length (take n C) ≡ n = length-take-le n C h in
-    rw (e, f, sets-eq (take n C) s i (omega arith), l)
-    (ap (λ (z : List ℕ). take i s ++ (take n C ++ z)) (drop-drop n i s) ∙ sym (append_assoc (take i s) (take n C) (drop (i + n) s)))
+module _ (C s t : List ℕ) (i j : ℕ) where
+  pub bytes_on : t ≡ sets s i (take j C) → j < length C → set t (i + j) (get_or C j 0) ≡ sets s i (take (j + 1) C)
+  bytes_on e h =
+      rw (add-one j, take-suc C j 0 h)
+      (then s t (set t (i + j) (get_or C j 0)) i j (i + j) (take j C) (get_or C j 0 ∷ []) (length-take-le j C (omega arith)) refl e refl)
+
+  pub bytes_end : (n : ℕ) → t ≡ sets s i (take j C) → j ≤ n → n ≤ j → t ≡ sets s i (take n C)
+  bytes_end n e h k = let q : n ≡ j = omega arith in e ∙ rw q refl
 
 pub weight_pos : (w j : ℕ) → w ≡ 2 ^ j → 0 < w
 weight_pos w j e = rw e (pow_pos j)

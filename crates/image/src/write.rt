@@ -78,12 +78,15 @@ fn put_links(nodes: &[u64], narrow: bool, count: u64, out: &mut [u8])
     }
 }
 
-// Copies the first n bytes of the colours to place `at`.
+// Copies the first n bytes of the colours to place `at`, byte by byte: `copy_from_slice` would have
+// an archive for C need `memmove`.
 fn put_whole_bytes(colours: &[u8], n: usize, out: &mut [u8], at: usize)
     requires { (n ≤ length colours.now) × (at + n ≤ length out.old) }
     ensures { out.new ≡ sets out.old at (take n colours.now) }
 {
-    out[at..at + n].copy_from_slice(&colours[..n]);
+    for j in 0..n {
+        out[at + j] = colours[j];
+    }
 }
 
 // Writes the colour bits that fill no whole byte, if there are any. The spare bits are written as

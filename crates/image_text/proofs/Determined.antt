@@ -11,6 +11,8 @@ use Rattle.image_text.specs.Reading.{Stage, stage}
 use Rattle.image_text.specs.declared.reading.State.{State}
 use Rattle.image_text.proofs.judging.check.Reads as check-reads
 use Rattle.image_text.proofs.judging.check.Kinds as check-kinds
+use Rattle.image_text.proofs.judging.number_of.Reads as number-of-reads
+use Rattle.image_text.proofs.judging.number_of.Kinds as number-of-kinds
 use Rattle.image_text.proofs.memory.image_bytes.Reads as image-bytes-reads
 use Rattle.image_text.proofs.memory.image_bytes.Kinds as image-bytes-kinds
 use Rattle.image_text.proofs.memory.input_bytes.Reads as input-bytes-reads
@@ -37,6 +39,11 @@ pub check-determined :
     (κs : Lfts 1) (a : K.Dens κs check-kinds.ps) (r r' : (K.res_t check-kinds.r κs).Denot) (s s' : AtExit (K.ended_of 1 check-kinds.ps check-kinds.r) κs)
     → check-reads.Post κs a r s → check-reads.Post κs a r' s' → r ≡ r'
 check-determined κs a r r' s s' p q = p ∙ sym q
+
+pub number-of-determined :
+    (κs : Lfts 1) (a : K.Dens κs number-of-kinds.ps) (r r' : (K.res_t number-of-kinds.r κs).Denot) (s s' : AtExit (K.ended_of 1 number-of-kinds.ps number-of-kinds.r) κs)
+    → number-of-reads.Post κs a r s → number-of-reads.Post κs a r' s' → r ≡ r'
+number-of-determined κs a r r' s s' p q = p ∙ sym q
 
 pub image-bytes-determined :
     (κs : Lfts 0) (a : K.Dens κs image-bytes-kinds.ps) (r r' : (K.res_t image-bytes-kinds.r κs).Denot) (s s' : AtExit (K.ended_of 0 image-bytes-kinds.ps image-bytes-kinds.r) κs)

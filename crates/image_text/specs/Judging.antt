@@ -1,5 +1,6 @@
 -- "Refusals: 12 BadImage for any other layout or length, then 1 .., then 2 for the store in the
--- image": whether an image is accepted, or its refusal. The room is that of the greatest map.
+-- image": whether an image is accepted, or its refusal; and the number of that refusal, 0 where the
+-- image is accepted. The room is that of the greatest map.
 -- Letters: I image (its bytes)
 use Rattle.std.specs.Prelude.{cond, List, ℕ, Result, Ok, Err, ltb}
 use Rattle.words.specs.declared.refusal.Refusal.{Refusal}
@@ -12,3 +13,9 @@ store_checked I = cond (is_good I) (Ok tt) (Err Broken)
 
 unfoldable pub image_checked : (image : List ℕ) → Result Unit Refusal
 image_checked I = cond (laid_out_lem I) (cond (ltb 65535 (count_in_lem I)) (Err NoRoom) (store_checked I)) (Err BadImage)
+
+abbrev pub store_number_lem : (image : List ℕ) → ℕ
+store_number_lem I = cond (is_good I) 0 2
+
+unfoldable pub image_number : (image : List ℕ) → ℕ
+image_number I = cond (laid_out_lem I) (cond (ltb 65535 (count_in_lem I)) 1 (store_number_lem I)) 12

@@ -1,7 +1,7 @@
 // Whether an image is accepted, by the tests of a reader with room for 65,535 entries.
 ghost use Rattle.std.specs.Prelude.{◌≡◌, true, ◌≤◌};
 ghost use Rattle.image_rule.specs.Layout.{laid_out_lem, count_in_lem};
-ghost use Rattle.image_text.specs.Judging.{image_checked, store_checked};
+ghost use Rattle.image_text.specs.Judging.{image_checked, store_checked, image_number};
 
 use image::judge::judge;
 use image::layout::{count_in, has_layout};
@@ -30,5 +30,16 @@ pub fn check(image: &[u8]) -> Result<(), Refusal>
         }
     } else {
         Err(Refusal::BadImage)
+    }
+}
+
+// Returns the number of the refusal of an image, 12, 1 or 2, and 0 if it is accepted.
+#[tactic(auto, unfolding(crate::specs::Judging::image_number, crate::specs::Judging::image_checked))]
+pub fn number_of(image: &[u8]) -> u64
+    ensures { result ≡ image_number image.now }
+{
+    match check(image) {
+        Ok(()) => 0,
+        Err(why) => why.number(),
     }
 }

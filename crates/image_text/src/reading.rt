@@ -284,32 +284,22 @@ impl State {
     }
 
     // Takes one more byte of the word.
-    fn more(self, b: u8) -> State
-        ensures { result ≡ longer self b }
+    fn more(&mut self, b: u8)
+        ensures { self.new ≡ longer self.old b }
     {
-        let word = self.word;
-        let checked = self.checked;
-        State {
-            word: word.byte(b),
-            place: self.place,
-            count: self.count,
-            checked,
-        }
+        self.word = self.word.byte(b);
     }
 
     // Takes one more byte of the text.
-    fn byte(self, b: u8, image: &mut [u8]) -> State
-        ensures { stage result image.new ≡ stepped (stage self image.old) b }
+    fn byte(&mut self, b: u8, image: &mut [u8])
+        ensures { stage self.new image.new ≡ stepped (stage self.old image.old) b }
     {
-        let checked = self.checked;
-        if checked.is_ok() {
+        if self.checked.is_ok() {
             if b == end_of(self.place) {
-                self.item(image)
+                *self = self.item(image);
             } else {
-                self.more(b)
+                self.more(b);
             }
-        } else {
-            self
         }
     }
 
@@ -319,7 +309,7 @@ impl State {
     {
         let mut state = self;
         for &b in piece {
-            state = state.byte(b, image);
+            state.byte(b, image);
         }
         state
     }
@@ -328,12 +318,11 @@ impl State {
     fn end_last(self, image: &mut [u8]) -> State
         ensures { stage result image.new ≡ last_of (stage self image.old) }
     {
-        let word = self.word;
-        if word.is_new() {
-            self
-        } else {
-            self.byte(LINE_END, image)
+        let mut state = self;
+        if !state.word.is_new() {
+            state.byte(LINE_END, image);
         }
+        state
     }
 
     // Whether all slots are read.

@@ -161,13 +161,13 @@ impl Map {
         narrow: bool,
         colours: &[u8],
         query: Query,
-        cursor: Cursor,
+        from: Cursor,
         limit: u64,
         places: u64,
     ) -> Result<(), Refusal>
-        ensures { check_number result ≡ open_drain_number self (as_eight narrow nodes.now) colours.now query cursor limit places }
+        ensures { check_number result ≡ open_drain_number self (as_eight narrow nodes.now) colours.now query from limit places }
     {
-        self.test_step(nodes, narrow, colours, query, cursor)?;
+        self.test_step(nodes, narrow, colours, query, from)?;
         test_room(limit, places)
     }
 

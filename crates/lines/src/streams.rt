@@ -1,6 +1,6 @@
 // The standard streams. A program makes them from its runtime once, and lends them to what reads
 // and writes.
-ghost use Rattle.std.specs.Prelude.{IfOk};
+ghost use Rattle.std.specs.Result.{result_unwrap_or};
 ghost use Rattle.io.specs.Counts.{IsPrefixLen};
 
 use std::cell::Cell;
@@ -29,7 +29,7 @@ impl Streams {
     // Reads once from standard input, to the front of the space. Returns how many bytes were read,
     // which is 0 at the end of the input.
     pub fn read(&self, space: &mut [u8]) -> io::Result<usize>
-        ensures { IfOk result (λ len. IsPrefixLen len space.new) }
+        ensures { IsPrefixLen (result_unwrap_or result 0) space.new }
     {
         let mut input = self.input;
         input.read(space)

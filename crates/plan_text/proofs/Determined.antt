@@ -1,7 +1,8 @@
 -- Any two answers, and any two contents of each lent slice at exit, that a promise allows are
 -- equal.
-use Rattle.std.specs.Prelude.{Result}
+use Rattle.std.specs.Prelude.{Result, is_ok}
 use mathlib.Core.Path.{◌≡◌, sym, ap, ◌∙◌}
+use mathlib.Core.Bool.{Bool}
 use mathlib.Core.List.{List}
 use Prim.Native.Nat.{ℕ}
 use contract.Lifetimes.{Lfts}
@@ -96,3 +97,7 @@ pub finish-determined :
     (κs : Lfts 2) (a : K.Dens κs finish-kinds.ps) (r r' : (K.res_t finish-kinds.r κs).Denot) (s s' : AtExit (K.ended_of 2 finish-kinds.ps finish-kinds.r) κs)
     → finish-reads.Post κs a r s → finish-reads.Post κs a r' s' → (r ≡ r') × (s.1.0.now ≡ s'.1.0.now) × (s.1.1.0.now ≡ s'.1.1.0.now)
 finish-determined κs a r r' s s' p q = same_shelf _ r r' _ _ _ _ p q
+
+-- whether nothing is wrong with a plan, which std's `is_ok` tells of what `finish` returns
+pub is-nothing-determined : (checked : Result Unit Flaw) (r r' : Bool) → r ≡ is_ok checked → r' ≡ is_ok checked → r ≡ r'
+is-nothing-determined c r r' p q = p ∙ sym q

@@ -140,45 +140,31 @@ impl State {
     }
 
     // Takes the line so far as complete.
-    fn end_line(self, plan: &mut [u64], lines: &mut [u64]) -> State
-        ensures { stage result plan.new lines.new ≡ lined (stage self plan.old lines.old) }
+    fn end_line(&mut self, plan: &mut [u64], lines: &mut [u64])
+        ensures { stage self.new plan.new lines.new ≡ lined (stage self.old plan.old lines.old) }
     {
-        let line = self.line;
-        let number = next_line(self.number);
-        let checked = take(line.end(), number, plan, lines);
-        State {
-            line: Line::Start,
-            number,
-            checked,
-        }
+        self.number = next_line(self.number);
+        self.checked = take(self.line.end(), self.number, plan, lines);
+        self.line = Line::Start;
     }
 
     // Takes one more byte of the line.
-    fn more(self, b: u8) -> State
-        ensures { (result.line ≡ byte_rule self.line b) × (result.number ≡ self.number) × (result.checked ≡ self.checked) }
+    fn more(&mut self, b: u8)
+        ensures { (self.new.line ≡ byte_rule self.old.line b) × (self.new.number ≡ self.old.number) × (self.new.checked ≡ self.old.checked) }
     {
-        let line = self.line;
-        let checked = self.checked;
-        State {
-            line: line.byte(b),
-            number: self.number,
-            checked,
-        }
+        self.line = self.line.byte(b);
     }
 
     // Takes one more byte of the text. After a flaw nothing is taken.
-    fn byte(self, b: u8, plan: &mut [u64], lines: &mut [u64]) -> State
-        ensures { stage result plan.new lines.new ≡ stepped (stage self plan.old lines.old) b }
+    fn byte(&mut self, b: u8, plan: &mut [u64], lines: &mut [u64])
+        ensures { stage self.new plan.new lines.new ≡ stepped (stage self.old plan.old lines.old) b }
     {
-        let checked = self.checked;
-        if checked.is_ok() {
+        if self.checked.is_ok() {
             if b == LINE_END {
-                self.end_line(plan, lines)
+                self.end_line(plan, lines);
             } else {
-                self.more(b)
+                self.more(b);
             }
-        } else {
-            self
         }
     }
 
@@ -188,7 +174,7 @@ impl State {
     {
         let mut state = self;
         for &b in piece {
-            state = state.byte(b, plan, lines);
+            state.byte(b, plan, lines);
         }
         state
     }
@@ -197,12 +183,11 @@ impl State {
     fn end_last(self, plan: &mut [u64], lines: &mut [u64]) -> State
         ensures { stage result plan.new lines.new ≡ last_of (stage self plan.old lines.old) }
     {
-        let line = self.line;
-        if line.is_new() {
-            self
-        } else {
-            self.byte(LINE_END, plan, lines)
+        let mut state = self;
+        if !state.line.is_new() {
+            state.byte(LINE_END, plan, lines);
         }
+        state
     }
 
     // Ends the text. If nothing is wrong, each slot below the count has its line, and the plan is

@@ -39,40 +39,30 @@ impl State {
     }
 
     // Takes the line so far as complete.
-    fn end_line(self, nodes: &mut [u64], colours: &mut [u8], entries: &mut [u64]) -> State
-        ensures { stage result nodes.new colours.new entries.new
-            ≡ stepped (stage self nodes.old colours.old entries.old) 10 }
+    fn end_line(&mut self, nodes: &mut [u64], colours: &mut [u8], entries: &mut [u64])
+        ensures { stage self.new nodes.new colours.new entries.new
+            ≡ stepped (stage self.old nodes.old colours.old entries.old) 10 }
     {
-        let line = self.line;
-        let work = self.work;
-        let after = take_line(work, line.end(), nodes, colours, entries);
-        State {
-            line: Line::Start,
-            work: after,
-        }
+        self.work = take_line(self.work, self.line.end(), nodes, colours, entries);
+        self.line = Line::Start;
     }
 
     // Takes one more byte of the line.
-    fn more(self, b: u8) -> State
-        ensures { (result.line ≡ byte_rule self.line b) × (result.work ≡ self.work) }
+    fn more(&mut self, b: u8)
+        ensures { (self.new.line ≡ byte_rule self.old.line b) × (self.new.work ≡ self.old.work) }
     {
-        let line = self.line;
-        let work = self.work;
-        State {
-            line: line.byte(b),
-            work,
-        }
+        self.line = self.line.byte(b);
     }
 
     // Takes one more byte of input.
-    fn byte(self, b: u8, nodes: &mut [u64], colours: &mut [u8], entries: &mut [u64]) -> State
-        ensures { stage result nodes.new colours.new entries.new
-            ≡ stepped (stage self nodes.old colours.old entries.old) b }
+    fn byte(&mut self, b: u8, nodes: &mut [u64], colours: &mut [u8], entries: &mut [u64])
+        ensures { stage self.new nodes.new colours.new entries.new
+            ≡ stepped (stage self.old nodes.old colours.old entries.old) b }
     {
         if b == LINE_END {
-            self.end_line(nodes, colours, entries)
+            self.end_line(nodes, colours, entries);
         } else {
-            self.more(b)
+            self.more(b);
         }
     }
 
@@ -89,7 +79,7 @@ impl State {
     {
         let mut state = self;
         for &b in piece {
-            state = state.byte(b, nodes, colours, entries);
+            state.byte(b, nodes, colours, entries);
         }
         state
     }

@@ -23,9 +23,15 @@ pub(crate) fn by_pairs(pairs: Pairs) -> [Option<u64>; 256] {
 // it, those of them whose entries went away, and the slots after it.
 pub(crate) fn in_order(before: &[u64], gone: &[u64], after: &[u64]) -> [Option<u64>; 256] {
     let mut was = [None; 256];
-    let stayed = before.iter().filter(|slot| !gone.contains(*slot));
-    for (&old, &new) in stayed.zip(after) {
-        put(&mut was, Pair { old, new });
+    let mut gone = gone.iter();
+    let mut going = gone.next();
+    let mut after = after.iter();
+    for old in before {
+        if going == Some(old) {
+            going = gone.next();
+        } else if let Some(&new) = after.next() {
+            put(&mut was, Pair { old: *old, new });
+        }
     }
     was
 }

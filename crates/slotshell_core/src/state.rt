@@ -7,7 +7,7 @@ use slotshell_draw::marks::{Lookup, Marks};
 use slotshell_view::nodes::View;
 
 // The map and its store, with room for 256 entries; the saved image, and how many bytes it has, 0
-// if none was saved; the tickets that were taken; and what a picture marks.
+// if none was saved; the tickets, and how many were taken; and what a picture marks.
 #[derive(Drop)]
 pub(crate) struct Shell<'a> {
     pub streams: &'a Streams,
@@ -17,6 +17,7 @@ pub(crate) struct Shell<'a> {
     pub image: [u8; 9292],
     pub saved: usize,
     pub tickets: [Option<Ticket>; 256],
+    pub taken: usize,
     pub marks: Marks,
 }
 
@@ -41,6 +42,7 @@ impl<'a> Shell<'a> {
             image: image_space(),
             saved: 0,
             tickets: [None; 256],
+            taken: 0,
             marks: Marks::new(),
         }
     }

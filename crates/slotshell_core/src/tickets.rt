@@ -8,9 +8,9 @@ use slotshell_say::say;
 impl Shell<'_> {
     // Keeps a ticket, and returns how many there are then, if there is room.
     fn keep(&mut self, ticket: Ticket) -> Option<u64> {
-        let place = self.tickets.iter().position(|kept| kept.is_none())?;
-        self.tickets[place] = Some(ticket);
-        Some(place as u64 + 1)
+        *self.tickets.get_mut(self.taken)? = Some(ticket);
+        self.taken += 1;
+        Some(self.taken as u64)
     }
 
     pub(crate) fn take_ticket(&mut self, slot: u64) -> Result<(), Refused> {
@@ -31,11 +31,10 @@ impl Shell<'_> {
     }
 
     fn say_missing(&self, number: u64) {
-        let taken = self.tickets.iter().flatten().count();
         say(
             self.streams,
             b"there is no ticket %; % were taken\n",
-            &[number, taken as u64],
+            &[number, self.taken as u64],
         );
     }
 

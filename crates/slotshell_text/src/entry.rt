@@ -13,18 +13,12 @@ pub fn say_entry(streams: &Streams, slot: u64, e: Entry) {
     );
 }
 
-// The slots of an entry before and after a change, and the entry.
-fn say_slots(streams: &Streams, p: Pair, e: Entry) {
+pub fn say_moved(streams: &Streams, p: Pair, e: Entry) {
     say(
         streams,
-        b"slot % -> %  [%,%) %\n",
+        b"moved: slot % -> %  [%,%) %\n",
         &[p.old, p.new, e.start, e.end, e.value],
     );
-}
-
-pub fn say_moved(streams: &Streams, p: Pair, e: Entry) {
-    send(streams, b"moved: ");
-    say_slots(streams, p, e);
 }
 
 pub fn say_unmoved(streams: &Streams) {
@@ -33,8 +27,11 @@ pub fn say_unmoved(streams: &Streams) {
 
 // An entry that a plan would move.
 pub fn say_planned(streams: &Streams, p: Pair, e: Entry) {
-    send(streams, b"would move: ");
-    say_slots(streams, p, e);
+    say(
+        streams,
+        b"would move: slot % -> %  [%,%) %\n",
+        &[p.old, p.new, e.start, e.end, e.value],
+    );
 }
 
 pub fn say_idle_plan(streams: &Streams) {
@@ -42,13 +39,19 @@ pub fn say_idle_plan(streams: &Streams) {
 }
 
 pub fn say_gone(streams: &Streams, slot: u64, e: Entry) {
-    send(streams, b"gone: ");
-    say_entry(streams, slot, e);
+    say(
+        streams,
+        b"gone: slot %  [%,%) %\n",
+        &[slot, e.start, e.end, e.value],
+    );
 }
 
 pub fn say_removed(streams: &Streams, slot: u64, e: Entry) {
-    send(streams, b"removed: ");
-    say_entry(streams, slot, e);
+    say(
+        streams,
+        b"removed: slot %  [%,%) %\n",
+        &[slot, e.start, e.end, e.value],
+    );
 }
 
 pub fn say_map(streams: &Streams, count: u64, root: u64, version: u32) {

@@ -6,14 +6,16 @@ use slotshell_say::say;
 use words::interval::Interval;
 
 fn say_style(streams: &Streams) {
-    send(
-        streams,
-        b"<style>text{font:12px monospace;text-anchor:middle;fill:#fff}\
-          .t{font-weight:bold}.s{font-size:10px}.k{fill:#000;text-anchor:start}\
-          .r{fill:#c62828}.b{fill:#212121}.e{stroke:#757575;stroke-width:2}\
-          .m{fill:none;stroke:#ffb300;stroke-width:5}\
-          .l{fill:none;stroke:#1e88e5;stroke-width:3;stroke-dasharray:7 4}</style>\n",
-    );
+    let pieces: [&[u8]; 5] = [
+        b"<style>text{font:12px monospace;text-anchor:middle;fill:#fff}",
+        b".t{font-weight:bold}.s{font-size:10px}.k{fill:#000;text-anchor:start}",
+        b".r{fill:#c62828}.b{fill:#212121}.e{stroke:#757575;stroke-width:2}",
+        b".m{fill:none;stroke:#ffb300;stroke-width:5}",
+        b".l{fill:none;stroke:#1e88e5;stroke-width:3;stroke-dasharray:7 4}</style>\n",
+    ];
+    for piece in pieces {
+        send(streams, piece);
+    }
 }
 
 // The beginning of a picture, with a line about the map.

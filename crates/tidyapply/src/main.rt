@@ -191,7 +191,7 @@ fn load(
 {
     match Map::new().read_image_in(nodes, true, colours, &image[..n]) {
         Ok(map) => follow(rt, streams, map, image, nodes, colours, plan, lines, input),
-        Err(why) => refuse_image(streams, b"tidyapply", why),
+        Err(why) => refuse_image(streams, b"tidyapply", why.number()),
     }
 }
 
@@ -210,7 +210,7 @@ fn run(
         Ok(n) if n < image.len() => {
             load(rt, streams, n, image, nodes, colours, plan, lines, input);
         }
-        Ok(_) => refuse_image(streams, b"tidyapply", Refusal::NoRoom),
+        Ok(_) => refuse_image(streams, b"tidyapply", Refusal::NoRoom.number()),
         Err(_) => output::complain(streams, b"tidyapply", b"read"),
     }
 }

@@ -40,7 +40,7 @@ fn load(
 ) {
     match propose(image, nodes, colours, plan) {
         Ok(map) => print(streams, map.count, plan, out),
-        Err(why) => refuse_image(streams, b"tidyplan", why),
+        Err(why) => refuse_image(streams, b"tidyplan", why.number()),
     }
 }
 
@@ -55,7 +55,7 @@ fn run(
 ) {
     match read_all(streams, input) {
         Ok(n) if n < input.len() => load(streams, &input[..n], nodes, colours, plan, out),
-        Ok(_) => refuse_image(streams, b"tidyplan", Refusal::NoRoom),
+        Ok(_) => refuse_image(streams, b"tidyplan", Refusal::NoRoom.number()),
         Err(_) => output::complain(streams, b"tidyplan", b"read"),
     }
 }
