@@ -4,15 +4,16 @@ function').
 
 A public function is a `pub fn`, a `pub extern "C" fn` or a function of a public trait: another
 crate, or a host, can call it. What a trait promises holds of each type that implements it, by the
-type's own ghost members. It is an inner function, and what its promise determines is said of the
-functions that go through it. This reads the sources and the proofs. Each public function must have an `ensures` that says what it
-returns, and what it leaves at its exit in all that is lent to it by `&mut`. Either these are
-equations, of the answer and of each lent thing by itself, or a theorem NAME-determined says that
-the promise leaves one choice. An equation of the eight-word form of node words, `as_eight narrow`,
-is one of the words: `eight_injective` of words/proofs/Layouts. A public call has no `requires`, and
-always has that theorem. An inner function may have premises. A function that returns nothing and is
-lent nothing by `&mut` has nothing to promise. `From` is std's trait: a type that implements it owes
-the ghost member that says what `from` gives.
+type's own ghost members. A trait's function is an inner one, and what its promise determines is
+said of the functions that go through it. This reads the sources and the proofs. Each public
+function must have an `ensures` that says what it returns, and what it leaves at its exit in all
+that is lent to it by `&mut`. Either these are equations, of the answer and of each lent thing by
+itself, or a theorem NAME-determined says that the promise leaves one choice. An equation of the
+eight-word form of node words, `as_eight narrow`, is one of the words: `eight_injective` of
+words/proofs/Layouts. A public call has no `requires`, and always has that theorem. An inner
+function may have premises. A function that returns nothing and is lent nothing by `&mut` has
+nothing to promise. `From` is std's trait: a type that implements it owes the ghost member that says
+what `from` gives.
 
 The static libraries of FACES only give the exports of a library their C names. Each of their
 functions states the clauses of the library's function of its name, word for word, so that
